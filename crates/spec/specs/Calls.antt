@@ -1,0 +1,121 @@
+-- The public calls: what each answers, and what stands in its lent outputs afterwards.
+-- Assumes nothing.
+use Prim.Native.Nat.{ℕ, zero, suc, _*_}
+use mathlib.Core.Bool.{Bool, true, false, _&&_}
+use mathlib.Core.List.{List, [], _∷_, map}
+use lib.ListN.{length}
+use lib.Dec.{leb, ltb}
+use lib.Ieee.{Float}
+use Rattle.spec.specs.declared.Refusal.the-variants.{Blank, ShortSheet, Unsettled}
+use Rattle.spec.specs.declared.Answer.{Answer}
+use Rattle.spec.specs.declared.Answer.the-variants.{Done, Refused}
+use Rattle.spec.specs.Lists.{join}
+use Rattle.spec.specs.Types.{ElementType, given, elementTypes}
+use Rattle.spec.specs.Judged.{Judged, refused, passed, _>>=_, _>>_, judge, wanted}
+use Rattle.spec.specs.Copying.{written}
+use Rattle.spec.specs.Solid.{Concrete, preflight}
+use Rattle.spec.specs.Classes.{typesOf}
+use Rattle.spec.specs.Search.{Member, rotationsOf, search}
+
+-- ---- types
+
+-- the type of each proper element, and of each type its rank, number, example and count
+pub record Given : Type 0 where
+  pub elements : List ℕ
+  pub types : List ElementType
+
+unfoldable pub typeCells : ElementType → List ℕ
+typeCells k = k .rank ∷ k .number ∷ k .example ∷ k .count ∷ []
+
+-- "the types call goes on with 15, 13": n and m are the cells lent for elements and for types, four each
+unfoldable pub typesGiven : List ℕ → ℕ → ℕ → ℕ → ℕ → Judged Given
+typesGiven b words floats n m = do
+  c ← preflight b words floats
+  z ← wanted Unsettled (typesOf c)
+  g ← passed (record { elements = given (c .abs) z; types = elementTypes (c .abs) z })
+  judge ShortSheet (leb (length (g .elements)) n && leb (4 * length (g .types)) m)
+  passed g
+
+-- the cells of the types call's outputs: one a proper element, and four a type
+pub record TypesOut : Type 0 where
+  pub elements : List ℕ
+  pub types : List ℕ
+
+unfoldable pub typesWritten : Judged Given → TypesOut → Answer × TypesOut
+typesWritten (refused why) old = (Refused why 0, old)
+typesWritten (passed g) old =
+    (Done (length (g .types)), record { elements = written (g .elements) (old .elements); types = written (join (map typeCells (g .types))) (old .types) })
+
+unfoldable pub typesCall : List ℕ → ℕ → ℕ → TypesOut → Answer × TypesOut
+typesCall b words floats old = typesWritten (typesGiven b words floats (length (old .elements)) (length (old .types))) old
+
+-- ---- search and rotations
+
+-- the cells lent to a search: floats for matrices, row entries, marks
+pub record Room : Type 0 where
+  pub floats : ℕ
+  pub entries : ℕ
+  pub marks : ℕ
+
+-- n members in D dimensions, of V vertices, fit
+unfoldable pub fits : Room → ℕ → ℕ → ℕ → Bool
+fits m D vs n = leb (n * (D * D)) (m .floats) && leb (n * vs) (m .entries) && leb n (m .marks)
+
+-- "what fitted in search (whole members only)", n having been taken before
+unfoldable pub fitting : Room → ℕ → ℕ → ℕ → List Member → List Member
+fitting m D vs n [] = []
+fitting m D vs n (x ∷ xs) = elim (fits m D vs (suc n)) [ true ↦ x ∷ fitting m D vs (suc n) xs | false ↦ [] ]
+
+-- a search's answer, and the members that it writes out
+pub record Found : Type 0 where
+  pub answer : Answer
+  pub members : List Member
+
+-- "then 12 or 13"
+unfoldable pub keptOf : List Member → List Member → Found
+keptOf [] kept = record { answer = Refused Blank 0; members = [] }
+keptOf (x ∷ xs) kept = elim (ltb (length kept) (length (x ∷ xs))) [
+  | true ↦ record { answer = Refused ShortSheet (length kept); members = kept }
+  | false ↦ record { answer = Done (length kept); members = kept }
+]
+
+unfoldable pub found : Judged (Concrete × List Member) → Room → Found
+found (refused why) m = record { answer = Refused why 0; members = [] }
+found (passed x) m = keptOf (x .1) (fitting m (x .0 .dimension) (length (x .0 .points)) 0 (x .1))
+
+-- all members of the sheet's solid
+unfoldable pub membersIn : List ℕ → ℕ → ℕ → Judged (Concrete × List Member)
+membersIn b words floats = do
+  c ← preflight b words floats
+  ms ← search c
+  passed (c, ms)
+
+unfoldable pub rotationsIn : List ℕ → ℕ → ℕ → Judged (Concrete × List Member)
+rotationsIn b words floats = do
+  x ← membersIn b words floats
+  passed (x .0, rotationsOf (x .1))
+
+-- the outputs of a search: matrices row by row, rows, marks, each member after the one before
+pub record SearchOut : Type 0 where
+  pub matrices : List Float
+  pub rows : List ℕ
+  pub marks : List ℕ
+
+unfoldable pub roomOf : SearchOut → Room
+roomOf o = record { floats = length (o .matrices); entries = length (o .rows); marks = length (o .marks) }
+
+unfoldable pub searchWritten : Found → SearchOut → Answer × SearchOut
+searchWritten f old = (
+  f .answer,
+  record {
+    matrices = written (join (map (λ x. join (x .matrix)) (f .members))) (old .matrices);
+    rows = written (join (map (λ x. x .row) (f .members))) (old .rows);
+    marks = written (map (λ x. x .mark) (f .members)) (old .marks);
+  },
+)
+
+unfoldable pub searchCall : List ℕ → ℕ → ℕ → SearchOut → Answer × SearchOut
+searchCall b words floats old = searchWritten (found (membersIn b words floats) (roomOf old)) old
+
+unfoldable pub rotationsCall : List ℕ → ℕ → ℕ → SearchOut → Answer × SearchOut
+rotationsCall b words floats old = searchWritten (found (rotationsIn b words floats) (roomOf old)) old

@@ -1,0 +1,41 @@
+-- Section 3's distance classes for the elements of a solid, and section 4's types by them.
+-- Assumes nothing.
+use Prim.Native.Nat.{ℕ, zero, suc}
+use mathlib.Core.Option.{Option}
+use mathlib.Core.List.{List, [], _∷_, map}
+use lib.ListN.{getD, take, drop}
+use lib.Ieee.{Float}
+use Rattle.spec.specs.Lists.{range, join}
+use Rattle.spec.specs.Types.{size, properRanks, Classes, State, result}
+use Rattle.spec.specs.Mark.{vertices}
+use Rattle.spec.specs.Matrix.{Vector}
+use Rattle.spec.specs.Hull.{hullOf, distance, classNumbers}
+use Rattle.spec.specs.Solid.{Concrete}
+
+-- the coordinates of vertex v
+unfoldable pub pointOf : Concrete → ℕ → Vector
+pointOf c v = getD (c .points) v []
+
+-- how far the hull of an element's vertices, "used in rising order", is from the origin
+unfoldable pub distanceOf : Concrete → ℕ → ℕ → Float
+distanceOf c r e = distance (c .dimension) (hullOf (c .dimension) (map (pointOf c) (vertices (c .abs) r e)))
+
+-- "Elements are taken by rising rank, then index, once"
+unfoldable pub distances : Concrete → List Float
+distances c = join (map (λ r. map (distanceOf c r) (range 0 (size (c .abs) r))) (properRanks (c .abs)))
+
+-- l in parts of the given sizes
+unfoldable pub byRank : {A : Type 0} → List ℕ → List A → List (List A)
+byRank [] l = []
+byRank (n ∷ ns) l = take n l ∷ byRank ns (drop n l)
+
+-- the class of each element, a number for each listed value: by rank, none at rank 0
+unfoldable pub classTable : Concrete → List (List ℕ)
+classTable c = [] ∷ byRank (map (λ r. size (c .abs) r) (properRanks (c .abs))) (classNumbers (distances c))
+
+abbrev pub byTable : List (List ℕ) → Classes
+byTable t r e = getD (getD t r []) e 0
+
+-- the types of a solid's elements; none: unsettled
+unfoldable pub typesOf : Concrete → Option State
+typesOf c = let t = classTable c in result (c .abs) (byTable t)

@@ -1,0 +1,60 @@
+-- What the program `kit` prints for its standard input.
+-- Assumes nothing.
+use Prim.Native.Nat.{ℕ, zero, suc, _+_, _/_, _%_}
+use Prim.Native.String.{String}
+use mathlib.Core.Bool.{Bool, true, false}
+use mathlib.Core.List.{List, [], _∷_, _++_, map}
+use lib.ListN.{length}
+use lib.Dec.{ltb}
+use Rattle.spec.specs.declared.Refusal.{Refusal}
+use Rattle.spec.specs.declared.Refusal.the-variants.{CutSheet}
+use Rattle.spec.specs.Refusal.{number}
+use Rattle.spec.specs.declared.Answer.the-variants.{Done, Refused}
+use Rattle.spec.specs.Lists.{sum, join}
+use Rattle.spec.specs.Types.{ElementType}
+use Rattle.spec.specs.Judged.{Judged, refused, passed}
+use Rattle.spec.specs.Search.{Member, rotationsOf}
+use Rattle.spec.specs.Calls.{Given, typesGiven, Room, Found, found, membersIn}
+use Rattle.spec.specs.Ascii.{ascii}
+
+-- the decimal digits of n, of which there are at most k
+unfoldable pub digits : ℕ → ℕ → List ℕ
+digits zero n = []
+digits (suc k) n = elim (ltb n 10) [ true ↦ (48 + n) ∷ [] | false ↦ digits k (n / 10) ++ ((48 + n % 10) ∷ []) ]
+
+unfoldable pub decimal : ℕ → List ℕ
+decimal n = digits (suc n) n
+
+unfoldable pub refusedLine : Refusal → List ℕ
+refusedLine why = ascii "refused " ++ decimal (number why) ++ ascii "\n"
+
+-- "rank, type, example, count"
+unfoldable pub typeLine : ElementType → List ℕ
+typeLine k = decimal (k .rank) ++ ascii " " ++ decimal (k .number) ++ ascii " " ++ decimal (k .example) ++ ascii " " ++ decimal (k .count) ++ ascii "\n"
+
+-- "The first line counts types"
+unfoldable pub typesLines : List ElementType → List ℕ
+typesLines ks = ascii "types " ++ decimal (length ks) ++ ascii "\n" ++ join (map typeLine ks)
+
+-- "the members, those marked 1, and those of determinant above 0"
+unfoldable pub membersLine : List Member → List ℕ
+membersLine ms =
+    ascii "members " ++ decimal (length ms)
+    ++ ascii " confirmed " ++ decimal (sum (map (λ x. x .mark) ms))
+    ++ ascii " rotations " ++ decimal (length (rotationsOf ms)) ++ ascii "\n"
+
+unfoldable pub lastLine : Found → List ℕ
+lastLine f = elim (f .answer) [ Done n ↦ membersLine (f .members) | Refused why k ↦ refusedLine why ]
+
+-- "1,024 matrix floats, 8,192 row entries, 512 marks"
+abbrev pub lent : Room
+lent = record { floats = 1024; entries = 8192; marks = 512 }
+
+-- "A refusal prints `refused` and its number, after the types if they stood"
+unfoldable pub afterTypes : Judged Given → List ℕ → List ℕ
+afterTypes (refused why) b = refusedLine why
+afterTypes (passed g) b = typesLines (g .types) ++ lastLine (found (membersIn b 4096 2048) lent)
+
+-- "space for 256 elements' types and 256 types .. a workspace of 4,096 words and 2,048 floats; input past 8,192 bytes is refused 1"
+unfoldable pub kitText : List ℕ → List ℕ
+kitText b = elim (ltb 8192 (length b)) [ true ↦ refusedLine CutSheet | false ↦ afterTypes (typesGiven b 4096 2048 256 1024) b ]

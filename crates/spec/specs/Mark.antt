@@ -1,0 +1,54 @@
+-- Section 6, "The mark": the rule by which a row, the vertex that each vertex goes to, is confirmed.
+-- Assumes nothing.
+use Prim.Native.Nat.{ℕ, zero, suc, pred}
+use mathlib.Core.Bool.{Bool, true, false, not, _&&_}
+use mathlib.Core.List.{List, [], _∷_, map}
+use lib.ListN.{length, getD}
+use lib.Dec.{eqb, ltb}
+use Rattle.spec.specs.Lists.{holds, place, eqList, range, keep, join}
+unfoldable pub use Rattle.spec.specs.Lists.{every}
+use Rattle.spec.specs.Types.{Solid, size, subs, properRanks, isProper, Classes}
+
+unfoldable pub noRepeats : {A : Type 0} → (A → A → Bool) → List A → Bool
+noRepeats same [] = true
+noRepeats same (x ∷ l) = not (holds same x l) && noRepeats same l
+
+-- the numbers below n that l holds, rising
+unfoldable pub inOrder : ℕ → List ℕ → List ℕ
+inOrder n l = keep (λ v. holds eqb v l) (range 0 n)
+
+-- the vertices met by going down e's subs rank by rank; in rising order
+unfoldable pub reach : Solid → ℕ → ℕ → List ℕ
+reach s zero e = []
+reach s (suc zero) e = e ∷ []
+reach s (suc (suc r)) e = join (map (λ f. reach s (suc r) f) (subs s (suc (suc r)) e))
+
+unfoldable pub vertices : Solid → ℕ → ℕ → List ℕ
+vertices s r e = inOrder (size s 1) (reach s r e)
+
+-- the vertex sets of a rank's elements
+unfoldable pub vertexSets : Solid → ℕ → List (List ℕ)
+vertexSets s r = map (vertices s r) (range 0 (size s r))
+
+-- the image of e's vertex set
+unfoldable pub image : Solid → List ℕ → ℕ → ℕ → List ℕ
+image s row r e = inOrder (size s 1) (map (λ v. getD row v 0) (vertices s r e))
+
+-- where e goes: to the element whose vertex set is the image of its own (the rank's size, if there is none); the least and the top to themselves
+unfoldable pub goes : Solid → List ℕ → ℕ → ℕ → ℕ
+goes s row r e = elim (isProper s r) [ true ↦ place eqList (image s row r e) (vertexSets s r) | false ↦ e ]
+
+-- e goes to an element of its rank and class, and its subs go exactly onto that element's subs
+unfoldable pub fits : Solid → Classes → List ℕ → ℕ → ℕ → Bool
+fits s cls row r e =
+    ltb (goes s row r e) (size s r)
+    && eqb (cls r (goes s row r e)) (cls r e)
+    && eqList (subs s r (goes s row r e)) (inOrder (size s (pred r)) (map (goes s row (pred r)) (subs s r e)))
+
+unfoldable pub marked : Solid → Classes → List ℕ → Bool
+marked s cls row =
+    every (λ r. noRepeats eqList (vertexSets s r)) (properRanks s)
+    && eqb (length row) (size s 1)
+    && every (λ v. ltb v (size s 1)) row
+    && noRepeats eqb row
+    && every (λ r. every (fits s cls row r) (range 0 (size s r))) (properRanks s)

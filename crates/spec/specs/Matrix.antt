@@ -1,0 +1,114 @@
+-- Section 1: matrices, "held as rows of rows"; the inverse and the determinant, by Gauss-Jordan.
+-- Assumes nothing.
+use Prim.Native.Nat.{ℕ, zero, suc, _+_, _-_, _%_}
+use mathlib.Core.Bool.{Bool, true, false, not}
+use mathlib.Core.Option.{Option, none, some}
+use mathlib.Core.List.{List, [], _∷_, _++_, map}
+use lib.ListN.{length, getD, set, drop}
+use lib.Dec.{eqb}
+use lib.Ieee.{Float, neg, lt, eq}
+use Rattle.spec.specs.Lists.{range}
+use Rattle.spec.specs.Float.{zeroF, oneF, minus, times, over, absF, zip, dot}
+
+abbrev pub Vector : Type 0
+Vector = List Float
+
+abbrev pub Matrix : Type 0
+Matrix = List (List Float)
+
+abbrev pub row : Matrix → ℕ → Vector
+row a r = getD a r []
+
+abbrev pub entry : Matrix → ℕ → ℕ → Float
+entry a r c = getD (row a r) c zeroF
+
+-- the columns of a square matrix; and the square matrix with the given columns
+unfoldable pub columns : Matrix → Matrix
+columns a = map (λ c. map (λ r. getD r c zeroF) a) (range 0 (length a))
+
+unfoldable pub mulVec : Matrix → Vector → Vector
+mulVec a v = map (λ r. dot r v) a
+
+-- "A matrix product uses such dots"
+unfoldable pub mulMat : Matrix → Matrix → Matrix
+mulMat a b = let cs = columns b in map (λ r. map (dot r) cs) a
+
+-- ---- Gauss-Jordan
+
+-- row i of the identity
+unfoldable pub unit : ℕ → ℕ → Vector
+unit d i = map (λ j. elim (eqb i j) [ true ↦ oneF | false ↦ zeroF ]) (range 0 d)
+
+unfoldable pub identity : ℕ → Matrix
+identity d = map (unit d) (range 0 d)
+
+-- the rows as they stand, the pivots so far in order, and the number of swaps
+pub record Work : Type 0 where
+  pub rows : Matrix
+  pub pivots : List Float
+  pub swaps : ℕ
+
+-- "scanning down from row c, a later row is taken only if strictly larger": from row p, through the rows rs
+unfoldable pub scan : Matrix → ℕ → ℕ → List ℕ → ℕ
+scan a c p [] = p
+scan a c p (r ∷ rs) = elim (lt (absF (entry a p c)) (absF (entry a r c))) [ true ↦ scan a c r rs | false ↦ scan a c p rs ]
+
+unfoldable pub pivotRow : Matrix → ℕ → ℕ
+pivotRow a c = scan a c c (range (suc c) (length a - suc c))
+
+unfoldable pub swapRows : Matrix → ℕ → ℕ → Matrix
+swapRows a p c = set (set a p (row a c)) c (row a p)
+
+-- "divide the whole pivot row by the pivot"
+unfoldable pub divided : Vector → Float → Vector
+divided v x = map (λ y. over y x) v
+
+-- "subtract its entry in c times the pivot row, product and difference each rounded"
+unfoldable pub cleared : ℕ → Vector → Vector → Vector
+cleared c pivot v = let x = getD v c zeroF in zip (λ y z. minus y (times x z)) v pivot
+
+-- the pivot row at c, and every other row cleared by it
+unfoldable pub clear : ℕ → Vector → Matrix → Matrix
+clear c pivot a = zip (λ r v. elim (eqb r c) [ true ↦ pivot | false ↦ cleared c pivot v ]) (range 0 (length a)) a
+
+-- column c; none where the pivot is zero
+unfoldable pub column : ℕ → Work → Option Work
+column c w =
+    let p = pivotRow (w .rows) c in
+    let x = entry (w .rows) p c in
+    let a = swapRows (w .rows) p c in
+    elim (eq x zeroF) [
+      | true ↦ none
+      | false ↦ some (record { rows = clear c (divided (row a c) x) a; pivots = w .pivots ++ x ∷ []; swaps = elim (eqb p c) [ true ↦ w .swaps | false ↦ suc (w .swaps) ] })
+    ]
+
+-- column after column
+unfoldable pub eliminate : List ℕ → Work → Option Work
+eliminate [] w = some w
+eliminate (c ∷ cs) w = elim (column c w) [ none ↦ none | some v ↦ eliminate cs v ]
+
+-- "Gauss-Jordan beside an identity"
+unfoldable pub gaussJordan : Matrix → Option Work
+gaussJordan a =
+    let d = length a in
+    eliminate (range 0 d) (record { rows = zip (λ r e. r ++ e) a (identity d); pivots = []; swaps = 0 })
+
+-- the half that was the identity; none: singular
+unfoldable pub inverse : Matrix → Option Matrix
+inverse a = elim (gaussJordan a) [ none ↦ none | some w ↦ some (map (drop (length a)) (w .rows)) ]
+
+-- x times the others, in order
+unfoldable pub timesOn : Float → List Float → Float
+timesOn x [] = x
+timesOn x (y ∷ ys) = timesOn (times x y) ys
+
+unfoldable pub product : List Float → Float
+product [] = oneF
+product (x ∷ xs) = timesOn x xs
+
+-- "the product of those pivots in order, negated if swaps were odd; singular gives 0"
+unfoldable pub determinant : Matrix → Float
+determinant a = elim (gaussJordan a) [
+  | none ↦ zeroF
+  | some w ↦ elim (eqb (w .swaps % 2) 1) [ true ↦ neg (product (w .pivots)) | false ↦ product (w .pivots) ]
+]

@@ -1,0 +1,77 @@
+-- What holds of every solid that passes preflight; and demand 3 of every such solid, by the distance classes of its sheet.
+-- Assumes nothing.
+use mathlib.Core.Path.{_≡_}
+use mathlib.Core.Logic.{_≢_}
+use Prim.Native.Nat.{ℕ, suc, _-_, _≤_, _<_}
+use mathlib.Core.Bool.{true}
+use mathlib.Core.Option.{none, some}
+use mathlib.Core.List.{List}
+use lib.ListN.{length}
+use lib.Ieee.{Float}
+use Rattle.spec.specs.Limits.{maxRank, maxDimension, maxCount}
+use Rattle.spec.specs.Lists.{In}
+use Rattle.spec.specs.Float.{inRange}
+use Rattle.spec.specs.Types.{Solid, top, size, subs, State, typeOf, start, Step, play}
+use Rattle.spec.specs.Demand.{Sound, AllProper, Agree}
+use Rattle.spec.specs.Judged.{passed}
+use Rattle.spec.specs.Sheet.{Parsed, readSheet}
+use Rattle.spec.specs.Solid.{Concrete, solidOf, bound, diamond, preflight}
+use Rattle.spec.specs.Classes.{classTable, byTable, typesOf}
+use Rattle.spec.specs.Mark.{goes}
+use Rattle.spec.specs.Search.{exchangedIn, Member}
+use Rattle.spec.specs.Calls.{Room, Found, found, membersIn, rotationsIn}
+
+-- the sheet was read; the solid is the sheet's, as section 2 allows it; and 5 and 6 are not met
+pub record Passed (b : List ℕ) (c : Concrete) : Type 0 where
+  pub parsed : Parsed
+  pub read : readSheet b ≡ passed parsed
+  pub solid : c .abs ≡ solidOf parsed
+  pub rank : top (c .abs) ≡ parsed .rank
+  pub dimension : c .dimension ≡ parsed .dimension
+  pub sound : Sound (c .abs)
+  -- the limits
+  pub tall : top (c .abs) ≤ maxRank
+  pub wide : c .dimension ≤ maxDimension
+  pub sizes : (r : ℕ) → r ≤ top (c .abs) → (0 < size (c .abs) r) × (size (c .abs) r ≤ maxCount)
+  -- a point for each vertex, of D coordinates on the board
+  pub points : length (c .points) ≡ size (c .abs) 1
+  pub coordinates : (x : List Float) → In x (c .points) → (length x ≡ c .dimension) × ((y : Float) → In y x → inRange y ≡ true)
+  -- every element but the least has a sub
+  pub filled : (r e : ℕ) → e < size (c .abs) (suc r) → 0 < length (subs (c .abs) (suc r) e)
+  pub joined : bound (c .abs) ≡ true
+  pub diamonds : diamond (c .abs) ≡ true
+  -- 15 is never met
+  pub settled : typesOf c ≢ none
+
+abbrev pub EveryPassed : Type 0
+EveryPassed = (b : List ℕ) (words floats : ℕ) (c : Concrete) → preflight b words floats ≡ passed c → Passed b c
+
+-- Demand 3 of one sheet and one list of steps: S is the state after the steps, and z "what the types call gives out, the state when the sweeps end"
+pub record Carried (b : List ℕ) (words floats : ℕ) (c : Concrete) (S z : State) : Type 0 where
+  -- (a), (b), and (c) of any row that the mark's rule confirms
+  pub agree : Agree (c .abs) (byTable (classTable c)) S z
+  -- (c) of the "Listed members", "those that a search call writes out; at 13, those that fitted"
+  pub members : (m : Room) (x : Member) → In x (found (membersIn b words floats) m .members) → x .mark ≡ 1 → (r e : ℕ) → e < size (c .abs) r
+      → (goes (c .abs) (x .row) r e < size (c .abs) r) × (typeOf S r (goes (c .abs) (x .row) r e) ≡ typeOf S r e) × (typeOf z r (goes (c .abs) (x .row) r e) ≡ typeOf z r e)
+  pub rotations : (m : Room) (x : Member) → In x (found (rotationsIn b words floats) m .members) → x .mark ≡ 1 → (r e : ℕ) → e < size (c .abs) r
+      → (goes (c .abs) (x .row) r e < size (c .abs) r) × (typeOf S r (goes (c .abs) (x .row) r e) ≡ typeOf S r e) × (typeOf z r (goes (c .abs) (x .row) r e) ≡ typeOf z r e)
+
+abbrev pub Demand3Passed : Type 0
+Demand3Passed =
+    (b : List ℕ) (words floats : ℕ) (c : Concrete) → preflight b words floats ≡ passed c
+    → (z : State) → typesOf c ≡ some z
+    → (xs : List Step) → AllProper (c .abs) xs
+    → Carried b words floats c (play (c .abs) (start (c .abs) (byTable (classTable c))) xs) z
+
+-- the exchange of facets keeps what section 2 and the diamond ask, and every rank's size
+pub record Kept (s t : Solid) : Type 0 where
+  pub sound : Sound t
+  pub diamonds : diamond t ≡ true
+  pub rank : top t ≡ top s
+  pub sizes : (r : ℕ) → size t r ≡ size s r
+  pub filled : (r e : ℕ) → e < size t (suc r) → 0 < length (subs t (suc r) e)
+
+abbrev pub EveryExchange : Type 0
+EveryExchange =
+    (s : Solid) → Sound s → diamond s ≡ true → ((r e : ℕ) → e < size s (suc r) → 0 < length (subs s (suc r) e))
+    → 2 ≤ top s → (f : ℕ) → f < size s (top s - 1) → Kept s (exchangedIn s f)

@@ -1,0 +1,149 @@
+-- Section 6: the search, its members, and their marks; and of the preflight answers 8, 9, 10, 15 and 11.
+-- Assumes nothing.
+use Prim.Native.Nat.{ℕ, zero, suc, _-_}
+use mathlib.Core.Bool.{Bool, true, false, not, _&&_}
+use mathlib.Core.Option.{Option, none, some}
+use mathlib.Core.List.{List, [], _∷_, map}
+use lib.ListN.{length, getD, set}
+use lib.Dec.{leb, ltb, eqb}
+use lib.Ieee.{Float, lt}
+use Rattle.spec.specs.declared.Refusal.the-variants.{NotFull, DoubleCorner, Centred, Flat, Unsettled}
+use Rattle.spec.specs.Lists.{holds, eqList, range, join}
+use Rattle.spec.specs.Types.{Solid, top, size, properRanks, State, typeOf, elementTypesAt}
+use Rattle.spec.specs.Mark.{every, noRepeats, vertices, vertexSets, marked}
+use Rattle.spec.specs.Float.{eps, zeroF, finite}
+use Rattle.spec.specs.Matrix.{Matrix, columns, mulVec, mulMat, inverse, determinant}
+use Rattle.spec.specs.Copying.{near, find}
+use Rattle.spec.specs.Judged.{Judged, _>>=_, _>>_, judge, passed, wanted}
+use Rattle.spec.specs.Solid.{Concrete}
+use Rattle.spec.specs.Flags.{Flag, elementAt, firstFlag, flags, change}
+use Rattle.spec.specs.Classes.{pointOf, distanceOf, classTable, byTable, typesOf}
+
+-- ---- the exchange of facets
+
+-- the first of the facets fs "whose hull is further than EPS from the origin"
+unfoldable pub firstFar : Concrete → List ℕ → Option ℕ
+firstFar c [] = none
+firstFar c (f ∷ fs) = elim (lt eps (distanceOf c (top (c .abs) - 1) f)) [ true ↦ some f | false ↦ firstFar c fs ]
+
+unfoldable pub swapWithFirst : List (List ℕ) → ℕ → List (List ℕ)
+swapWithFirst l f = set (set l f (getD l 0 [])) 0 (getD l f [])
+
+-- "changes places with facet 0; ridges' sups follow": they are derived. "For R = 2 coordinates don't move": the facets' lists are alike, and nothing does
+unfoldable pub exchangedIn : Solid → ℕ → Solid
+exchangedIn s f = set s (top s - 1) (swapWithFirst (getD s (top s - 1) []) f)
+
+unfoldable pub exchanged : Concrete → ℕ → Concrete
+exchanged c f = record { dimension = c .dimension; points = c .points; abs = exchangedIn (c .abs) f }
+
+-- ---- candidates
+
+unfoldable pub changes : Solid → List ℕ → Flag → Flag
+changes s [] F = F
+changes s (r ∷ rs) F = changes s rs (change s r F)
+
+-- "its vertex; then .. change ranks 1 to R−1 in turn and take the vertex": n vertices
+unfoldable pub walk : Solid → ℕ → Flag → List ℕ
+walk s zero F = []
+walk s (suc n) F = elementAt F 1 ∷ walk s n (changes s (properRanks s) F)
+
+-- "A flag's columns", D of them
+unfoldable pub flagColumns : Concrete → Flag → Matrix
+flagColumns c F = columns (map (pointOf c) (walk (c .abs) (c .dimension) F))
+
+-- the solid as read, with its distance classes; the solid searched, its types, and the inverse of its first flag's columns
+pub record Setting : Type 0 where
+  pub read : Concrete
+  pub classes : List (List ℕ)
+  pub searched : Concrete
+  pub types : State
+  pub inv : Matrix
+
+-- "columns times the inverse of the first flag's"
+unfoldable pub candidate : Setting → Flag → Matrix
+candidate w F = mulMat (flagColumns (w .searched) F) (w .inv)
+
+-- ---- the test of a flag
+
+-- "its elements have the first flag's types"
+unfoldable pub sameTypes : Setting → Flag → Bool
+sameTypes w F =
+    let G = firstFlag (w .searched .abs) in
+    every (λ r. eqb (typeOf (w .types) r (elementAt F r)) (typeOf (w .types) r (elementAt G r))) (range 0 (length (w .searched .abs)))
+
+-- the vertex that each vertex's image is "within EPS, EPS included, of .. on every axis (lowest number taken)"; V where there is none
+unfoldable pub rowOf : List (List Float) → Matrix → List ℕ
+rowOf ps m = map (λ p. find ps (mulVec m p)) ps
+
+unfoldable pub insert : ℕ → List ℕ → List ℕ
+insert x [] = x ∷ []
+insert x (y ∷ l) = elim (leb x y) [ true ↦ x ∷ y ∷ l | false ↦ y ∷ insert x l ]
+
+-- "sorted with repeats kept"
+unfoldable pub sorted : List ℕ → List ℕ
+sorted [] = []
+sorted (x ∷ l) = insert x (sorted l)
+
+-- "the images of the vertices of each type's example at ranks 2 to R−1 .. are the vertices of some element of that rank"
+unfoldable pub examplesGo : Solid → State → List ℕ → Bool
+examplesGo s z row =
+    every (λ r. every (λ k. holds eqList (sorted (map (λ v. getD row v 0) (vertices s r (k .example)))) (vertexSets s r)) (elementTypesAt z r)) (range 2 (top s - 2))
+
+pub record Member : Type 0 where
+  pub matrix : Matrix
+  pub row : List ℕ
+  pub mark : ℕ
+
+-- "The mark is confirmed, 1, .. Otherwise 0", in the solid as read
+unfoldable pub markOf : Setting → List ℕ → ℕ
+markOf w row = elim (marked (w .read .abs) (byTable (w .classes)) row) [ true ↦ 1 | false ↦ 0 ]
+
+-- the member of a candidate, where it passes
+unfoldable pub tested : Setting → Matrix → Option Member
+tested w m =
+    let row = rowOf (w .searched .points) m in
+    elim (every (λ v. ltb v (length (w .searched .points))) row && examplesGo (w .searched .abs) (w .types) row)
+    [ true ↦ some (record { matrix = m; row = row; mark = markOf w row }) | false ↦ none ]
+
+-- "Members come in flag order with matrix and row"
+unfoldable pub membersOf : Setting → List Flag → List Member
+membersOf w [] = []
+membersOf w (F ∷ Fs) = elim (sameTypes w F) [
+  | true ↦ elim (tested w (candidate w F)) [ some m ↦ m ∷ membersOf w Fs | none ↦ membersOf w Fs ]
+  | false ↦ membersOf w Fs
+]
+
+-- "Rotations are those of determinant above 0"
+unfoldable pub isRotation : Member → Bool
+isRotation m = lt zeroF (determinant (m .matrix))
+
+unfoldable pub rotationsOf : List Member → List Member
+rotationsOf [] = []
+rotationsOf (m ∷ ms) = elim (isRotation m) [ true ↦ m ∷ rotationsOf ms | false ↦ rotationsOf ms ]
+
+-- ---- the search
+
+-- not 8, "search with R < 2 or D ≠ R−1"
+unfoldable pub full : Concrete → Bool
+full c = leb 2 (top (c .abs)) && eqb (c .dimension) (top (c .abs) - 1)
+
+-- not 11, "a non-finite inverse"
+unfoldable pub allFinite : Matrix → Bool
+allFinite m = every (every finite) m
+
+-- "8, 9, 10, 15, 11": what stands after them
+unfoldable pub setting : Concrete → Judged Setting
+setting c = do
+  judge NotFull (full c)
+  judge DoubleCorner (noRepeats near (c .points))
+  f ← wanted Centred (firstFar c (range 0 (size (c .abs) (top (c .abs) - 1))))
+  d ← passed (exchanged c f)
+  z ← wanted Unsettled (typesOf d)
+  i ← wanted Flat (inverse (flagColumns d (firstFlag (d .abs))))
+  judge Flat (allFinite i)
+  passed (record { read = c; classes = classTable c; searched = d; types = z; inv = i })
+
+unfoldable pub search : Concrete → Judged (List Member)
+search c = do
+  w ← setting c
+  passed (membersOf w (flags (w .searched .abs)))

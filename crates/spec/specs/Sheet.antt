@@ -1,0 +1,142 @@
+-- Section 2, the sheet and its limits, and of the preflight answers 1 to 4: "Fields are judged as they come
+-- (wholeness, then 2, 3 or 4; a list's length counts as entries when it is read), then 1 for the end".
+-- Assumes nothing.
+use Prim.Native.Nat.{ℕ, zero, suc, _+_, _-_, _*_}
+use mathlib.Core.Bool.{Bool, true, false, _&&_}
+use mathlib.Core.List.{List, [], _∷_}
+use lib.ListN.{length, getD}
+use lib.Dec.{leb, ltb, eqb}
+use lib.Ieee.{Float, binary64, ofBits}
+use Rattle.spec.specs.declared.Refusal.{Refusal}
+use Rattle.spec.specs.declared.Refusal.the-variants.{CutSheet, Format, OffTheBoard, BadList}
+use Rattle.spec.specs.Limits.{maxRank, maxDimension, maxCount, maxEntries}
+use Rattle.spec.specs.Float.{inRange}
+use Rattle.spec.specs.Bits.{field}
+use Rattle.spec.specs.Judged.{Judged, refused, passed}
+
+-- what a sheet says: R, D, the counts of ranks 1 to R - 1, each vertex's coordinates, and for ranks 2 to R - 1 each element's list
+pub record Parsed : Type 0 where
+  pub rank : ℕ
+  pub dimension : ℕ
+  pub counts : List ℕ
+  pub points : List (List Float)
+  pub lists : List (List (List ℕ))
+
+-- ---- reading: at a bit of the sheet, a refusal, or a value and the bit at which the next field starts
+
+abbrev pub Reader : Type 0 → Type 0
+Reader A = ℕ → Judged (A × ℕ)
+
+infixl 10 _>>=_ _>>_
+-- one reading, then another that may go by its value
+unfoldable pub _>>=_ : {A B : Type 0} → Reader A → (A → Reader B) → Reader B
+_>>=_ m k i = elim (m i) [ refused why ↦ refused why | passed x ↦ k (x .0) (x .1) ]
+
+unfoldable pub _>>_ : {A B : Type 0} → Reader A → Reader B → Reader B
+_>>_ m k i = elim (m i) [ refused why ↦ refused why | passed x ↦ k (x .1) ]
+
+unfoldable pub done : {A : Type 0} → A → Reader A
+done a i = passed (a, i)
+
+-- refused, unless the test passes
+unfoldable pub judge : Refusal → Bool → Reader (Unit {0})
+judge why ok i = elim ok [ true ↦ passed (tt, i) | false ↦ refused why ]
+
+-- the same reading n times
+unfoldable pub times : {A : Type 0} → ℕ → Reader A → Reader (List A)
+times zero m = done []
+times (suc n) m = do
+  a ← m
+  l ← times n m
+  done (a ∷ l)
+
+-- ---- the fields, each with its limit
+
+-- V: "rank 1's count, but 1 where R = 1 and 0 where R = 0", where there are no counts
+unfoldable pub vertexCount : ℕ → List ℕ → ℕ
+vertexCount R counts = getD counts 0 R
+
+module _ (b : List ℕ) where
+  -- the next w bits; "a field isn't whole": 1
+  unfoldable pub bits : ℕ → Reader ℕ
+  bits w i = elim (leb (i + w) (8 * length b)) [ true ↦ passed (field b i w, i + w) | false ↦ refused CutSheet ]
+
+  -- "R, 3 bits"; "R 0 to 5"
+  unfoldable pub rank : Reader ℕ
+  rank = do
+    n ← bits 3
+    judge Format (leb n maxRank)
+    done n
+
+  -- "dimension D, 3"; "D 0 to 4"
+  unfoldable pub dimension : Reader ℕ
+  dimension = do
+    n ← bits 3
+    judge Format (leb n maxDimension)
+    done n
+
+  -- "for each proper rank its count, 12"; "counts 1 to 2,048"
+  unfoldable pub count : Reader ℕ
+  count = do
+    n ← bits 12
+    judge Format (ltb 0 n && leb n maxCount)
+    done n
+
+  -- "64 bits each (binary64)"; "not finite or too large": 3
+  unfoldable pub coordinate : Reader Float
+  coordinate = do
+    n ← bits 64
+    judge OffTheBoard (inRange (ofBits binary64 n))
+    done (ofBits binary64 n)
+
+  -- "subs, 11 each": n of them, below c, the first at least `low` and each more than the one before; otherwise 4
+  unfoldable pub subList : ℕ → ℕ → ℕ → Reader (List ℕ)
+  subList c zero low = done []
+  subList c (suc n) low = do
+    x ← bits 11
+    judge BadList (ltb x c && leb low x)
+    l ← subList c n (suc x)
+    done (x ∷ l)
+
+  -- "each element's list: length, 12 bits; subs"; "at most 8,192 list entries a rank", of which `used` came before; c is the count of the rank below
+  unfoldable pub list : ℕ → ℕ → Reader (List ℕ)
+  list c used = do
+    n ← bits 12
+    judge Format (leb (used + n) maxEntries)
+    judge BadList (ltb 0 n)
+    subList c n 0
+
+  -- the lists of n elements
+  unfoldable pub listsAt : ℕ → ℕ → ℕ → Reader (List (List ℕ))
+  listsAt c zero used = done []
+  listsAt c (suc n) used = do
+    l ← list c used
+    ls ← listsAt c n (used + length l)
+    done (l ∷ ls)
+
+  -- "for ranks 2 to R−1", by the counts of ranks 1 to R - 1
+  unfoldable pub lists : List ℕ → Reader (List (List (List ℕ)))
+  lists [] = done []
+  lists (c ∷ []) = done []
+  lists (c ∷ d ∷ counts) = do
+    ls ← listsAt c d 0
+    more ← lists (d ∷ counts)
+    done (ls ∷ more)
+
+  -- "bytes follow, or a filling bit is 1": 1
+  unfoldable pub end : Reader (Unit {0})
+  end i = judge CutSheet (ltb (8 * length b - i) 8 && eqb (field b i (8 * length b - i)) 0) i
+
+  -- "R, 3 bits; dimension D, 3; for each proper rank its count, 12. Then each vertex's D coordinates .. Then .. each element's list"
+  unfoldable pub sheet : Reader Parsed
+  sheet = do
+    R ← rank
+    D ← dimension
+    counts ← times (R - 1) count
+    points ← times (vertexCount R counts) (times D coordinate)
+    ls ← lists counts
+    end
+    done (record { rank = R; dimension = D; counts = counts; points = points; lists = ls })
+
+unfoldable pub readSheet : List ℕ → Judged Parsed
+readSheet b = elim (sheet b 0) [ refused why ↦ refused why | passed x ↦ passed (x .0) ]

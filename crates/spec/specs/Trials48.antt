@@ -1,0 +1,122 @@
+-- The constant table of 48: it is closed under products; and the copies of (1,0,0), (1,1,1) and (1,2,3) under it.
+-- Every one of the 48 is made of six rows, so few dots are worked out, and the rest is numbers. Assumes nothing.
+use mathlib.Core.Path.{_≡_, refl, ap, _∙_}
+use Prim.Native.Nat.{ℕ, zero, suc, _/_, _^_, _-_, _%_, _+_, _*_}
+use mathlib.Core.Bool.{true, false}
+use mathlib.Core.List.{List, [], _∷_, map}
+use lib.ListN.{length, replicate, getD}
+use lib.Dec.{eqb}
+use lib.Ieee.{Float, fin, binary64, ofBits, neg}
+use lib.IntN.{pos}
+use Rattle.spec.specs.declared.Refusal.the-variants.{Open}
+use Rattle.spec.specs.declared.Answer.{Answer}
+use Rattle.spec.specs.declared.Answer.the-variants.{Done, Refused}
+use Rattle.spec.specs.Lists.{join, range, place, eqList, every, holds}
+use Rattle.spec.specs.Float.{zeroF, oneF, zip, dot}
+use Rattle.spec.specs.Matrix.{Vector, Matrix, columns, mulVec, mulMat}
+use Rattle.spec.specs.Copying.{orders, signed, axisOrder, axisOrders, find, copyCall, copyRow, copyTable, copyOut, written}
+use Rattle.spec.specs.Trials1.{most, all}
+
+-- ---- the numbers
+
+-- the sign bit of axis i
+abbrev bit : ℕ → ℕ → ℕ
+bit s i = s / 2 ^ (2 - i) % 2
+
+-- the rows of each of the 48, each by a number: 2 times the column of its unit, and 1 where that is minus
+unfoldable pub rowNumbers : List (List ℕ)
+rowNumbers = join (map (λ o. map (λ s. zip (λ i c. 2 * c + bit s i) (range 0 3) o) (range 0 8)) orders)
+
+-- the entry with given rows
+abbrev entryOf : List ℕ → ℕ
+entryOf rs = 8 * place eqList (map (λ r. r / 2) rs) orders + (getD rs 0 0 % 2 * 4 + getD rs 1 0 % 2 * 2 + getD rs 2 0 % 2)
+
+-- the entry that the product of two is, by their rows
+abbrev productOf : List ℕ → List ℕ → ℕ
+productOf rs bs = entryOf (map (λ a. let b = getD bs (a / 2) 0 in 2 * (b / 2) + (a + b) % 2) rs)
+
+unfoldable pub products : List (List ℕ)
+products = map (λ rs. map (productOf rs) rowNumbers) rowNumbers
+
+-- the columns of the entry with given rows: 2 times the row of its unit, and 1 where that is minus
+abbrev columnsOf : List ℕ → List ℕ
+columnsOf rs = map (λ c. let i = place eqb c (map (λ r. r / 2) rs) in 2 * i + getD rs i 0 % 2) (range 0 3)
+
+-- ---- the six rows
+
+-- minus x where b is 1
+abbrev turned : ℕ → Float → Float
+turned b x = elim (eqb b 1) [ true ↦ neg x | false ↦ x ]
+
+unfoldable pub axes : List Vector
+axes = map (λ a. map (λ j. elim (eqb j (a / 2)) [ true ↦ turned (a % 2) oneF | false ↦ zeroF ]) (range 0 3)) (range 0 6)
+
+pub forty-eight-entries : length axisOrders ≡ 48
+unfolding all
+forty-eight-entries = refl
+
+-- the dots of the six rows with each other: 0, but one or minus one on the same axis
+pub axis-dots : map (λ r. map (dot r) axes) axes ≡ map (λ a. map (λ b. elim (eqb (a / 2) (b / 2)) [ true ↦ turned ((a + b) % 2) oneF | false ↦ zeroF ]) (range 0 6)) (range 0 6)
+unfolding all axes
+axis-dots = refl
+
+-- "whose rule and closure are shown by one computed test over all entries": the product of any two is an entry, the one that `products` names
+pub closed : map (λ a. map (mulMat a) axisOrders) axisOrders ≡ map (map (λ j. getD axisOrders j [])) products
+unfolding mulMat columns axes zip orders range join signed axisOrder axisOrders rowNumbers zeroF oneF neg products place eqList ofBits
+closed = ap (λ t. map (λ rs. map (λ bs. map (λ a. map (λ c. getD (getD t a []) c zeroF) (columnsOf bs)) rs) rowNumbers) rowNumbers) axis-dots
+
+-- ---- copies
+
+abbrev firstOf : Answer × List Float × List ℕ → Answer
+firstOf t = t .0
+
+-- P: "under the 48, (1,0,0) has 6 copies, (1,1,1) 8"
+pub six : firstOf (copyCall 3 (oneF ∷ zeroF ∷ zeroF ∷ []) (join (join axisOrders)) (replicate 18 zeroF) (replicate 288 0)) ≡ Done 6
+unfolding all
+six = refl
+
+pub eight : firstOf (copyCall 3 (oneF ∷ oneF ∷ oneF ∷ []) (join (join axisOrders)) (replicate 24 zeroF) (replicate 384 0)) ≡ Done 8
+unfolding all
+eight = refl
+
+-- (1,2,3), and the 48 copies of it: for each order and each choice of signs
+abbrev abc : Vector
+abc = fin false 1 (pos 0) ∷ fin false 1 (pos 1) ∷ fin false 3 (pos 0) ∷ []
+
+unfoldable pub cs : List Vector
+cs = map (map (λ r. turned (r % 2) (getD abc (r / 2) zeroF))) rowNumbers
+
+-- every copy is found at its own number
+pub self : map (find cs) cs ≡ range 0 48
+unfolding all cs rowNumbers
+self = refl
+
+-- the dots of the six rows with the copies: each picks one of the copy's floats, or turns it
+pub copy-dots : map (λ r. map (dot r) cs) axes ≡ map (λ a. map (λ v. turned (a % 2) (getD v (a / 2) zeroF)) cs) (range 0 6)
+unfolding all cs axes rowNumbers
+copy-dots = refl
+
+-- entry n takes copy k to the copy that the product of the two entries names
+pub images : map (λ m. map (mulVec m) cs) axisOrders ≡ map (map (λ j. getD cs j [])) products
+unfolding mulVec cs axes zip orders range join signed axisOrder axisOrders rowNumbers zeroF oneF neg products place eqList ofBits
+images = ap (λ t. map (λ rs. map (λ k. map (λ a. getD (getD t a []) k zeroF) rs) (range 0 48)) rowNumbers) copy-dots
+
+pub rows : map (copyRow cs) axisOrders ≡ products
+unfolding cs zip orders range join signed axisOrder axisOrders rowNumbers zeroF oneF neg products place eqList ofBits copyRow
+rows = ap (map (map (find cs))) images ∙ ap (λ t. map (map (λ j. getD t j 48)) products) self
+
+pub before : copyCall 3 abc (join (join axisOrders)) (replicate 144 zeroF) (replicate 2304 0) ≡ copyOut 48 axisOrders cs (replicate 144 zeroF) (replicate 2304 0)
+unfolding most cs rowNumbers
+before = refl
+
+-- what the call gives out, from the table's rows
+abbrev out : List (List ℕ) → Answer × List Float × List ℕ
+out t = elim (holds eqb 48 (join t)) [ true ↦ (Refused Open 48, join cs, replicate 2304 65535) | false ↦ (Done 48, join cs, join t) ]
+
+pub after : copyOut 48 axisOrders cs (replicate 144 zeroF) (replicate 2304 0) ≡ (Done 48, join cs, join products)
+unfolding copyOut copyTable copyRow written cs zip orders range join signed axisOrder axisOrders rowNumbers zeroF oneF neg products place eqList ofBits holds
+after = ap out rows
+
+-- P: "(1,2,3) 48"; with the points and the table that are written out
+pub forty-eight : copyCall 3 abc (join (join axisOrders)) (replicate 144 zeroF) (replicate 2304 0) ≡ (Done 48, join cs, join products)
+forty-eight = before ∙ after

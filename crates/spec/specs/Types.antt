@@ -1,0 +1,147 @@
+-- Section 4 of the scope: the types of a solid's elements. And what demand 3 says of them.
+-- Assumes nothing.
+use mathlib.Core.Path.{_≡_}
+use mathlib.Core.Logic.{_≢_, _↔_}
+use Prim.Native.Nat.{ℕ, zero, suc, pred, _+_, _-_, _≤_, _<_}
+use mathlib.Core.Bool.{Bool, true, false, _&&_}
+use mathlib.Core.Option.{Option, none, some}
+use mathlib.Core.List.{List, [], _∷_, _++_, map, reverse}
+use lib.ListN.{length, getD, set, replicate}
+use lib.Dec.{eqb, ltb}
+use Rattle.spec.specs.Lists.{distinct, place, renumber, count, holds, eqList, range, keep, sum, join}
+
+-- ---- solids
+
+-- For each rank from 0 to R, for each of its elements, the element's subs: their numbers, one rank below
+abbrev pub Solid : Type 0
+Solid = List (List (List ℕ))
+
+-- R, the rank of the top
+abbrev pub top : Solid → ℕ
+top s = length s - 1
+
+-- how many elements a rank has
+abbrev pub size : Solid → ℕ → ℕ
+size s r = length (getD s r [])
+
+unfoldable pub subs : Solid → ℕ → ℕ → List ℕ
+subs s r e = getD (getD s r []) e []
+
+-- the elements one rank above that have e as a sub, rising
+unfoldable pub sups : Solid → ℕ → ℕ → List ℕ
+sups s r e = keep (λ f. holds eqb e (subs s (suc r) f)) (range 0 (size s (suc r)))
+
+-- the proper ranks, 1 to R - 1
+unfoldable pub properRanks : Solid → List ℕ
+properRanks s = range 1 (top s - 1)
+
+-- E, the number of proper elements
+unfoldable pub elements : Solid → ℕ
+elements s = sum (map (λ r. size s r) (properRanks s))
+
+-- the distance class of each element: by rank, then number. Only proper elements' are read
+abbrev pub Classes : Type 0
+Classes = ℕ → ℕ → ℕ
+
+-- ---- states
+
+-- the type of each element: by rank, then number
+abbrev pub State : Type 0
+State = List (List ℕ)
+
+abbrev pub typesAt : State → ℕ → List ℕ
+typesAt S r = getD S r []
+
+abbrev pub typeOf : State → ℕ → ℕ → ℕ
+typeOf S r e = getD (typesAt S r) e 0
+
+-- the number of types, over the proper ranks
+unfoldable pub typeCount : Solid → State → ℕ
+typeCount s S = sum (map (λ r. length (distinct eqb (typesAt S r))) (properRanks s))
+
+-- ---- start
+
+abbrev pub isProper : Solid → ℕ → Bool
+isProper s r = ltb 0 r && ltb r (top s)
+
+-- a proper rank's elements share a type exactly when they share a class; ranks 0 and R have type 0 only
+unfoldable pub startAt : Solid → Classes → ℕ → List ℕ
+startAt s cls r = elim (isProper s r) [ true ↦ renumber eqb (map (cls r) (range 0 (size s r))) | false ↦ replicate (size s r) 0 ]
+
+unfoldable pub start : Solid → Classes → State
+start s cls = map (startAt s cls) (range 0 (length s))
+
+-- ---- steps
+
+-- a step, at a rank
+pub data Step : Type 0 where
+  up : ℕ → Step
+  down : ℕ → Step
+
+-- the rank that it is at, the rank that it looks to, and an element's neighbours there
+abbrev pub at : Step → ℕ
+at (up r) = r
+at (down r) = r
+
+abbrev pub next : Step → ℕ
+next (up r) = pred r
+next (down r) = suc r
+
+abbrev pub near : Solid → Step → ℕ → List ℕ
+near s (up r) e = subs s r e
+near s (down r) e = sups s r e
+
+-- What a step tells elements apart by. Of an element of type t with the neighbours es: t, and for every type in the
+-- list `types`, the types of the rank looked to, how many of es have that type
+unfoldable pub key : List ℕ → ℕ → List ℕ → List ℕ
+key types t es = t ∷ map (λ k. count eqb k (map (λ e. getD types e 0) es)) (distinct eqb types)
+
+-- the keys of the elements of the step's rank, and their new types
+unfoldable pub keys : Solid → State → Step → List (List ℕ)
+keys s S x = map (λ e. key (typesAt S (next x)) (typeOf S (at x) e) (near s x e)) (range 0 (size s (at x)))
+
+unfoldable pub step : Solid → State → Step → State
+step s S x = set S (at x) (renumber eqList (keys s S x))
+
+-- steps one after another
+unfoldable pub play : Solid → State → List Step → State
+play s S [] = S
+play s S (x ∷ xs) = play s (step s S x) xs
+
+-- ---- sweeps
+
+unfoldable pub sweepSteps : Solid → List Step
+sweepSteps s = map up (properRanks s) ++ map down (reverse (properRanks s))
+
+unfoldable pub sweep : Solid → State → State
+sweep s S = play s S (sweepSteps s)
+
+-- at most n sweeps, from S: what the first that leaves the number of types unchanged gives, or none
+unfoldable pub settle : Solid → ℕ → State → Option State
+settle s zero S = none
+settle s (suc n) S =
+    let S′ = sweep s S in
+    elim (eqb (typeCount s S′) (typeCount s S)) [ true ↦ some S′ | false ↦ settle s n S′ ]
+
+-- The result: the first sweep never ends it, and E + 2 are the most. None is refusal 15, unsettled
+unfoldable pub result : Solid → Classes → Option State
+result s cls = settle s (elements s + 1) (sweep s (start s cls))
+
+-- ---- what is given out
+
+-- the type of each proper element, by rising rank and number
+unfoldable pub given : Solid → State → List ℕ
+given s z = join (map (typesAt z) (properRanks s))
+
+-- a type: its rank, its number, its example (the lowest element that has it), and how many have it
+pub record ElementType : Type 0 where
+  pub rank : ℕ
+  pub number : ℕ
+  pub example : ℕ
+  pub count : ℕ
+
+unfoldable pub elementTypesAt : State → ℕ → List ElementType
+elementTypesAt z r = map (λ t. record { rank = r; number = t; example = place eqb t (typesAt z r); count = count eqb t (typesAt z r) }) (distinct eqb (typesAt z r))
+
+unfoldable pub elementTypes : Solid → State → List ElementType
+elementTypes s z = join (map (elementTypesAt z) (properRanks s))

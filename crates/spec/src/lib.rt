@@ -1,0 +1,54 @@
+// What a public call answers: document 01's table of preflight answers as an enum. The rest of this crate is definitions (specs/) and
+// theorems about them (proofs/).
+ghost use mathlib.Core.Path.{_≡_};
+ghost use Rattle.spec.specs.Refusal.{number};
+
+// A refusal, under its word in the table.
+pub enum Refusal {
+    CutSheet,
+    Format,
+    OffTheBoard,
+    BadList,
+    Loose,
+    Mitre,
+    Bench,
+    NotFull,
+    DoubleCorner,
+    Centred,
+    Flat,
+    Blank,
+    ShortSheet,
+    Open,
+    Unsettled,
+}
+
+// Done, with how many types, members or copies there are; or a refusal, with how many members or points were kept.
+pub enum Answer {
+    Done(usize),
+    Refused(Refusal, usize),
+}
+
+impl Refusal {
+    // The number in the table.
+    pub fn number(self) -> u32
+        ensures { λ r. ⌜ r ≡ number self ⌝ }
+    {
+        match self {
+            Refusal::CutSheet => 1,
+            Refusal::Format => 2,
+            Refusal::OffTheBoard => 3,
+            Refusal::BadList => 4,
+            Refusal::Loose => 5,
+            Refusal::Mitre => 6,
+            Refusal::Bench => 7,
+            Refusal::NotFull => 8,
+            Refusal::DoubleCorner => 9,
+            Refusal::Centred => 10,
+            Refusal::Flat => 11,
+            Refusal::Blank => 12,
+            Refusal::ShortSheet => 13,
+            Refusal::Open => 14,
+            Refusal::Unsettled => 15,
+        }
+    }
+}
