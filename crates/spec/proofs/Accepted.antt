@@ -26,7 +26,7 @@ use Rattle.spec.specs.Classes.{classTable, byTable, typesOf}
 use Rattle.spec.proofs.Lists.{length-range, in-getD}
 use Rattle.spec.proofs.FlagList.{in-either}
 use Rattle.spec.proofs.Marked.{both, lt-test}
-use Rattle.spec.proofs.Trials.{point-sound}
+use Rattle.spec.proofs.Soundness.{point-sound}
 use Rattle.spec.proofs.Settled.{settled}
 use Rattle.spec.specs.Passed.{Passed, EveryPassed}
 

@@ -6,12 +6,11 @@ pub mod Root
 pub mod Matrix
 pub mod Hull
 pub mod Copying
-pub mod Trials1
-pub mod Trials48
+pub mod NumberExamples
 pub mod Types
 pub mod Mark
 pub mod Demand
-pub mod Trial
+pub mod SolidExamples
 pub mod Bits
 pub mod Judged
 pub mod Sheet
@@ -23,6 +22,5 @@ pub mod Calls
 pub mod Ascii
 pub mod KitText
 pub mod Eval
-pub mod Trials2
 pub mod Passed
 pub mod CallLaws

@@ -8,14 +8,14 @@ use lib.ListN.{length, replicate, getD}
 use lib.Dec.{eqb}
 use lib.Ieee.{Float, fin, binary64, ofBits, neg}
 use lib.IntN.{pos}
 use Rattle.spec.specs.declared.Refusal.the-variants.{Open}
 use Rattle.spec.specs.declared.Answer.{Answer}
 use Rattle.spec.specs.declared.Answer.the-variants.{Done, Refused}
 use Rattle.spec.specs.Lists.{join, range, place, eqList, every, holds}
 use Rattle.spec.specs.Float.{zeroF, oneF, zip, dot}
 use Rattle.spec.specs.Matrix.{Vector, Matrix, columns, mulVec, mulMat}
 use Rattle.spec.specs.Copying.{orders, signed, axisOrder, axisOrders, find, copyCall, copyRow, copyTable, copyOut, written}
-use Rattle.spec.specs.Trials1.{most, all}
+use Rattle.spec.specs.NumberExamples.{most, all}
 
 -- ---- the numbers
 

@@ -12,7 +12,7 @@ use Rattle.spec.specs.Lists.{In, eqList, range, without, distinct, place
 use Rattle.spec.specs.Types.{Solid, top, size, subs, sups, properRanks, elements, typeCount, typeOf, startAt, start, key, keys, Step, up, down, step, play, sweepSteps, sweep, settle, result}
 use Rattle.spec.specs.Demand.{RisingAbove, Rising, Sound, AllProper}
 use Rattle.spec.specs.Mark.{every, goes}
-use Rattle.spec.specs.Trial.{square, prism, point, dot, alike, square-types, quarter}
+use Rattle.spec.specs.SolidExamples.{square, prism, point, dot, alike, square-types, quarter}
 use Rattle.spec.proofs.Counts.{numbers, lists}
 use Rattle.spec.proofs.Marked.{both, lt-test, every-both, every-in}
 use Rattle.spec.proofs.Demand3.{demand3}
