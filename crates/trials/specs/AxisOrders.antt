@@ -1,11 +1,11 @@
--- The constant table of 48: it is closed under products; and the copies of (1,0,0), (1,1,1) and (1,2,3) under it.
+-- Section 7's constant table of 48: its rule, its closure under products, and the copies of (1,2,3) under it.
 -- Every one of the 48 is made of six rows, so few dots are worked out, and the rest is numbers. Assumes nothing.
 use mathlib.Core.Path.{_≡_, refl, ap, _∙_}
 use Prim.Native.Nat.{ℕ, zero, suc, _/_, _^_, _-_, _%_, _+_, _*_}
 use mathlib.Core.Bool.{true, false}
 use mathlib.Core.List.{List, [], _∷_, map}
 use lib.ListN.{length, replicate, getD}
-use lib.Dec.{eqb}
+use lib.Dec.{eqb, ltb}
 use lib.Ieee.{Float, fin, binary64, ofBits, neg}
 use lib.IntN.{pos}
 use Rattle.spec.specs.declared.Refusal.the-variants.{Open}
@@ -13,6 +13,7 @@ use Rattle.spec.specs.declared.Answer.{Answer}
 use Rattle.spec.specs.declared.Answer.the-variants.{Done, Refused}
 use Rattle.spec.specs.Lists.{join, range, place, eqList, every, holds}
 use Rattle.spec.specs.Float.{zeroF, oneF, zip, dot}
+use Rattle.spec.specs.Mark.{noRepeats}
 use Rattle.spec.specs.Matrix.{Vector, Matrix, columns, mulVec, mulMat}
 use Rattle.spec.specs.Copying.{orders, signed, axisOrder, axisOrders, find, copyCall, copyRow, copyTable, copyOut, written}
 use Rattle.spec.specs.NumberExamples.{most, all}
@@ -51,33 +52,42 @@ turned b x = elim (eqb b 1) [ true ↦ neg x | false ↦ x ]
 unfoldable pub axes : List Vector
 axes = map (λ a. map (λ j. elim (eqb j (a / 2)) [ true ↦ turned (a % 2) oneF | false ↦ zeroF ]) (range 0 3)) (range 0 6)
 
-pub forty-eight-entries : length axisOrders ≡ 48
-unfolding all
-forty-eight-entries = refl
-
 -- the dots of the six rows with each other: 0, but one or minus one on the same axis
 pub axis-dots : map (λ r. map (dot r) axes) axes ≡ map (λ a. map (λ b. elim (eqb (a / 2) (b / 2)) [ true ↦ turned ((a + b) % 2) oneF | false ↦ zeroF ]) (range 0 6)) (range 0 6)
 unfolding all axes
 axis-dots = refl
 
--- "whose rule and closure are shown by one computed test over all entries": the product of any two is an entry, the one that `products` names
-pub closed : map (λ a. map (mulMat a) axisOrders) axisOrders ≡ map (map (λ j. getD axisOrders j [])) products
+-- the product of any two is an entry, the one that `products` names
+closed : map (λ a. map (mulMat a) axisOrders) axisOrders ≡ map (map (λ j. getD axisOrders j [])) products
 unfolding mulMat columns axes zip orders range join signed axisOrder axisOrders rowNumbers zeroF oneF neg products place eqList ofBits
 closed = ap (λ t. map (λ rs. map (λ bs. map (λ a. map (λ c. getD (getD t a []) c zeroF) (columnsOf bs)) rs) rowNumbers) rowNumbers) axis-dots
 
+-- ---- the table's rule and closure, "shown by one computed test over all entries"
+
+-- three numbers below 3, in dictionary order, and of these the lists that repeat none
+unfoldable pub triples : List (List ℕ)
+triples = join (map (λ a. join (map (λ b. map (λ c. a ∷ b ∷ c ∷ []) (range 0 3)) (range 0 3))) (range 0 3))
+
+unfoldable pub unrepeated : List (List ℕ) → List (List ℕ)
+unrepeated [] = []
+unrepeated (l ∷ ls) = elim (noRepeats eqb l) [ true ↦ l ∷ unrepeated ls | false ↦ unrepeated ls ]
+
+pub record AxisOrderTable : Type 0 where
+  -- "48 signed axis orders"
+  pub entries : length axisOrders ≡ 48
+  -- "p the order's dictionary rank from 0 to 5"
+  pub dictionary : orders ≡ unrepeated triples
+  -- "entry 8 times p + s"
+  pub rule : map (λ p. map (λ s. getD axisOrders (8 * p + s) []) (range 0 8)) (range 0 6) ≡ map (λ p. map (axisOrder (getD orders p [])) (range 0 8)) (range 0 6)
+  -- every product of two entries is an entry
+  pub multiplied : map (λ a. map (mulMat a) axisOrders) axisOrders ≡ map (map (λ j. getD axisOrders j [])) products
+  pub within : every (every (λ j. ltb j 48)) products ≡ true
+
+pub axis-order-table : AxisOrderTable
+unfolding all triples unrepeated noRepeats products rowNumbers eqList
+axis-order-table = record { entries = refl; dictionary = refl; rule = refl; multiplied = closed; within = refl }
+
 -- ---- copies
-
-abbrev firstOf : Answer × List Float × List ℕ → Answer
-firstOf t = t .0
-
--- P: "under the 48, (1,0,0) has 6 copies, (1,1,1) 8"
-pub six : firstOf (copyCall 3 (oneF ∷ zeroF ∷ zeroF ∷ []) (join (join axisOrders)) (replicate 18 zeroF) (replicate 288 0)) ≡ Done 6
-unfolding all
-six = refl
-
-pub eight : firstOf (copyCall 3 (oneF ∷ oneF ∷ oneF ∷ []) (join (join axisOrders)) (replicate 24 zeroF) (replicate 384 0)) ≡ Done 8
-unfolding all
-eight = refl
 
 -- (1,2,3), and the 48 copies of it: for each order and each choice of signs
 abbrev abc : Vector

@@ -1,2 +1,3 @@
 pub mod Sheets
 pub mod AxisOrders
+pub mod Trials

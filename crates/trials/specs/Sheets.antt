@@ -66,9 +66,9 @@ abbrev pub single : List ℕ
 single =
     40 ∷ 255 ∷ 192 ∷ 0 ∷ 0 ∷ 0 ∷ 0 ∷ 0 ∷ 1 ∷ 0 ∷ 0 ∷ 0 ∷ 0 ∷ 0 ∷ 0 ∷ 0 ∷ 0 ∷ []
 
--- ---- the cases marked P of this part, jointly
+-- ---- what `kit` prints for each trial solid
 
-pub trials : map kitText (square ∷ doubled ∷ rhombus ∷ dyad ∷ lopsided ∷ tiny ∷ close ∷ single ∷ [])
+pub kit-texts : map kitText (square ∷ doubled ∷ rhombus ∷ dyad ∷ lopsided ∷ tiny ∷ close ∷ single ∷ [])
     ≡ ascii "types 2\n1 0 0 4\n2 0 0 4\nmembers 8 confirmed 8 rotations 4\n"
     ∷ ascii "types 3\n1 0 0 4\n2 0 0 2\n2 1 1 2\nmembers 4 confirmed 4 rotations 2\n"
     ∷ ascii "types 3\n1 0 0 2\n1 1 1 2\n2 0 0 4\nmembers 4 confirmed 4 rotations 2\n"
@@ -79,7 +79,7 @@ pub trials : map kitText (square ∷ doubled ∷ rhombus ∷ dyad ∷ lopsided �
     ∷ ascii "types 0\nrefused 8\n"
     ∷ []
 unfolding evaluate
-trials = refl
+kit-texts = refl
 
 -- ---- each refusal by its smallest sheet; 15 is never met, and 7, 12 and 13 stand below
 
