@@ -490,23 +490,52 @@ never-unsettled : (c : Concrete) → typesOf c ≢ none
 unfolding typesOf
 never-unsettled c = settled (c .abs) (byTable (classTable c))
 
-pub every-passed : EveryPassed
+-- the solid of what was read
+abbrev read-solid : Parsed → Concrete
+read-solid p = record { dimension = p .dimension; points = p .points; abs = solidOf p }
+
+-- what a passed preflight passed through: the workspace has no part in the solid
+record Through (b : List ℕ) (c : Concrete) : Type 0 where
+  parsed : Parsed
+  read : readSheet b ≡ passed parsed
+  solid : read-solid parsed ≡ c
+  joined : bound (c .abs) ≡ true
+  diamonds : diamond (c .abs) ≡ true
+
+through : (b : List ℕ) (words floats : ℕ) (c : Concrete) → preflight b words floats ≡ passed c → Through b c
 unfolding preflight
-every-passed b words floats c e =
+through b words floats c e =
     let h₁ = bound-to (readSheet b) _ c e in
-    let p = h₁ .0 in
-    let d : Concrete = record { dimension = p .dimension; points = p .points; abs = solidOf p } in
-    let h₂ = bound-to (passed d) _ c (h₁ .2) in
-    let q₂ = same d (h₂ .0) (h₂ .1) in
-    let h₃ = then-to (Judging.judge Bench (roomy (h₂ .0 .abs) words floats)) _ c (h₂ .2) in
-    let h₄ = then-to (Judging.judge Loose (bound (h₂ .0 .abs))) _ c (h₃ .2) in
-    let h₅ = then-to (Judging.judge Mitre (diamond (h₂ .0 .abs))) _ c (h₄ .2) in
-    let q₅ = same (h₂ .0) c (h₅ .2) in
-    let w = whole-sheet b p (h₁ .1) in
-    let q : d ≡ c = q₂ ∙ q₅ in
+    let h₂ = bound-to (passed (read-solid (h₁ .0))) _ c (h₁ .2) in
+    let d = h₂ .0 in
+    let h₃ = then-to (Judging.judge Bench (roomy (d .abs) words floats)) _ c (h₂ .2) in
+    let h₄ = then-to (Judging.judge Loose (bound (d .abs))) _ c (h₃ .2) in
+    let h₅ = then-to (Judging.judge Mitre (diamond (d .abs))) _ c (h₄ .2) in
+    let q = same d c (h₅ .2) in
+    record {
+      parsed = h₁ .0;
+      read = h₁ .1;
+      solid = same (read-solid (h₁ .0)) d (h₂ .1) ∙ q;
+      joined = subst (λ (x : Concrete). bound (x .abs) ≡ true) q (tested Loose _ _ (h₄ .1));
+      diamonds = subst (λ (x : Concrete). diamond (x .abs) ≡ true) q (tested Mitre _ _ (h₅ .1));
+    }
+
+-- one sheet has one solid, whatever workspaces are lent
+pub one-solid : (b : List ℕ) (words floats words′ floats′ : ℕ) (c d : Concrete) → preflight b words floats ≡ passed c → preflight b words′ floats′ ≡ passed d → c ≡ d
+one-solid b words floats words′ floats′ c d e f =
+    let t = through b words floats c e in
+    let u = through b words′ floats′ d f in
+    sym (t .solid) ∙ ap read-solid (same (t .parsed) (u .parsed) (sym (t .read) ∙ u .read)) ∙ u .solid
+
+pub every-passed : EveryPassed
+every-passed b words floats c e =
+    let t = through b words floats c e in
+    let p = t .parsed in
+    let q = t .solid in
+    let w = whole-sheet b p (t .read) in
     record {
       parsed = p;
-      read = h₁ .1;
+      read = t .read;
       solid = ap (λ (x : Concrete). x .abs) (sym q);
       rank = subst (λ (x : Concrete). top (x .abs) ≡ p .rank) q (rank-of p w);
       dimension = ap (λ (x : Concrete). x .dimension) (sym q);
@@ -517,7 +546,7 @@ every-passed b words floats c e =
       filled = subst (λ (x : Concrete). (r e : ℕ) → e < size (x .abs) (suc r) → 0 < length (subs (x .abs) (suc r) e)) q (filled-of p w);
       sound = subst (λ (x : Concrete). Sound (x .abs)) q (sound-of p w);
       points = subst (λ (x : Concrete). length (x .points) ≡ size (x .abs) 1) q (points-of p w);
-      joined = subst (λ (x : Concrete). bound (x .abs) ≡ true) q₅ (tested Loose _ _ (h₄ .1));
-      diamonds = subst (λ (x : Concrete). diamond (x .abs) ≡ true) q₅ (tested Mitre _ _ (h₅ .1));
+      joined = t .joined;
+      diamonds = t .diamonds;
       settled = never-unsettled c;
     }

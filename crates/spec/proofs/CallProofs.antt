@@ -4,6 +4,7 @@ use mathlib.Core.Path.{_≡_, refl, sym, _∙_, ap, subst}
 use mathlib.Core.Logic.{_≢_}
 use Prim.Native.Nat.{ℕ, zero, suc, _*_, _≤_, _<_}
 use mathlib.Core.Bool.{Bool, true, false, not, _&&_}
+use mathlib.Core.Option.{some}
 use mathlib.Core.List.{List, [], _∷_, map}
 use native.Mathlib.Omega.{arith}
 use lib.ListN.{length}
@@ -12,7 +13,7 @@ use Rattle.spec.specs.declared.Refusal.{Refusal}
 use Rattle.spec.specs.declared.Refusal.the-variants.{Blank, ShortSheet, Unsettled}
 use Rattle.spec.specs.declared.Answer.the-variants.{Done, Refused}
 use Rattle.spec.specs.Lists.{join}
-use Rattle.spec.specs.Types.{given, elementTypes}
+use Rattle.spec.specs.Types.{State, given, elementTypes}
 use Rattle.spec.specs.Classes.{typesOf}
 use Rattle.spec.specs.Judged as Judging
 use Rattle.spec.specs.Judged.{Judged, refused, passed}
@@ -23,18 +24,18 @@ use Rattle.spec.specs.Calls.{Given, typeCells, TypesOut, typesGiven, typ
 use Rattle.spec.specs.CallLaws.{SameLengths, SearchLaws, CallLaws}
 use Rattle.spec.proofs.Marked.{both}
 use Rattle.spec.proofs.Accepted.{same, bound-to, then-to, tested, le-test}
-use Rattle.spec.proofs.Shapes.{Shaped, members-shaped, rotations-shaped, Cells, found-cells, written-length, elementTypes-cells}
+use Rattle.spec.proofs.Shapes.{wanted-some, Shaped, members-shaped, rotations-shaped, Cells, found-cells, written-length, elementTypes-cells}
 
-apart : (why : Refusal) (k m : ℕ) → Refused why k ≡ Done m → ⊥
+pub apart : (why : Refusal) (k m : ℕ) → Refused why k ≡ Done m → ⊥
 apart why k m e = let z : _≡_ {A = ℕ} 0 1 = cc in omega arith
 
 same-refusal : (why other : Refusal) (k l : ℕ) → Refused why k ≡ Refused other l → why ≡ other
 same-refusal why other k l e = cc
 
-counted : (n m : ℕ) → Done n ≡ Done m → n ≡ m
+pub counted : (n m : ℕ) → Done n ≡ Done m → n ≡ m
 counted n m e = cc
 
-choose : (kept : List Member) → Bool → Found
+unfoldable pub choose : (kept : List Member) → Bool → Found
 choose kept b = elim b [ true ↦ record { answer = Refused ShortSheet (length kept); members = kept } | false ↦ record { answer = Done (length kept); members = kept } ]
 
 kept-some : (l kept : List Member) (n : ℕ) → keptOf l kept .answer ≡ Done n → 0 < n
@@ -94,13 +95,19 @@ unfolding typesWritten
 types-out (refused m) old why k e = refl
 types-out (passed g) old why k e = absurd (apart why k (length (g .types)) (sym e))
 
-types-lengths : (b : List ℕ) (words floats : ℕ) (old : TypesOut) (o : Judged Given) → typesGiven b words floats (length (old .elements)) (length (old .types)) ≡ o
-    → (length (typesWritten o old .1 .elements) ≡ length (old .elements)) × (length (typesWritten o old .1 .types) ≡ length (old .types))
-unfolding typesWritten typesGiven
-types-lengths b words floats old (refused why) q = (refl, refl)
-types-lengths b words floats old (passed g) q =
-    let n = length (old .elements) in
-    let m = length (old .types) in
+-- what stands behind a types call that passes: the sheet's solid, its result, and room for what is given out
+pub record Behind (b : List ℕ) (words floats n m : ℕ) (g : Given) : Type 0 where
+  pub solid : Concrete
+  pub result : State
+  pub read : preflight b words floats ≡ passed solid
+  pub ended : typesOf solid ≡ some result
+  pub out : g ≡ record { elements = given (solid .abs) result; types = elementTypes (solid .abs) result }
+  pub elements : length (g .elements) ≤ n
+  pub types : 4 * length (g .types) ≤ m
+
+pub behind : (b : List ℕ) (words floats n m : ℕ) (g : Given) → typesGiven b words floats n m ≡ passed g → Behind b words floats n m g
+unfolding typesGiven
+behind b words floats n m g q =
     let h₁ = bound-to (preflight b words floats) _ g q in
     let h₂ = bound-to (Judging.wanted Unsettled (typesOf (h₁ .0))) _ g (h₁ .2) in
     let h₃ = bound-to (passed (record { elements = given (h₁ .0 .abs) (h₂ .0); types = elementTypes (h₁ .0 .abs) (h₂ .0) })) _ g (h₂ .2) in
@@ -108,9 +115,23 @@ types-lengths b words floats old (passed g) q =
     let h₄ = then-to (Judging.judge ShortSheet (a && leb (4 * length (h₃ .0 .types)) m)) _ g (h₃ .2) in
     let k = both a (leb (4 * length (h₃ .0 .types)) m) (tested ShortSheet _ _ (h₄ .1)) in
     let p = same (h₃ .0) g (h₄ .2) in
-    let e : length (g .elements) ≤ n = subst (λ (x : Given). length (x .elements) ≤ n) p (le-test _ _ (k .0)) in
-    let t : 4 * length (g .types) ≤ m = subst (λ (x : Given). 4 * length (x .types) ≤ m) p (le-test _ _ (k .1)) in
-    (written-length (g .elements) (old .elements) e, written-length (join (map typeCells (g .types))) (old .types) (rw (elementTypes-cells (g .types)) t))
+    record {
+      solid = h₁ .0;
+      result = h₂ .0;
+      read = h₁ .1;
+      ended = wanted-some Unsettled (typesOf (h₁ .0)) (h₂ .0) (h₂ .1);
+      out = sym (same _ (h₃ .0) (h₃ .1) ∙ p);
+      elements = subst (λ (x : Given). length (x .elements) ≤ n) p (le-test _ _ (k .0));
+      types = subst (λ (x : Given). 4 * length (x .types) ≤ m) p (le-test _ _ (k .1));
+    }
+
+types-lengths : (b : List ℕ) (words floats : ℕ) (old : TypesOut) (o : Judged Given) → typesGiven b words floats (length (old .elements)) (length (old .types)) ≡ o
+    → (length (typesWritten o old .1 .elements) ≡ length (old .elements)) × (length (typesWritten o old .1 .types) ≡ length (old .types))
+unfolding typesWritten
+types-lengths b words floats old (refused why) q = (refl, refl)
+types-lengths b words floats old (passed g) q =
+    let h = behind b words floats (length (old .elements)) (length (old .types)) g q in
+    (written-length (g .elements) (old .elements) (h .elements), written-length (join (map typeCells (g .types))) (old .types) (rw (elementTypes-cells (g .types)) (h .types)))
 
 pub call-laws : CallLaws
 unfolding searchCall rotationsCall typesCall

@@ -22,7 +22,7 @@ use Rattle.spec.proofs.Result.{near-low}
 
 -- ---- rising lists repeat nothing
 
-above : (x t : ℕ) (l : List ℕ) → RisingAbove x l → In t l → x < t
+pub above : (x t : ℕ) (l : List ℕ) → RisingAbove x l → In t l → x < t
 above x t (y ∷ l) h (inl e) = omega arith
 above x t (y ∷ l) h (inr m) = omega (arith, above y t l (h .1) m)
 

@@ -139,6 +139,21 @@ module _ {A : Type 0} (same : A → A → Bool) (test : Test same) where
       go (inr (p, e)) (inl q) ih = absurd (p (sym q))
       go (inr (p, e)) (inr h) ih = rw (place-no l e) (let r = ih h in (omega (arith, r .0), r .1))
 
+  -- and no lower one is it
+  pub place-low : {k : A} (d : A) (l : List A) (i : ℕ) → i < place same k l → getD l i d ≢ k
+  unfolding place
+  place-low d [] i h = absurd (omega arith)
+  place-low {k} d (x ∷ l) zero h = go (split x k)
+    where
+      go : Split x k → x ≢ k
+      go (inl (p, e)) = absurd (omega (arith, rw (place-yes l e) at h))
+      go (inr (p, e)) = p
+  place-low {k} d (x ∷ l) (suc i) h = go (split x k) (λ m. place-low d l i m)
+    where
+      go : Split x k → (i < place same k l → getD l i d ≢ k) → getD l i d ≢ k
+      go (inl (p, e)) ih = absurd (omega (arith, rw (place-yes l e) at h))
+      go (inr (p, e)) ih = ih (omega (arith, rw (place-no l e) at h))
+
   pub place-inj : {k j : A} (l : List A) → In k l → In j l → place same k l ≡ place same j l → k ≡ j
   place-inj {k} {j} l hk hj e = sym (place-at k l hk .1) ∙ ap (λ (n : ℕ). getD l n k) e ∙ place-at k l hj .1
 

@@ -1,20 +1,19 @@
--- `flags` lists the maximal chains of a solid, each once.
+-- `flags` lists the maximal chains of a solid, each once, in order.
 -- Assumes nothing.
 use mathlib.Core.Path.{_≡_, refl, sym, _∙_, ap, subst}
 use mathlib.Core.Logic.{_≢_, _↔_, _⊎_, inl, inr}
 use Prim.Native.Nat.{ℕ, zero, suc, _+_, _-_, _≤_, _<_}
 use mathlib.Core.List.{List, [], _∷_, _++_, map}
 use native.Mathlib.Omega.{arith}
-use native.Mathlib.Decide.{ℕ-discrete}
-use lib.ListN.{length, getD, take, length-append, length-map, List·getD-append}
-use lib.Seq.{getD-at, take-at, take-suc, take-all, take-length, length-take-le, getD-take}
+use native.Mathlib.Decide.{ℕ-discrete, decLt}
+use lib.ListN.{length, getD, take, length-append, length-map, List·getD-append, List·getD-eq-default}
+use lib.Seq.{getD-at, getD-append-add, take-suc, take-all, take-length, length-take-le, getD-take}
 use Rattle.spec.specs.Lists.{In, join}
 use Rattle.spec.specs.Types.{Solid, top, size, subs}
-use Rattle.spec.specs.Demand.{Sound}
-use Rattle.spec.specs.Flags.{Flag, elementAt, firstTo, firstFlag, flagsTo, flags, IsFlag, Listed, EveryFlagOnce, EveryFirst}
-use Rattle.spec.proofs.Distinct.{Once}
-use Rattle.spec.proofs.Lists.{in-getD, map-in, in-map, getD-map, once-map}
-use Rattle.spec.proofs.Carry.{rising-once}
+use Rattle.spec.specs.Demand.{RisingAbove, Rising, Sound}
+use Rattle.spec.specs.Flags.{Flag, elementAt, firstTo, firstFlag, flagsTo, flags, IsFlag, Before, Listed, EveryFlagOnce, EveryFirst}
+use Rattle.spec.proofs.Lists.{in-getD, map-in, in-map, getD-map}
+use Rattle.spec.proofs.Carry.{above}
 
 -- ---- lists one after another
 
@@ -36,23 +35,35 @@ module _ {A : Type 0} where
       go (inl h) = inl (inr h)
       go (inr h) = inr h
 
-  once-append : (a b : List A) → Once a → Once b → ((t : A) → In t a → ¬ In t b) → Once (a ++ b)
-  once-append [] b oa ob d = ob
-  once-append (x ∷ a) b oa ob d = (
-    λ m. go (in-either x a b m),
-    once-append a b (oa .1) ob (λ t h. d t (inr h)),
+-- ---- lists in an order: each member stands before all that follow it
+
+module _ {A : Type 0} (R : A → A → Type 0) where
+  abbrev Ordered : List A → Type 0
+  Ordered [] = Unit {0}
+  Ordered (x ∷ l) = ((y : A) → In y l → R x y) × Ordered l
+
+  ordered-append : (a b : List A) → Ordered a → Ordered b → ((x y : A) → In x a → In y b → R x y) → Ordered (a ++ b)
+  ordered-append [] b oa ob d = ob
+  ordered-append (x ∷ a) b oa ob d = (
+    λ y m. go y (in-either y a b m),
+    ordered-append a b (oa .1) ob (λ z y h k. d z y (inr h) k),
   )
     where
-      go : In x a ⊎ In x b → ⊥
-      go (inl h) = oa .0 h
-      go (inr h) = d x (inl refl) h
+      go : (y : A) → In y a ⊎ In y b → R x y
+      go y (inl h) = oa .0 y h
+      go y (inr h) = d x y (inl refl) h
 
-  -- equal members of a list that repeats nothing stand at one place
-  once-at : (d : A) (l : List A) → Once l → (i j : ℕ) → i < length l → j < length l → getD l i d ≡ getD l j d → i ≡ j
-  once-at d (x ∷ l) o zero zero hi hj e = refl
-  once-at d (x ∷ l) o zero (suc j) hi hj e = absurd (o .0 (rw e (in-getD d l j (omega arith))))
-  once-at d (x ∷ l) o (suc i) zero hi hj e = absurd (o .0 (rw (← e) (in-getD d l i (omega arith))))
-  once-at d (x ∷ l) o (suc i) (suc j) hi hj e = ap suc (once-at d l (o .1) i j (omega arith) (omega arith) e)
+  ordered-map : (f : A → A) (l : List A) → ((x y : A) → In x l → In y l → R x y → R (f x) (f y)) → Ordered l → Ordered (map f l)
+  ordered-map f [] k o = tt
+  ordered-map f (x ∷ l) k o = (
+    λ y m. let h = in-map f y l m in rw (h .2) (k x (h .0) (inl refl) (inr (h .1)) (o .0 (h .0) (h .1))),
+    ordered-map f l (λ y z hy hz. k y z (inr hy) (inr hz)) (o .1),
+  )
+
+  ordered-at : (d : A) (l : List A) → Ordered l → (i j : ℕ) → i < j → j < length l → R (getD l i d) (getD l j d)
+  ordered-at d l o i zero h k = absurd (omega arith)
+  ordered-at d (x ∷ l) o zero (suc j) h k = o .0 (getD l j d) (in-getD d l j (omega arith))
+  ordered-at d (x ∷ l) o (suc i) (suc j) h k = ordered-at d l (o .1) i j (omega arith) (omega arith)
 
 module _ {A : Type 0} (g : ℕ → List A) where
   join-in : (t : A) (x : ℕ) (l : List ℕ) → In x l → In t (g x) → In t (join (map g l))
@@ -68,11 +79,48 @@ module _ {A : Type 0} (g : ℕ → List A) where
       go (inl h) f = (y, inl refl, h)
       go (inr h) f = let r = f h in (r .0, inr (r .1), r .2)
 
-  once-join : (l : List ℕ) → Once l → ((x : ℕ) → Once (g x)) → ((x y : ℕ) (t : A) → In t (g x) → In t (g y) → x ≡ y) → Once (join (map g l))
+  -- where a lower number's list stands before a greater number's
+  ordered-join : (R : A → A → Type 0) (l : List ℕ) → Rising l → ((x : ℕ) → Ordered R (g x))
+      → ((x y : ℕ) (t u : A) → x < y → In t (g x) → In u (g y) → R t u) → Ordered R (join (map g l))
   unfolding join
-  once-join [] o each apart = tt
-  once-join (x ∷ l) o each apart = once-append (g x) (join (map g l)) (each x) (once-join l (o .1) each apart)
-      (λ t h m. let r = in-join t l m in o .0 (rw (apart x (r .0) t h (r .2)) (r .1)))
+  ordered-join R [] w each apart = tt
+  ordered-join R (x ∷ l) w each apart = ordered-append R (g x) (join (map g l)) (each x) (ordered-join R l (rest x l w) each apart)
+      (λ t u h m. let k = in-join u l m in apart x (k .0) t u (above x (k .0) l w (k .1)) h (k .2))
+    where
+      rest : (x : ℕ) (l : List ℕ) → RisingAbove x l → Rising l
+      rest x [] v = tt
+      rest x (y ∷ l) v = v .1
+
+-- ---- the order of flags
+
+-- past two flags' ends, what follows both is at the same places
+past : (F G t : Flag) (n q : ℕ) → length F ≡ n → length G ≡ n → n ≤ q → elementAt (F ++ t) q ≡ elementAt (G ++ t) q
+past F G t n q hF hG h = at F hF ∙ sym (at G hG)
+  where
+    at : (H : Flag) → length H ≡ n → getD (H ++ t) q 0 ≡ getD t (q - n) 0
+    at H k = let e : q ≡ length H + (q - n) = omega arith in ap (λ (i : ℕ). getD (H ++ t) i 0) e ∙ getD-append-add H t (q - n) 0
+
+-- what is put after both leaves their order
+before-more : (F G t : Flag) (n : ℕ) → length F ≡ n → length G ≡ n → Before F G → Before (F ++ t) (G ++ t)
+before-more F G t n hF hG b = record {
+  rank = b .rank;
+  lower = rw (kept F hF (b .rank) inside, kept G hG (b .rank) inside) (b .lower);
+  above = λ q h. go q h (decLt q n);
+}
+  where
+    kept : (H : Flag) → length H ≡ n → (q : ℕ) → q < n → getD (H ++ t) q 0 ≡ getD H q 0
+    kept H k q h = List·getD-append H t 0 q (omega arith)
+
+    inside : b .rank < n
+    inside = at (decLt (b .rank) n)
+      where
+        at : Dec (b .rank < n) → b .rank < n
+        at (yes h) = h
+        at (no h) = absurd (omega (arith, b .lower, List·getD-eq-default G 0 {n = b .rank} (omega arith)))
+
+    go : (q : ℕ) → b .rank < q → Dec (q < n) → getD (F ++ t) q 0 ≡ getD (G ++ t) q 0
+    go q h (yes k) = kept F hF q k ∙ b .above q h ∙ sym (kept G hG q k)
+    go q h (no k) = past F G t n q hF hG (omega arith)
 
 -- ---- chains up to an element
 
@@ -131,25 +179,43 @@ module _ (s : Solid) where
       join-in (ups r e) F f (subs s (suc r) e) (rw (w .end) at (w .chain r (omega arith)))
       (subst (λ (K : Flag). In K (ups r e f)) (sym (whole r e F w)) (map-in (λ (G : Flag). G ++ (e ∷ [])) (take (suc r) F) (flagsTo s r f) (of-to r f (take (suc r) F) (less r e F w))))
 
-  once-to : Sound s → (r e : ℕ) → Once (flagsTo s r e)
+  order-to : Sound s → (r e : ℕ) → Ordered Before (flagsTo s r e)
   unfolding flagsTo ups
-  once-to v zero e = (λ h. h, tt)
-  once-to v (suc r) e = once-join (ups r e) (subs s (suc r) e) (rising-once (subs s (suc r) e) (v .rising (suc r) e)) (λ f. each f (once-to v r f)) apart
+  order-to v zero e = (λ F m. absurd m, tt)
+  order-to v (suc r) e = ordered-join (ups r e) Before (subs s (suc r) e) (v .rising (suc r) e) (λ f. each f (order-to v r f)) apart
     where
-      cut : (f : ℕ) (G : Flag) → In G (flagsTo s r f) → take (suc r) (G ++ (e ∷ [])) ≡ G
-      cut f G m = take-at G (e ∷ []) (suc r) (to-of r f G m .long)
+      each : (f : ℕ) → Ordered Before (flagsTo s r f) → Ordered Before (ups r e f)
+      each f o = ordered-map Before (λ (G : Flag). G ++ (e ∷ [])) (flagsTo s r f)
+          (λ G H g h b. before-more G H (e ∷ []) (suc r) (to-of r f G g .long) (to-of r f H h .long) b) o
 
-      each : (f : ℕ) → Once (flagsTo s r f) → Once (ups r e f)
-      each f o = once-map (λ (G : Flag). G ++ (e ∷ [])) (flagsTo s r f) (λ G H g h q. sym (cut f G g) ∙ ap (λ (K : Flag). take (suc r) K) q ∙ cut f H h) o
-
-      apart : (f g : ℕ) (F : Flag) → In F (ups r e f) → In F (ups r e g) → f ≡ g
-      apart f g F m n =
-          let h = in-map (λ (G : Flag). G ++ (e ∷ [])) F (flagsTo s r f) m in
-          let k = in-map (λ (G : Flag). G ++ (e ∷ [])) F (flagsTo s r g) n in
+      apart : (f g : ℕ) (F G : Flag) → f < g → In F (ups r e f) → In G (ups r e g) → Before F G
+      apart f g F G l m n =
+          let h = in-map (λ (K : Flag). K ++ (e ∷ [])) F (flagsTo s r f) m in
+          let k = in-map (λ (K : Flag). K ++ (e ∷ [])) G (flagsTo s r g) n in
           let a = to-of r f (h .0) (h .1) in
           let b = to-of r g (k .0) (k .1) in
-          let p : h .0 ≡ k .0 = sym (cut f (h .0) (h .1)) ∙ ap (λ (K : Flag). take (suc r) K) (sym (h .2) ∙ k .2) ∙ cut g (k .0) (k .1) in
-          sym (a .end) ∙ ap (λ (K : Flag). elementAt K r) p ∙ b .end
+          rw (h .2, k .2) (record {
+            rank = r;
+            lower = rw (
+              List·getD-append (h .0) (e ∷ []) 0 r (omega (arith, a .long)),
+              List·getD-append (k .0) (e ∷ []) 0 r (omega (arith, b .long)),
+              a .end,
+              b .end,
+            ) l;
+            above = λ q w. past (h .0) (k .0) (e ∷ []) (suc r) q (a .long) (b .long) w;
+          })
+
+-- a flag does not stand before itself, so that nothing is listed twice
+once-at : (d : Flag) (l : List Flag) → Ordered Before l → (i j : ℕ) → i < length l → j < length l → getD l i d ≡ getD l j d → i ≡ j
+once-at d l o i j hi hj e = go (decLt i j) (decLt j i)
+  where
+    not-same : (F G : Flag) → Before F G → F ≡ G → ⊥
+    not-same F G b p = omega (arith, b .lower, ap (λ (H : Flag). elementAt H (b .rank)) p)
+
+    go : Dec (i < j) → Dec (j < i) → i ≡ j
+    go (yes h) b = absurd (not-same (getD l i d) (getD l j d) (ordered-at Before d l o i j h hj) e)
+    go (no h) (yes k) = absurd (not-same (getD l j d) (getD l i d) (ordered-at Before d l o j i k hi) (sym e))
+    go (no h) (no k) = omega arith
 
 pub every-flag-once : EveryFlagOnce
 unfolding flags
@@ -158,7 +224,8 @@ every-flag-once s v = record {
     λ m. let w = to-of s (top s) 0 F m in record { ranks = w .long; peak = w .end; chain = w .chain },
     λ w. of-to s (top s) 0 F (record { long = w .ranks; end = w .peak; chain = w .chain }),
   );
-  once = once-at [] (flags s) (once-to s v (top s) 0);
+  once = once-at [] (flags s) (order-to s v (top s) 0);
+  order = ordered-at Before [] (flags s) (order-to s v (top s) 0);
 }
 
 -- ---- the first flag

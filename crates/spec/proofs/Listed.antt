@@ -1,8 +1,8 @@
--- The members that a search writes out with mark 1 are confirmed by the mark's rule; so demand 3 holds of them, and of the types call.
+-- The members that a search finds with mark 1 are confirmed by the mark's rule; and those that it writes out are among them.
 -- Assumes nothing.
 use mathlib.Core.Path.{_≡_, refl, sym, _∙_, ap, subst}
 use mathlib.Core.Logic.{_⊎_, inl, inr}
-use Prim.Native.Nat.{ℕ, zero, suc, _-_, _<_}
+use Prim.Native.Nat.{ℕ, suc, _-_}
 use mathlib.Core.Bool.{Bool, true, false, _&&_}
 use mathlib.Core.Option.{Option, none, some, Option·some-injective, Option·none-ne-some}
 use mathlib.Core.List.{List, [], _∷_}
@@ -23,9 +23,7 @@ use Rattle.spec.specs.Flags.{Flag, firstFlag, flags}
 use Rattle.spec.specs.Classes.{classTable, byTable, typesOf}
 use Rattle.spec.specs.Search.{Setting, Member, firstFar, exchanged, flagColumns, candidate, sameTypes, rowOf, examplesGo, markOf, tested, membersOf, isRotation, rotationsOf, full, allFinite, setting, search}
 use Rattle.spec.specs.Calls.{Room, Found, fits, fitting, keptOf, found, membersIn, rotationsIn}
-use Rattle.spec.specs.Passed.{Carried, Demand3Passed}
-use Rattle.spec.proofs.Demand3.{demand3}
-use Rattle.spec.proofs.Accepted.{never, same, bound-to, then-to, every-passed}
+use Rattle.spec.proofs.Accepted.{same, bound-to, then-to}
 
 -- ---- what a call writes out is among the members
 
@@ -47,7 +45,7 @@ kept-in (y ∷ l) kept x h = go (ltb (length kept) (length (y ∷ l))) h
     go true k = k
     go false k = k
 
-found-in : (o : Judged (Concrete × List Member)) (m : Room) (x : Member) → In x (found o m .members) → (y : Concrete × List Member) × (o ≡ passed y) × In x (y .1)
+pub found-in : (o : Judged (Concrete × List Member)) (m : Room) (x : Member) → In x (found o m .members) → (y : Concrete × List Member) × (o ≡ passed y) × In x (y .1)
 unfolding found
 found-in (refused why) m x h = absurd h
 found-in (passed y) m x h = (y, refl, fitting-in m (y .0 .dimension) (length (y .0 .points)) 0 (y .1) x (kept-in (y .1) _ x h))
@@ -120,33 +118,37 @@ search-mark c ms e x h k =
 
 -- ---- the calls
 
-module _ (b : List ℕ) (words floats : ℕ) (c : Concrete) (e : preflight b words floats ≡ passed c) where
-  members-mark : (y : Concrete × List Member) → membersIn b words floats ≡ passed y → (x : Member) → In x (y .1) → x .mark ≡ 1 → marked (c .abs) (byTable (classTable c)) (x .row) ≡ true
-  unfolding membersIn
-  members-mark y h x m k =
+-- of some members of a solid: with mark 1, a row is confirmed by the rule
+abbrev pub Ruled : Concrete × List Member → Type 0
+Ruled y = (x : Member) → In x (y .1) → x .mark ≡ 1 → marked (y .0 .abs) (byTable (classTable (y .0))) (x .row) ≡ true
+
+-- of a call's members: their solid is the sheet's, as read
+pub record Confirms (b : List ℕ) (words floats : ℕ) (o : Judged (Concrete × List Member)) : Type 0 where
+  pub read : (y : Concrete × List Member) → o ≡ passed y → preflight b words floats ≡ passed (y .0)
+  pub rule : (y : Concrete × List Member) → o ≡ passed y → Ruled y
+
+pub members-confirm : (b : List ℕ) (words floats : ℕ) → Confirms b words floats (membersIn b words floats)
+unfolding membersIn
+members-confirm b words floats = record {
+  read = λ y h.
       let h₁ = bound-to (preflight b words floats) _ y h in
       let h₂ = bound-to (search (h₁ .0)) _ y (h₁ .2) in
-      let q : h₁ .0 ≡ c = same (h₁ .0) c (sym (h₁ .1) ∙ e) in
-      let p = same _ y (h₂ .2) in
-      search-mark c (h₂ .0) (subst (λ (d : Concrete). search d ≡ passed (h₂ .0)) q (h₂ .1)) x (rw (← p) at m) k
+      h₁ .1 ∙ ap (λ (u : Concrete × List Member). passed (u .0)) (same _ y (h₂ .2));
+  rule = λ y h.
+      let h₁ = bound-to (preflight b words floats) _ y h in
+      let h₂ = bound-to (search (h₁ .0)) _ y (h₁ .2) in
+      subst Ruled (same _ y (h₂ .2)) (search-mark (h₁ .0) (h₂ .0) (h₂ .1));
+}
 
-  listed : (m : Room) (x : Member) → In x (found (membersIn b words floats) m .members) → x .mark ≡ 1 → marked (c .abs) (byTable (classTable c)) (x .row) ≡ true
-  listed m x h k = let r = found-in (membersIn b words floats) m x h in members-mark (r .0) (r .1) x (r .2) k
-
-  turned : (m : Room) (x : Member) → In x (found (rotationsIn b words floats) m .members) → x .mark ≡ 1 → marked (c .abs) (byTable (classTable c)) (x .row) ≡ true
-  unfolding rotationsIn
-  turned m x h k =
-      let r = found-in (rotationsIn b words floats) m x h in
-      let s = bound-to (membersIn b words floats) _ (r .0) (r .1) in
-      let p = same _ (r .0) (s .2) in
-      members-mark (s .0) (s .1) x (rotation-in (s .0 .1) x (rw (← p) at (r .2))) k
-
-pub demand3-passed : Demand3Passed
-unfolding typesOf
-demand3-passed b words floats c e z h xs a =
-    let d = demand3 (c .abs) (every-passed b words floats c e .sound) (byTable (classTable c)) z h xs a in
+pub rotations-confirm : (b : List ℕ) (words floats : ℕ) → Confirms b words floats (rotationsIn b words floats)
+unfolding rotationsIn
+rotations-confirm b words floats =
+    let w = members-confirm b words floats in
     record {
-      agree = d;
-      members = λ m x i k r f l. d .confirmed (x .row) (listed b words floats c e m x i k) r f l;
-      rotations = λ m x i k r f l. d .confirmed (x .row) (turned b words floats c e m x i k) r f l;
+      read = λ y h.
+          let s = bound-to (membersIn b words floats) _ y h in
+          w .read (s .0) (s .1) ∙ ap (λ (u : Concrete × List Member). passed (u .0)) (same _ y (s .2));
+      rule = λ y h.
+          let s = bound-to (membersIn b words floats) _ y h in
+          subst Ruled (same _ y (s .2)) (λ x m. w .rule (s .0) (s .1) x (rotation-in (s .0 .1) x m));
     }

@@ -156,7 +156,7 @@ member-shape d v w s (F ∷ l) x h = go (sameTypes w F) (tested w (candidate w F
     go true (some m) e (inl q) f = rw q (tested-shape d v w s (candidate w F) (candidate-shape d v w s F) m e)
     go true (some m) e (inr k) f = f k
 
-wanted-some : {A : Type 0} (why : Refusal) (o : Option A) (x : A) → Judging.wanted why o ≡ passed x → o ≡ some x
+pub wanted-some : {A : Type 0} (why : Refusal) (o : Option A) (x : A) → Judging.wanted why o ≡ passed x → o ≡ some x
 unfolding Judging.wanted
 wanted-some why none x e = absurd (never why x e)
 wanted-some why (some y) x e = ap some (same y x e)

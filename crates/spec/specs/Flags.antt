@@ -51,10 +51,19 @@ pub record IsFlag (s : Solid) (F : Flag) : Type 0 where
   pub peak : elementAt F (top s) ≡ 0
   pub chain : (r : ℕ) → r < top s → In (elementAt F r) (subs s (suc r) (elementAt F (suc r)))
 
--- `flags` lists the maximal chains, each once
+-- F comes before G: at some rank F's element is the lower, and at every rank above that one they have the same element.
+-- Subs are listed rising, so a later sub has a greater number. That is "the sub at rank 1 moving fastest": flags with the same elements at the ranks
+-- above 1 stand together, and among them the vertex rises; and so each rank moves faster than those above it.
+pub record Before (F G : Flag) : Type 0 where
+  pub rank : ℕ
+  pub lower : elementAt F rank < elementAt G rank
+  pub above : (q : ℕ) → rank < q → elementAt F q ≡ elementAt G q
+
+-- `flags` lists the maximal chains, each once, in the order of `Before`
 pub record Listed (s : Solid) : Type 0 where
   pub exact : (F : Flag) → In F (flags s) ↔ IsFlag s F
   pub once : (i j : ℕ) → i < length (flags s) → j < length (flags s) → getD (flags s) i [] ≡ getD (flags s) j [] → i ≡ j
+  pub order : (i j : ℕ) → i < j → j < length (flags s) → Before (getD (flags s) i []) (getD (flags s) j [])
 
 -- F and G differ exactly at r
 abbrev pub DifferAt : ℕ → Flag → Flag → Type 0

@@ -24,3 +24,7 @@ pub mod KitText
 pub mod Eval
 pub mod Passed
 pub mod CallLaws
+pub mod CallExamples
+pub mod FlagLaws
+pub mod TypeLaws
+pub mod Demand3Calls

@@ -1,25 +1,23 @@
--- What holds of every solid that passes preflight; and demand 3 of every such solid, by the distance classes of its sheet.
+-- What holds of every solid that passes preflight; and what the exchange of facets keeps.
 -- Assumes nothing.
 use mathlib.Core.Path.{_≡_}
 use mathlib.Core.Logic.{_≢_}
 use Prim.Native.Nat.{ℕ, suc, _-_, _≤_, _<_}
 use mathlib.Core.Bool.{true}
-use mathlib.Core.Option.{none, some}
+use mathlib.Core.Option.{none}
 use mathlib.Core.List.{List}
 use lib.ListN.{length}
 use lib.Ieee.{Float}
 use Rattle.spec.specs.Limits.{maxRank, maxDimension, maxCount}
 use Rattle.spec.specs.Lists.{In}
 use Rattle.spec.specs.Float.{inRange}
-use Rattle.spec.specs.Types.{Solid, top, size, subs, State, typeOf, start, Step, play}
-use Rattle.spec.specs.Demand.{Sound, AllProper, Agree}
+use Rattle.spec.specs.Types.{Solid, top, size, subs}
+use Rattle.spec.specs.Demand.{Sound}
 use Rattle.spec.specs.Judged.{passed}
 use Rattle.spec.specs.Sheet.{Parsed, readSheet}
 use Rattle.spec.specs.Solid.{Concrete, solidOf, bound, diamond, preflight}
-use Rattle.spec.specs.Classes.{classTable, byTable, typesOf}
-use Rattle.spec.specs.Mark.{goes}
-use Rattle.spec.specs.Search.{exchangedIn, Member}
-use Rattle.spec.specs.Calls.{Room, Found, found, membersIn, rotationsIn}
+use Rattle.spec.specs.Classes.{typesOf}
+use Rattle.spec.specs.Search.{exchangedIn}
 
 -- the sheet was read; the solid is the sheet's, as section 2 allows it; and 5 and 6 are not met
 pub record Passed (b : List ℕ) (c : Concrete) : Type 0 where
@@ -45,23 +43,6 @@ pub record Passed (b : List ℕ) (c : Concrete) : Type 0 where
 
 abbrev pub EveryPassed : Type 0
 EveryPassed = (b : List ℕ) (words floats : ℕ) (c : Concrete) → preflight b words floats ≡ passed c → Passed b c
-
--- Demand 3 of one sheet and one list of steps: S is the state after the steps, and z "what the types call gives out, the state when the sweeps end"
-pub record Carried (b : List ℕ) (words floats : ℕ) (c : Concrete) (S z : State) : Type 0 where
-  -- (a), (b), and (c) of any row that the mark's rule confirms
-  pub agree : Agree (c .abs) (byTable (classTable c)) S z
-  -- (c) of the "Listed members", "those that a search call writes out; at 13, those that fitted"
-  pub members : (m : Room) (x : Member) → In x (found (membersIn b words floats) m .members) → x .mark ≡ 1 → (r e : ℕ) → e < size (c .abs) r
-      → (goes (c .abs) (x .row) r e < size (c .abs) r) × (typeOf S r (goes (c .abs) (x .row) r e) ≡ typeOf S r e) × (typeOf z r (goes (c .abs) (x .row) r e) ≡ typeOf z r e)
-  pub rotations : (m : Room) (x : Member) → In x (found (rotationsIn b words floats) m .members) → x .mark ≡ 1 → (r e : ℕ) → e < size (c .abs) r
-      → (goes (c .abs) (x .row) r e < size (c .abs) r) × (typeOf S r (goes (c .abs) (x .row) r e) ≡ typeOf S r e) × (typeOf z r (goes (c .abs) (x .row) r e) ≡ typeOf z r e)
-
-abbrev pub Demand3Passed : Type 0
-Demand3Passed =
-    (b : List ℕ) (words floats : ℕ) (c : Concrete) → preflight b words floats ≡ passed c
-    → (z : State) → typesOf c ≡ some z
-    → (xs : List Step) → AllProper (c .abs) xs
-    → Carried b words floats c (play (c .abs) (start (c .abs) (byTable (classTable c))) xs) z
 
 -- the exchange of facets keeps what section 2 and the diamond ask, and every rank's size
 pub record Kept (s t : Solid) : Type 0 where

@@ -9,6 +9,7 @@ use lib.ListN.{getD}
 use Rattle.spec.specs.Lists.{distinct, renumber, count, holds, eqList, range, keep, sum, without, place, join}
 use Rattle.spec.specs.Mark.{every, noRepeats, inOrder, reach, vertices, vertexSets, image, goes, fits, marked}
 use Rattle.spec.specs.Types.{Solid, State, Classes, subs, sups, properRanks, elements, typeCount, startAt, start, key, keys, step, play, sweepSteps, sweep, settle, result, given, ElementType, elementTypesAt, elementTypes}
+use Rattle.spec.specs.Flags.{flags, flagsTo}
 
 abbrev pub alike : Classes
 alike r e = 0
@@ -24,6 +25,20 @@ square =
 pub square-types : result square alike ≡ some ((0 ∷ []) ∷ (0 ∷ 0 ∷ 0 ∷ 0 ∷ []) ∷ (0 ∷ 0 ∷ 0 ∷ 0 ∷ []) ∷ (0 ∷ []) ∷ [])
 unfolding result settle sweep sweepSteps play step keys key start startAt typeCount elements properRanks sups subs distinct renumber count holds eqList range keep sum without place
 square-types = refl
+
+-- its eight flags: each edge's two vertices in turn
+pub square-flags : flags square
+    ≡ (0 ∷ 0 ∷ 0 ∷ 0 ∷ [])
+    ∷ (0 ∷ 1 ∷ 0 ∷ 0 ∷ [])
+    ∷ (0 ∷ 1 ∷ 1 ∷ 0 ∷ [])
+    ∷ (0 ∷ 2 ∷ 1 ∷ 0 ∷ [])
+    ∷ (0 ∷ 2 ∷ 2 ∷ 0 ∷ [])
+    ∷ (0 ∷ 3 ∷ 2 ∷ 0 ∷ [])
+    ∷ (0 ∷ 0 ∷ 3 ∷ 0 ∷ [])
+    ∷ (0 ∷ 3 ∷ 3 ∷ 0 ∷ [])
+    ∷ []
+unfolding flags flagsTo subs join
+square-flags = refl
 
 abbrev pub prism : Solid
 prism =

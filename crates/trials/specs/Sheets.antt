@@ -13,6 +13,7 @@ use Rattle.spec.specs.declared.Answer.the-variants.{Done, Refused}
 use Rattle.spec.specs.Ascii.{ascii}
 use Rattle.spec.specs.Calls.{TypesOut, typesCall, SearchOut, searchCall, rotationsCall}
 use Rattle.spec.specs.KitText.{kitText}
+use Rattle.spec.specs.CallExamples.{dyad, lopsided, tiny, close}
 use Rattle.spec.specs.Eval.{evaluate}
 
 -- ---- sheets
@@ -40,26 +41,6 @@ rhombus =
     ∷ 0 ∷ 0 ∷ 0 ∷ 0 ∷ 255 ∷ 192 ∷ 0 ∷ 0 ∷ 0 ∷ 0 ∷ 0 ∷ 3 ∷ 0 ∷ 0 ∷ 0 ∷ 0 ∷ 0 ∷ 0 ∷ 0 ∷ 0 ∷ 0 ∷ 0 ∷ 0 ∷ 0
     ∷ 0 ∷ 0 ∷ 0 ∷ 0 ∷ 0 ∷ 0 ∷ 0 ∷ 0 ∷ 0 ∷ 0 ∷ 0 ∷ 2 ∷ 255 ∷ 192 ∷ 0 ∷ 0 ∷ 0 ∷ 0 ∷ 0 ∷ 0 ∷ 0 ∷ 128 ∷ 0 ∷ 1
     ∷ 0 ∷ 32 ∷ 2 ∷ 0 ∷ 128 ∷ 8 ∷ 1 ∷ 0 ∷ 48 ∷ 2 ∷ 0 ∷ 0 ∷ 12 ∷ []
-
--- "R = 2 at −1 and 1"
-abbrev pub dyad : List ℕ
-dyad =
-    68 ∷ 0 ∷ 175 ∷ 252 ∷ 0 ∷ 0 ∷ 0 ∷ 0 ∷ 0 ∷ 0 ∷ 15 ∷ 252 ∷ 0 ∷ 0 ∷ 0 ∷ 0 ∷ 0 ∷ 0 ∷ 0 ∷ []
-
--- "At 0 and 1"
-abbrev pub lopsided : List ℕ
-lopsided =
-    68 ∷ 0 ∷ 128 ∷ 0 ∷ 0 ∷ 0 ∷ 0 ∷ 0 ∷ 0 ∷ 0 ∷ 15 ∷ 252 ∷ 0 ∷ 0 ∷ 0 ∷ 0 ∷ 0 ∷ 0 ∷ 0 ∷ []
-
--- "At −1e-7 and 1e-7"
-abbrev pub tiny : List ℕ
-tiny =
-    68 ∷ 0 ∷ 175 ∷ 158 ∷ 181 ∷ 252 ∷ 166 ∷ 175 ∷ 43 ∷ 210 ∷ 15 ∷ 158 ∷ 181 ∷ 252 ∷ 166 ∷ 175 ∷ 43 ∷ 210 ∷ 0 ∷ []
-
--- "At 0 and 1e-7"
-abbrev pub close : List ℕ
-close =
-    68 ∷ 0 ∷ 128 ∷ 0 ∷ 0 ∷ 0 ∷ 0 ∷ 0 ∷ 0 ∷ 0 ∷ 15 ∷ 158 ∷ 181 ∷ 252 ∷ 166 ∷ 175 ∷ 43 ∷ 210 ∷ 0 ∷ []
 
 -- "R = 1": the vertex (1,2)
 abbrev pub single : List ℕ
@@ -174,15 +155,6 @@ tetrahedron =
     ∷ 0 ∷ 0 ∷ 0 ∷ 0 ∷ 0 ∷ 0 ∷ 8 ∷ 0 ∷ 0 ∷ 16 ∷ 2 ∷ 0 ∷ 0 ∷ 8 ∷ 0 ∷ 128 ∷ 0 ∷ 3 ∷ 0 ∷ 32 ∷ 2 ∷ 0 ∷ 128 ∷ 8
     ∷ 0 ∷ 128 ∷ 48 ∷ 2 ∷ 0 ∷ 64 ∷ 12 ∷ 0 ∷ 192 ∷ 0 ∷ 1 ∷ 0 ∷ 96 ∷ 6 ∷ 0 ∷ 0 ∷ 16 ∷ 4 ∷ 0 ∷ 48 ∷ 2 ∷ 0 ∷ 128 ∷ 40
     ∷ 1 ∷ 128 ∷ 48 ∷ 8 ∷ 1 ∷ 64 ∷ []
-
--- R = 2 at −1 and 1.00000009: the vertices share a distance class, and yet no member exchanges them
-abbrev pub unequal : List ℕ
-unequal =
-    68 ∷ 0 ∷ 175 ∷ 252 ∷ 0 ∷ 0 ∷ 0 ∷ 0 ∷ 0 ∷ 0 ∷ 15 ∷ 252 ∷ 0 ∷ 0 ∷ 6 ∷ 10 ∷ 48 ∷ 47 ∷ 128 ∷ []
-
-pub one-member : kitText unequal ≡ ascii "types 1\n1 0 0 2\nmembers 1 confirmed 1 rotations 1\n"
-unfolding evaluate
-one-member = refl
 
 -- six vertices that a mirror takes to one another within EPS, and their edges not
 abbrev pub crowded : List ℕ

@@ -16,7 +16,8 @@ use Rattle.spec.specs.Calls.{TypesOut, typesCall, SearchOut, searchCall, rotati
 use Rattle.spec.specs.KitText.{kitText}
 use Rattle.spec.specs.Eval.{evaluate}
 use Rattle.spec.specs.NumberExamples.{all}
-use Rattle.trials.specs.Sheets.{square, doubled, rhombus, dyad, lopsided, tiny, close, single}
+use Rattle.spec.specs.CallExamples.{dyad, lopsided, tiny, close}
+use Rattle.trials.specs.Sheets.{square, doubled, rhombus, single}
 use Rattle.trials.specs.AxisOrders.{forty-eight}
 
 -- ---- the calls as `kit` makes them
