@@ -39,7 +39,7 @@ pub same : {A : Type 0} (x y : A) → passed x ≡ passed y → x ≡ y
 same x y e = cc
 
 module _ {A B : Type 0} where
-  bound-by : (m : Reader A) (k : A → Reader B) (i : ℕ) (y : B × ℕ) → (m >>= k) i ≡ passed y → (x : A × ℕ) × (m i ≡ passed x) × (k (x .0) (x .1) ≡ passed y)
+  pub bound-by : (m : Reader A) (k : A → Reader B) (i : ℕ) (y : B × ℕ) → (m >>= k) i ≡ passed y → (x : A × ℕ) × (m i ≡ passed x) × (k (x .0) (x .1) ≡ passed y)
   unfolding _>>=_
   bound-by m k i y = go (m i) refl
     where
@@ -66,7 +66,7 @@ le-test m n e = leb→le m n (subst T (sym e) tt)
 -- ---- what the lists hold
 
 -- strictly rising, from `low` on, below c
-From : ℕ → ℕ → List ℕ → Type 0
+unfoldable pub From : ℕ → ℕ → List ℕ → Type 0
 From low c [] = Unit {0}
 From low c (x ∷ l) = (low ≤ x) × (x < c) × From (suc x) c l
 
@@ -92,7 +92,7 @@ Stack c [] = Unit {0}
 Stack c (ls ∷ more) = AllFrom c ls × Stack (length ls) more
 
 module _ (b : List ℕ) where
-  sub-read : (c n low i : ℕ) (y : List ℕ × ℕ) → subList b c n low i ≡ passed y → (length (y .0) ≡ n) × From low c (y .0)
+  pub sub-read : (c n low i : ℕ) (y : List ℕ × ℕ) → subList b c n low i ≡ passed y → (length (y .0) ≡ n) × From low c (y .0)
   unfolding subList done From
   sub-read c zero low i y e = subst (λ (z : List ℕ × ℕ). (length (z .0) ≡ 0) × From low c (z .0)) (same ([], i) y e) (refl, tt)
   sub-read c (suc n) low i y e =
@@ -148,7 +148,7 @@ times-read (suc n) m i y e =
     let h₂ = bound-by (times n m) _ _ y (h₁ .2) in
     ap (λ (z : List _ × ℕ). length (z .0)) (sym (same _ y (h₂ .2))) ∙ ap suc (times-read n m _ (h₂ .0) (h₂ .1))
 
-one-or : {A : Type 0} (P : A → Type 0) (x a : A) (l : List A) → In x (a ∷ l) → P a → (In x l → P x) → P x
+pub one-or : {A : Type 0} (P : A → Type 0) (x a : A) (l : List A) → In x (a ∷ l) → P a → (In x l → P x) → P x
 one-or P x a l (inl q) k r = rw q k
 one-or P x a l (inr m) k r = r m
 
@@ -191,7 +191,7 @@ module _ (b : List ℕ) (i : ℕ) where
 
 -- ---- lists that lie so make a solid as section 2 allows it
 
-from-in : (low c : ℕ) (l : List ℕ) → From low c l → (x : ℕ) → In x l → x < c
+pub from-in : (low c : ℕ) (l : List ℕ) → From low c l → (x : ℕ) → In x l → x < c
 unfolding From
 from-in low c (y ∷ l) w x (inl q) = rw q (w .1)
 from-in low c (y ∷ l) w x (inr m) = from-in (suc y) c l (w .2) x m
@@ -201,7 +201,7 @@ unfolding From
 from-above y c [] w = tt
 from-above y c (x ∷ l) w = (w .0, from-above x c l (w .2))
 
-from-rising : (low c : ℕ) (l : List ℕ) → From low c l → Rising l
+pub from-rising : (low c : ℕ) (l : List ℕ) → From low c l → Rising l
 unfolding From
 from-rising low c [] w = tt
 from-rising low c (x ∷ l) w = from-above x c l (w .2)

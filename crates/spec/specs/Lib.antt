@@ -28,3 +28,4 @@ pub mod CallExamples
 pub mod FlagLaws
 pub mod TypeLaws
 pub mod Demand3Calls
+pub mod Pack
