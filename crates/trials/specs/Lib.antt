@@ -1,3 +1,4 @@
 pub mod Sheets
 pub mod AxisOrders
 pub mod Trials
+pub mod Differences
