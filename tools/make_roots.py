@@ -1,0 +1,62 @@
+#!/usr/bin/env python3
+"""Makes the stored roots that program float_replay answers to: crates/float_replay/stdin (arguments) and stdout (roots), as bit patterns
+of eight bytes each, highest byte first. The answers are the machine's own square root. Run once; the files are kept.
+
+    python3 tools/make_roots.py
+
+Arguments: zeros, infinities, NaN, negatives; the smallest and largest subnormals and normals; every power of two; squares of whole
+numbers and of random 26-bit and 53-bit values with their two neighbours; 1,000 random patterns (Python's random, seed 20261115).
+"""
+import math
+import os
+import random
+import struct
+
+TOP = os.path.dirname(os.path.dirname(os.path.abspath(__file__)))
+NAN = 0x7FF8000000000000
+
+
+def value(n):
+    return struct.unpack(">d", struct.pack(">Q", n))[0]
+
+
+def pattern(x):
+    return NAN if x != x else struct.unpack(">Q", struct.pack(">d", x))[0]
+
+
+def root(n):
+    x = value(n)
+    if x != x or x < 0:
+        return NAN
+    return pattern(math.sqrt(x))
+
+
+def arguments():
+    rng = random.Random(20261115)
+    yield from (0, 1 << 63, 0x7FF0000000000000, 0xFFF0000000000000, NAN, 0xBFF0000000000000, 0x8000000000000001)
+    yield from (1, 2, 3, 4, 5, 0x000FFFFFFFFFFFFF, 0x0010000000000000, 0x0010000000000001, 0x7FEFFFFFFFFFFFFF, 0x7FEFFFFFFFFFFFFE)
+    for e in range(-1074, 1024):
+        yield pattern(math.ldexp(1.0, e))
+    for k in range(2, 40):
+        for d in (-1, 0, 1):
+            yield pattern(float(k * k)) + d
+    for bits in (26, 53):
+        for _ in range(60):
+            v = float(rng.getrandbits(bits) | 1 << (bits - 1))
+            for d in (-1, 0, 1):
+                yield pattern(v * v) + d
+    for _ in range(1000):
+        n = rng.getrandbits(64)
+        yield n if value(n) == value(n) else NAN
+
+
+def main():
+    folder = f"{TOP}/crates/float_replay"
+    with open(f"{folder}/stdin", "wb") as given, open(f"{folder}/stdout", "wb") as answers:
+        for n in arguments():
+            given.write(struct.pack(">Q", n))
+            answers.write(struct.pack(">Q", root(n)))
+
+
+if __name__ == "__main__":
+    main()
