@@ -10,10 +10,10 @@ use native.Mathlib.Omega.{arith}
 use native.Mathlib.Nat.{not-suc-le-zero}
 use lib.ListN.{length, getD}
 use lib.Dec.{T, eqb, ltb, ltb→lt}
-use Rattle.spec.specs.Lists.{In, holds, place, eqList, range, keep}
+use Rattle.spec.specs.Lists.{In, holds, place, eqList, range, keep, every}
 use Rattle.spec.specs.Types.{Solid, top, size, subs, properRanks, isProper, Classes, State, typeOf, start, Step, play, result}
 use Rattle.spec.specs.Demand.{Sound, Proper, AllProper, Carries}
-use Rattle.spec.specs.Mark.{every, noRepeats, inOrder, reach, vertices, vertexSets, image, goes, fits, marked}
+use Rattle.spec.specs.Mark.{noRepeats, inOrder, reach, vertices, vertexSets, image, goes, fits, marked}
 use Rattle.spec.proofs.Distinct.{Test, Once, Split, split, in?, place-at, place-inj}
 use Rattle.spec.proofs.Lists.{in-getD, in-place, map-in, in-map, in-range, of-range, getD-table, length-table}
 use Rattle.spec.proofs.Counts.{numbers, lists, keep-in, in-keep, holds-in, in-holds}

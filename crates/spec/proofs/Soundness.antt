@@ -8,10 +8,10 @@ use mathlib.Core.List.{List, [], _∷_}
 use native.Mathlib.Omega.{arith}
 use lib.ListN.{length, getD}
 use lib.Dec.{eqb, ltb, lit<}
-use Rattle.spec.specs.Lists.{In, eqList, range, without, distinct, place, renumber, count, holds, keep, sum}
+use Rattle.spec.specs.Lists.{In, eqList, range, without, distinct, place, renumber, count, holds, keep, sum, every}
 use Rattle.spec.specs.Types.{Solid, top, size, subs, sups, properRanks, elements, typeCount, typeOf, startAt, start, key, keys, Step, up, down, step, play, sweepSteps, sweep, settle, result}
 use Rattle.spec.specs.Demand.{RisingAbove, Rising, Sound, AllProper}
-use Rattle.spec.specs.Mark.{every, goes}
+use Rattle.spec.specs.Mark.{goes}
 use Rattle.spec.specs.SolidExamples.{square, prism, point, dot, alike, square-types, quarter}
 use Rattle.spec.proofs.Counts.{numbers, lists}
 use Rattle.spec.proofs.Marked.{both, lt-test, every-both, every-in}

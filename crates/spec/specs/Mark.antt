@@ -5,19 +5,18 @@ use mathlib.Core.Bool.{Bool, true, false, not, _&&_}
 use mathlib.Core.List.{List, [], _∷_, map}
 use lib.ListN.{length, getD}
 use lib.Dec.{eqb, ltb}
-use Rattle.spec.specs.Lists.{holds, place, eqList, range, keep, join}
-unfoldable pub use Rattle.spec.specs.Lists.{every}
+use Rattle.spec.specs.Lists.{holds, place, eqList, range, keep, join, every}
 use Rattle.spec.specs.Types.{Solid, size, subs, properRanks, isProper, Classes}
 
 unfoldable pub noRepeats : {A : Type 0} → (A → A → Bool) → List A → Bool
 noRepeats same [] = true
 noRepeats same (x ∷ l) = not (holds same x l) && noRepeats same l
 
--- the numbers below n that l holds, rising
+-- the numbers below n that l holds, each once: "used in rising order"
 unfoldable pub inOrder : ℕ → List ℕ → List ℕ
 inOrder n l = keep (λ v. holds eqb v l) (range 0 n)
 
--- the vertices met by going down e's subs rank by rank; in rising order
+-- "An element's vertices are those met by going down its subs rank by rank until vertices are reached. They are used in rising order"
 unfoldable pub reach : Solid → ℕ → ℕ → List ℕ
 reach s zero e = []
 reach s (suc zero) e = e ∷ []
@@ -34,17 +33,19 @@ vertexSets s r = map (vertices s r) (range 0 (size s r))
 unfoldable pub image : Solid → List ℕ → ℕ → ℕ → List ℕ
 image s row r e = inOrder (size s 1) (map (λ v. getD row v 0) (vertices s r e))
 
--- where e goes: to the element whose vertex set is the image of its own (the rank's size, if there is none); the least and the top to themselves
+-- where e goes: "the one whose vertex set is the image of its own" (the rank's size, if there is none); "the least and the top to themselves"
 unfoldable pub goes : Solid → List ℕ → ℕ → ℕ → ℕ
 goes s row r e = elim (isProper s r) [ true ↦ place eqList (image s row r e) (vertexSets s r) | false ↦ e ]
 
--- e goes to an element of its rank and class, and its subs go exactly onto that element's subs
+-- "every proper element goes to an element of its rank and distance class .., and its subs go exactly onto that element's subs"
 unfoldable pub fits : Solid → Classes → List ℕ → ℕ → ℕ → Bool
 fits s cls row r e =
     ltb (goes s row r e) (size s r)
     && eqb (cls r (goes s row r e)) (cls r e)
     && eqList (subs s r (goes s row r e)) (inOrder (size s (pred r)) (map (goes s row (pred r)) (subs s r e)))
 
+-- "confirmed, 1, exactly when ..: no two elements of a rank have one vertex set, the row repeats no vertex", and every proper element fits. A row has an entry for each
+-- vertex, and its entries are vertices, where a search makes it: both are asked here so that the rule is one of any row
 unfoldable pub marked : Solid → Classes → List ℕ → Bool
 marked s cls row =
     every (λ r. noRepeats eqList (vertexSets s r)) (properRanks s)

@@ -8,9 +8,9 @@ use lib.ListN.{length, getD, set}
 use lib.Dec.{leb, ltb, eqb}
 use lib.Ieee.{Float, lt}
 use Rattle.spec.specs.declared.Refusal.the-variants.{NotFull, DoubleCorner, Centred, Flat, Unsettled}
-use Rattle.spec.specs.Lists.{holds, eqList, range, join}
+use Rattle.spec.specs.Lists.{holds, eqList, range, join, every}
 use Rattle.spec.specs.Types.{Solid, top, size, properRanks, State, typeOf, elementTypesAt}
-use Rattle.spec.specs.Mark.{every, noRepeats, vertices, vertexSets, marked}
+use Rattle.spec.specs.Mark.{noRepeats, vertices, vertexSets, marked}
 use Rattle.spec.specs.Float.{eps, zeroF, finite}
 use Rattle.spec.specs.Matrix.{Matrix, columns, mulVec, mulMat, inverse, determinant}
 use Rattle.spec.specs.Copying.{near, find}

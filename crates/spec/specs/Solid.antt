@@ -7,9 +7,8 @@ use lib.ListN.{length, getD, replicate}
 use lib.Dec.{leb, ltb, eqb}
 use lib.Ieee.{Float}
 use Rattle.spec.specs.declared.Refusal.the-variants.{Loose, Mitre, Bench}
-use Rattle.spec.specs.Lists.{holds, range, keep, sum}
+use Rattle.spec.specs.Lists.{holds, range, keep, sum, every}
 use Rattle.spec.specs.Types.{Solid, top, size, subs, sups, properRanks, elements}
-use Rattle.spec.specs.Mark.{every}
 use Rattle.spec.specs.Judged.{Judged, _>>=_, _>>_, judge, passed}
 use Rattle.spec.specs.Sheet.{Parsed, readSheet}
 

@@ -6,8 +6,8 @@ use mathlib.Core.Bool.{Bool, true, false}
 use mathlib.Core.Option.{Option, none, some}
 use mathlib.Core.List.{List, [], _∷_}
 use lib.ListN.{getD}
-use Rattle.spec.specs.Lists.{distinct, renumber, count, holds, eqList, range, keep, sum, without, place, join}
-use Rattle.spec.specs.Mark.{every, noRepeats, inOrder, reach, vertices, vertexSets, image, goes, fits, marked}
+use Rattle.spec.specs.Lists.{distinct, renumber, count, holds, eqList, range, keep, sum, without, place, join, every}
+use Rattle.spec.specs.Mark.{noRepeats, inOrder, reach, vertices, vertexSets, image, goes, fits, marked}
 use Rattle.spec.specs.Types.{Solid, State, Classes, subs, sups, properRanks, elements, typeCount, startAt, start, key, keys, step, play, sweepSteps, sweep, settle, result, given, ElementType, elementTypesAt, elementTypes}
 use Rattle.spec.specs.Flags.{flags, flagsTo}
 

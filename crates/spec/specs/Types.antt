@@ -1,4 +1,4 @@
--- Section 4 of the scope: the types of a solid's elements. And what demand 3 says of them.
+-- Section 2's solids as plain lists, and section 4: the types of a solid's elements, by steps and sweeps.
 -- Assumes nothing.
 use mathlib.Core.Path.{_≡_}
 use mathlib.Core.Logic.{_≢_, _↔_}
@@ -12,11 +12,11 @@ use Rattle.spec.specs.Lists.{distinct, place, renumber, count, holds, eq
 
 -- ---- solids
 
--- For each rank from 0 to R, for each of its elements, the element's subs: their numbers, one rank below
+-- For each rank from 0 to R, for each of its elements, the element's subs by their numbers: "Subs of an element lie one rank below, sups one above"
 abbrev pub Solid : Type 0
 Solid = List (List (List ℕ))
 
--- R, the rank of the top
+-- "the top rank R"
 abbrev pub top : Solid → ℕ
 top s = length s - 1
 
@@ -27,25 +27,25 @@ size s r = length (getD s r [])
 unfoldable pub subs : Solid → ℕ → ℕ → List ℕ
 subs s r e = getD (getD s r []) e []
 
--- the elements one rank above that have e as a sub, rising
+-- the elements one rank above that have e as a sub: "Sups are derived, rising"
 unfoldable pub sups : Solid → ℕ → ℕ → List ℕ
 sups s r e = keep (λ f. holds eqb e (subs s (suc r) f)) (range 0 (size s (suc r)))
 
--- the proper ranks, 1 to R - 1
+-- "ranks 1 to R−1 are proper"
 unfoldable pub properRanks : Solid → List ℕ
 properRanks s = range 1 (top s - 1)
 
--- E, the number of proper elements
+-- "E counts proper elements"
 unfoldable pub elements : Solid → ℕ
 elements s = sum (map (λ r. size s r) (properRanks s))
 
--- the distance class of each element: by rank, then number. Only proper elements' are read
+-- the distance class of each element (section 3), as a number: by rank, then element. Only proper elements' are read
 abbrev pub Classes : Type 0
 Classes = ℕ → ℕ → ℕ
 
 -- ---- states
 
--- the type of each element: by rank, then number
+-- "State: a type number for each element": by rank, then element
 abbrev pub State : Type 0
 State = List (List ℕ)
 
@@ -55,7 +55,7 @@ typesAt S r = getD S r []
 abbrev pub typeOf : State → ℕ → ℕ → ℕ
 typeOf S r e = getD (typesAt S r) e 0
 
--- the number of types, over the proper ranks
+-- "the number of types", over the proper ranks: ranks 0 and R have one each, always
 unfoldable pub typeCount : Solid → State → ℕ
 typeCount s S = sum (map (λ r. length (distinct eqb (typesAt S r))) (properRanks s))
 
@@ -64,7 +64,8 @@ typeCount s S = sum (map (λ r. length (distinct eqb (typesAt S r))) (properRank
 abbrev pub isProper : Solid → ℕ → Bool
 isProper s r = ltb 0 r && ltb r (top s)
 
--- a proper rank's elements share a type exactly when they share a class; ranks 0 and R have type 0 only
+-- "Start: elements of a proper rank share a type exactly when they share a distance class"; "ranks 0 and R have type 0 only"; "numbers go from 0 in each rank by
+-- first appearance, at the start too"
 unfoldable pub startAt : Solid → Classes → ℕ → List ℕ
 startAt s cls r = elim (isProper s r) [ true ↦ renumber eqb (map (cls r) (range 0 (size s r))) | false ↦ replicate (size s r) 0 ]
 
@@ -73,12 +74,12 @@ start s cls = map (startAt s cls) (range 0 (length s))
 
 -- ---- steps
 
--- a step, at a rank
+-- "Step up at proper rank r", "Step down"
 pub data Step : Type 0 where
   up : ℕ → Step
   down : ℕ → Step
 
--- the rank that it is at, the rank that it looks to, and an element's neighbours there
+-- the rank that it is at; the rank that it looks to, r−1 or r+1; and an element's neighbours there, its subs or its sups
 abbrev pub at : Step → ℕ
 at (up r) = r
 at (down r) = r
@@ -91,12 +92,13 @@ abbrev pub near : Solid → Step → ℕ → List ℕ
 near s (up r) e = subs s r e
 near s (down r) e = sups s r e
 
--- What a step tells elements apart by. Of an element of type t with the neighbours es: t, and for every type in the
--- list `types`, the types of the rank looked to, how many of es have that type
+-- "two elements there still share a type exactly when they shared one and, for every type of rank r−1, have as many subs of it. Step down: the same with sups and rank
+-- r+1". What a step tells elements apart by: of an element of type t with the neighbours es, t, and for every type in the list `types`, the types of the rank looked
+-- to, how many of es have that type
 unfoldable pub key : List ℕ → ℕ → List ℕ → List ℕ
 key types t es = t ∷ map (λ k. count eqb k (map (λ e. getD types e 0) es)) (distinct eqb types)
 
--- the keys of the elements of the step's rank, and their new types
+-- the keys of the elements of the step's rank; and the state after it: "Other ranks keep theirs; numbers go from 0 in each rank by first appearance"
 unfoldable pub keys : Solid → State → Step → List (List ℕ)
 keys s S x = map (λ e. key (typesAt S (next x)) (typeOf S (at x) e) (near s x e)) (range 0 (size s (at x)))
 
@@ -110,30 +112,31 @@ play s S (x ∷ xs) = play s (step s S x) xs
 
 -- ---- sweeps
 
+-- "A sweep is up at 1 to R−1, then down at R−1 to 1"
 unfoldable pub sweepSteps : Solid → List Step
 sweepSteps s = map up (properRanks s) ++ map down (reverse (properRanks s))
 
 unfoldable pub sweep : Solid → State → State
 sweep s S = play s S (sweepSteps s)
 
--- at most n sweeps, from S: what the first that leaves the number of types unchanged gives, or none
+-- "Sweeps end when one leaves the number of types unchanged": what that one gives, or none where n sweeps are done before
 unfoldable pub settle : Solid → ℕ → State → Option State
 settle s zero S = none
 settle s (suc n) S =
     let S′ = sweep s S in
     elim (eqb (typeCount s S′) (typeCount s S)) [ true ↦ some S′ | false ↦ settle s n S′ ]
 
--- The result: the first sweep never ends it, and E + 2 are the most. None is refusal 15, unsettled
+-- ".. the first never". None is refusal 15, "E + 2 sweeps done, still changing"
 unfoldable pub result : Solid → Classes → Option State
 result s cls = settle s (elements s + 1) (sweep s (start s cls))
 
 -- ---- what is given out
 
--- the type of each proper element, by rising rank and number
+-- "The result gives the type of each proper element, by rising rank and index"
 unfoldable pub given : Solid → State → List ℕ
 given s z = join (map (typesAt z) (properRanks s))
 
--- a type: its rank, its number, its example (the lowest element that has it), and how many have it
+-- "and for each type its example (lowest element) and count": with its rank and number
 pub record ElementType : Type 0 where
   pub rank : ℕ
   pub number : ℕ
