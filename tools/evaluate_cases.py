@@ -5,7 +5,8 @@
 
 FOLDER has NAME.sheet with the answers NAME.kit, NAME.types, NAME.search and NAME.rotations, and NAME.copytext with NAME.copy. Each
 answer becomes a closed example, `call sheet .. ≡ answer` by `refl`, in a temporary repository beside a copy of crate `spec`. Printed
-for each answer: `agrees`, `DIFFERS`, or `too long` (antt stops one evaluation at 50 million steps; or 300 seconds).
+for each answer: `agrees`, `DIFFERS`, or `too long` (antt stops one evaluation at 50 million steps; or 300 seconds). The exit status is 0
+where every answer agrees, 1 where one differs, and 2 where none differs and one was too long.
 """
 import os
 import re
@@ -138,7 +139,7 @@ def main():
                 cases += [(f"{name}.{e}", search(folder, name, sheet, call, e))] if os.path.exists(f"{folder}/{name}.{e}") else []
         elif ending == ".copytext" and os.path.exists(f"{folder}/{name}.copy"):
             cases.append((f"{name}.copy", copy(folder, name)))
-    bad = 0
+    bad = long = 0
     crate = f"{work}/crates/one"
     os.makedirs(f"{crate}/src")
     os.makedirs(f"{crate}/specs")
@@ -150,15 +151,17 @@ def main():
         try:
             r = subprocess.run(["rt", "check", "one"], cwd=work, capture_output=True, text=True, timeout=300)
             text = r.stdout + r.stderr
-            verdict = "agrees" if r.returncode == 0 else "too long" if re.search(r"steps|limit|too long|overran", text) else "DIFFERS"
+            # only the evaluation's own limit counts as too long; any other refusal is a difference
+            verdict = "agrees" if r.returncode == 0 else "too long" if "stopped at the step limit" in text else "DIFFERS"
             if verdict == "DIFFERS":
                 bad += 1
                 print(text[-600:])
         except subprocess.TimeoutExpired:
             verdict = "too long"
+        long += verdict == "too long"
         print(f"{label}: {verdict}", flush=True)
     shutil.rmtree(work)
-    return 1 if bad else 0
+    return 1 if bad else 2 if long else 0
 
 
 if __name__ == "__main__":

@@ -1,8 +1,7 @@
 #!/usr/bin/env python3
-"""Makes the stored roots that program float_replay answers to: crates/float_replay/stdin (arguments) and stdout (roots), as bit patterns
-of eight bytes each, highest byte first. The answers are the machine's own square root. Run once; the files are kept.
-
-    python3 tools/make_roots.py
+"""Makes the stored roots that program float_replay answers to, at the start of crates/float_replay/stdin and stdout: for each argument
+a 0 and its bit pattern, and the root's pattern, as numbers of eight bytes, highest byte first. The answers are the machine's own square
+root. tools/make_float_replay.sh runs it.
 
 Arguments: zeros, infinities, NaN, negatives; the smallest and largest subnormals and normals; every power of two; squares of whole
 numbers and of random 26-bit and 53-bit values with their two neighbours; 1,000 random patterns (Python's random, seed 20261115).
@@ -54,7 +53,7 @@ def main():
     folder = f"{TOP}/crates/float_replay"
     with open(f"{folder}/stdin", "wb") as given, open(f"{folder}/stdout", "wb") as answers:
         for n in arguments():
-            given.write(struct.pack(">Q", n))
+            given.write(struct.pack(">QQ", 0, n))
             answers.write(struct.pack(">Q", root(n)))
 
 

@@ -1,3 +1,10 @@
-// The numbers of document 01, section 1: 64-bit floats, each operation rounded once.
+// The numbers of document 01, section 1: 64-bit floats, each operation rounded once; the tolerance, the root, vectors and matrices.
 pub mod bits;
+pub mod elimination;
+pub mod matrix;
 pub mod root;
+pub mod tolerance;
+pub mod vector;
+
+// The largest dimension. Every array is this wide, or twice as wide in the elimination.
+pub const DIMENSION: usize = 4;

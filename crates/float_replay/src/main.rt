@@ -1,6 +1,15 @@
-// Reads bit patterns of 64-bit floats, eight bytes each, highest byte first, and writes the pattern of each one's root.
-// tools/make_roots.py made stdin and stdout.
-ghost use Prim.Native.Nat.{_<_, _^_};
+// Replays stored arithmetic: reads records of eight-byte numbers, highest byte first, and writes the answers in the same form. A record
+// is a 0 and a float's bit pattern, answered by its root's; or a dimension from 1 to 4 and a matrix's patterns row by row, answered by 1
+// and its inverse (or by 0 where it is singular), its determinant, its product with itself, and the image of its first row.
+// tools/make_float_replay.sh made stdin and stdout.
+ghost use Prim.Native.Nat.{_<_, _≤_, _^_};
+ghost use mathlib.Core.Path.{_≡_};
+use float::bits;
+use float::elimination::Answer;
+use float::matrix;
+
+// What stands at the end of the input in place of a dimension.
+const END: u64 = 5;
 
 fn wide(x: u8) -> u64
     ensures { λ r. ⌜ r < 256 ⌝ }
@@ -14,12 +23,18 @@ fn half(a: u8, b: u8, c: u8, d: u8) -> u64
     wide(a) * 0x100_0000 + wide(b) * 0x1_0000 + wide(c) * 0x100 + wide(d)
 }
 
-fn number(b: &[u8; 8]) -> u64 {
+// The next number of the input, or END.
+fn next() -> u64 {
+    let mut b = [0u8; 8];
+    let got = io::read_full(0, &mut b);
+    if got < 8 {
+        return END;
+    }
     half(b[0], b[1], b[2], b[3]) * 0x1_0000_0000 + half(b[4], b[5], b[6], b[7])
 }
 
-fn bytes(n: u64) -> [u8; 8] {
-    [
+fn write(n: u64) -> bool {
+    let b = [
         (n / 0x100_0000_0000_0000 % 256) as u8,
         (n / 0x1_0000_0000_0000 % 256) as u8,
         (n / 0x100_0000_0000 % 256) as u8,
@@ -28,19 +43,95 @@ fn bytes(n: u64) -> [u8; 8] {
         (n / 0x1_0000 % 256) as u8,
         (n / 0x100 % 256) as u8,
         (n % 256) as u8,
-    ]
+    ];
+    io::write_all(1, &b)
 }
 
-// One pattern; whether there may be more.
-fn replay_one() -> bool {
-    let mut buf = [0u8; 8];
-    let got = io::read_full(0, &mut buf);
-    if got < 8 {
-        return false;
+fn write_float(x: f64) -> bool {
+    write(bits::pattern(x))
+}
+
+fn read_row(d: usize) -> [f64; 4]
+    requires { ⌜ d ≤ 4 ⌝ }
+{
+    let mut row = [0.0; 4];
+    let mut j: usize = 0;
+    while j < d {
+        row[j] = bits::from_pattern(next());
+        j += 1;
     }
-    let root = float::root::root(float::bits::from_pattern(number(&buf)));
-    let out = bytes(float::bits::pattern(root));
-    io::write_all(1, &out)
+    row
+}
+
+fn read_matrix(d: usize) -> [[f64; 4]; 4]
+    requires { ⌜ d ≤ 4 ⌝ }
+{
+    let mut m = [[0.0; 4]; 4];
+    let mut i: usize = 0;
+    while i < d {
+        m[i] = read_row(d);
+        i += 1;
+    }
+    m
+}
+
+fn write_row(row: [f64; 4], d: usize) -> bool
+    requires { ⌜ d ≤ 4 ⌝ }
+{
+    let mut j: usize = 0;
+    while j < d {
+        if !write_float(row[j]) {
+            return false;
+        }
+        j += 1;
+    }
+    true
+}
+
+fn write_matrix(m: [[f64; 4]; 4], d: usize) -> bool
+    requires { ⌜ d ≤ 4 ⌝ }
+{
+    let mut i: usize = 0;
+    while i < d {
+        if !write_row(m[i], d) {
+            return false;
+        }
+        i += 1;
+    }
+    true
+}
+
+fn write_inverse(m: [[f64; 4]; 4], d: usize) -> bool
+    requires { ⌜ d ≤ 4 ⌝ }
+{
+    let inverse = matrix::inverse(m, d);
+    let answer = inverse.answer;
+    match answer {
+        Answer::Singular => write(0),
+        Answer::Regular => write(1) && write_matrix(matrix::rows(inverse), d),
+    }
+}
+
+fn replay_matrix(d: usize) -> bool
+    requires { ⌜ d ≤ 4 ⌝ }
+{
+    let m = read_matrix(d);
+    write_inverse(m, d)
+        && write_float(matrix::determinant(m, d))
+        && write_matrix(matrix::product(m, m, d), d)
+        && write_row(matrix::image(m, m[0], d), d)
+}
+
+// One record; whether there may be more.
+fn replay_one() -> bool {
+    let tag = next();
+    if tag == 0 {
+        return write_float(float::root::root(bits::from_pattern(next())));
+    }
+    if tag < END {
+        return replay_matrix(tag as usize);
+    }
+    false
 }
 
 fn main() {

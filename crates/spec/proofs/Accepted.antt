@@ -539,6 +539,7 @@ every-passed b words floats c e =
       solid = ap (λ (x : Concrete). x .abs) (sym q);
       rank = subst (λ (x : Concrete). top (x .abs) ≡ p .rank) q (rank-of p w);
       dimension = ap (λ (x : Concrete). x .dimension) (sym q);
+      same-points = ap (λ (x : Concrete). x .points) (sym q);
       tall = subst (λ (x : Concrete). top (x .abs) ≤ maxRank) q (rw (rank-of p w) (w .tall));
       wide = subst (λ (x : Concrete). x .dimension ≤ maxDimension) q (w .wide);
       sizes = subst (λ (x : Concrete). (r : ℕ) → r ≤ top (x .abs) → (0 < size (x .abs) r) × (size (x .abs) r ≤ maxCount)) q (sizes-of p w);

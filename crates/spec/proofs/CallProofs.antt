@@ -20,7 +20,7 @@ use Rattle.spec.specs.Judged.{Judged, refused, passed}
 use Rattle.spec.specs.Copying.{written}
 use Rattle.spec.specs.Solid.{Concrete, preflight}
 use Rattle.spec.specs.Search.{Member}
-use Rattle.spec.specs.Calls.{Given, typeCells, TypesOut, typesGiven, typesWritten, typesCall, Room, Found, fitting, keptOf, found, membersIn, rotationsIn, SearchOut, roomOf, searchWritten, searchCall, rotationsCall}
+use Rattle.spec.specs.Calls.{Given, typeCells, TypesOut, typesGiven, typesWritten, typesCall, Room, Outcome, fitting, keptOf, outcome, membersIn, rotationsIn, SearchOut, roomOf, searchWritten, searchCall, rotationsCall}
 use Rattle.spec.specs.CallLaws.{SameLengths, SearchLaws, CallLaws}
 use Rattle.spec.proofs.Marked.{both}
 use Rattle.spec.proofs.Accepted.{same, bound-to, then-to, tested, le-test}
@@ -35,7 +35,7 @@ same-refusal why other k l e = cc
 pub counted : (n m : ℕ) → Done n ≡ Done m → n ≡ m
 counted n m e = cc
 
-unfoldable pub choose : (kept : List Member) → Bool → Found
+unfoldable pub choose : (kept : List Member) → Bool → Outcome
 choose kept b = elim b [ true ↦ record { answer = Refused ShortSheet (length kept); members = kept } | false ↦ record { answer = Done (length kept); members = kept } ]
 
 kept-some : (l kept : List Member) (n : ℕ) → keptOf l kept .answer ≡ Done n → 0 < n
@@ -58,21 +58,21 @@ kept-none (x ∷ l) kept why k e h = go (ltb (length kept) (length (x ∷ l))) e
     go true e = absurd (h (sym (same-refusal ShortSheet why (length kept) k e)))
     go false e = absurd (apart why k (length kept) (sym e))
 
-found-some : (o : Judged (Concrete × List Member)) (m : Room) (n : ℕ) → found o m .answer ≡ Done n → 0 < n
-unfolding found
+found-some : (o : Judged (Concrete × List Member)) (m : Room) (n : ℕ) → outcome o m .answer ≡ Done n → 0 < n
+unfolding outcome
 found-some (refused k) m n e = absurd (apart k 0 n e)
 found-some (passed x) m n e = kept-some (x .1) (fitting m (x .0 .dimension) (length (x .0 .points)) 0 (x .1)) n e
 
-found-none : (o : Judged (Concrete × List Member)) (m : Room) (why : Refusal) (k : ℕ) → found o m .answer ≡ Refused why k → why ≢ ShortSheet → found o m .members ≡ []
-unfolding found
+found-none : (o : Judged (Concrete × List Member)) (m : Room) (why : Refusal) (k : ℕ) → outcome o m .answer ≡ Refused why k → why ≢ ShortSheet → outcome o m .members ≡ []
+unfolding outcome
 found-none (refused j) m why k e h = refl
 found-none (passed x) m why k e h = kept-none (x .1) (fitting m (x .0 .dimension) (length (x .0 .points)) 0 (x .1)) why k e h
 
-same-out : (f : Found) (old : SearchOut) → f .members ≡ [] → searchWritten f old .1 ≡ old
+same-out : (f : Outcome) (old : SearchOut) → f .members ≡ [] → searchWritten f old .1 ≡ old
 unfolding searchWritten written join
 same-out f old q = ap (λ (l : List Member). searchWritten (record { answer = f .answer; members = l }) old .1) q
 
-search-lengths : (o : Judged (Concrete × List Member)) → Shaped o → (old : SearchOut) → SameLengths old (searchWritten (found o (roomOf old)) old .1)
+search-lengths : (o : Judged (Concrete × List Member)) → Shaped o → (old : SearchOut) → SameLengths old (searchWritten (outcome o (roomOf old)) old .1)
 unfolding searchWritten roomOf
 search-lengths o s old =
     let c = found-cells o s (roomOf old) in
@@ -82,11 +82,11 @@ search-lengths o s old =
       marks = written-length _ (old .marks) (c .marks);
     }
 
-search-laws : (inside : List ℕ → ℕ → ℕ → Judged (Concrete × List Member)) → ((b : List ℕ) (words floats : ℕ) → Shaped (inside b words floats)) → SearchLaws (λ b words floats old. searchWritten (found (inside b words floats) (roomOf old)) old)
+search-laws : (inside : List ℕ → ℕ → ℕ → Judged (Concrete × List Member)) → ((b : List ℕ) (words floats : ℕ) → Shaped (inside b words floats)) → SearchLaws (λ b words floats old. searchWritten (outcome (inside b words floats) (roomOf old)) old)
 unfolding searchWritten
 search-laws inside shaped = record {
   some-member = λ b words floats old n e. found-some (inside b words floats) (roomOf old) n e;
-  untouched = λ b words floats old why k e h. same-out (found (inside b words floats) (roomOf old)) old (found-none (inside b words floats) (roomOf old) why k e h);
+  untouched = λ b words floats old why k e h. same-out (outcome (inside b words floats) (roomOf old)) old (found-none (inside b words floats) (roomOf old) why k e h);
   lengths = λ b words floats old. search-lengths (inside b words floats) (shaped b words floats) old;
 }
 

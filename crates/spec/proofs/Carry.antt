@@ -11,7 +11,7 @@ use native.Mathlib.Omega.{arith}
 use lib.ListN.{length, getD, replicate, getD-replicate, length-map, List·getD-eq-default}
 use lib.Dec.{T, eqb, ltb, ltb→lt, lt→ltb}
 use Rattle.spec.specs.Lists.{In, renumber, count, holds, range, keep}
-use Rattle.spec.specs.Types.{Solid, top, size, subs, sups, Classes, State, typesAt, typeOf, isProper, startAt, start, Step, up, down, at, next, near, key, step}
+use Rattle.spec.specs.Types.{Solid, top, size, subs, sups, Classes, State, typesAt, typeOf, isProper, startAt, start, Step, up, down, at, next, neighbours, key, step}
 use Rattle.spec.specs.Demand.{RisingAbove, Rising, Sound, Proper, Carries}
 use Rattle.spec.proofs.Distinct.{Once, pigeons, in?}
 use Rattle.spec.proofs.Lists.{map-same, map-map, map-in, in-map, Injective, once-map, in-range, of-range, once-range, length-range, getD-table, length-table}
@@ -31,7 +31,7 @@ rising-once [] h = tt
 rising-once (x ∷ []) h = (λ k. k, tt)
 rising-once (x ∷ y ∷ l) h = (λ k. let n = above x x (y ∷ l) h k in omega arith, rising-once (y ∷ l) (h .1))
 
-once-near : (s : Solid) → Sound s → (x : Step) (e : ℕ) → Once (near s x e)
+once-near : (s : Solid) → Sound s → (x : Step) (e : ℕ) → Once (neighbours s x e)
 unfolding sups
 once-near s w (up r) e = rising-once (subs s r e) (w .rising r e)
 once-near s w (down r) e = once-keep (λ f. holds eqb e (subs s (suc r) f)) (range 0 (size s (suc r))) (once-range 0 (size s (suc r)))
@@ -159,7 +159,7 @@ module _ (s : Solid) (w : Sound s) (cls : Classes) (σ : ℕ → ℕ → ℕ) (c
 
   -- ---- so it takes neighbours onto neighbours
 
-  near-kept : (x : Step) → Proper s (at x) → (e : ℕ) → e < size s (at x) → (y : ℕ) → In y (near s x (σ (at x) e)) ↔ In y (map (σ (next x)) (near s x e))
+  near-kept : (x : Step) → Proper s (at x) → (e : ℕ) → e < size s (at x) → (y : ℕ) → In y (neighbours s x (σ (at x) e)) ↔ In y (map (σ (next x)) (neighbours s x e))
   near-kept (up r) p e he y = c .onto r e p he y
   near-kept (down r) p e he y = (
     λ m. let k = of-sups s r (σ r e) y m in
@@ -178,13 +178,13 @@ module _ (s : Solid) (w : Sound s) (cls : Classes) (σ : ℕ → ℕ → ℕ) (c
       here : (f : ℕ) → f < size s (at x) → typeOf (step s S x) (at x) (σ (at x) f) ≡ typeOf (step s S x) (at x) f
       here f hf =
           key-step s cls S g x p (σ (at x) f) f (c .ranks (at x) f hf) hf
-          (key-same (typesAt S (next x)) (typeOf S (at x) (σ (at x) f)) (typeOf S (at x) f) (near s x (σ (at x) f)) (near s x f) (h (at x) f hf) counts)
+          (key-same (typesAt S (next x)) (typeOf S (at x) (σ (at x) f)) (typeOf S (at x) f) (neighbours s x (σ (at x) f)) (neighbours s x f) (h (at x) f hf) counts)
         where
           ns : List ℕ
-          ns = near s x f
+          ns = neighbours s x f
 
           is : List ℕ
-          is = near s x (σ (at x) f)
+          is = neighbours s x (σ (at x) f)
 
           inj : Injective (σ (next x)) ns
           inj a b ha hb = c .apart (next x) a b (near-low s w x p f a ha) (near-low s w x p f b hb)

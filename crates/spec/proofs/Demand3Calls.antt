@@ -20,8 +20,9 @@ use Rattle.spec.specs.Copying.{written}
 use Rattle.spec.specs.Solid.{Concrete, preflight}
 use Rattle.spec.specs.Classes.{classTable, byTable, typesOf}
 use Rattle.spec.specs.Search.{Member}
-use Rattle.spec.specs.Calls.{Given, typeCells, TypesOut, typesGiven, typesWritten, typesCall, Room, fitting, keptOf, found, membersIn, rotationsIn, SearchOut, roomOf, searchWritten, searchCall, rotationsCall}
-use Rattle.spec.specs.Demand3Calls.{keptBy, rowAt, Listed, Demand3Calls}
+use Rattle.spec.specs.Calls.{Given, typeCells, TypesOut, typesGiven, typesWritten, typesCall, Room, fitting, keptOf, outcome, membersIn, rotationsIn, SearchOut, roomOf, searchWritten, searchCall, rotationsCall}
+use Rattle.spec.specs.Refusal.{answerCount}
+use Rattle.spec.specs.Demand3Calls.{rowAt, ListedMembers, Demand3Calls}
 use Rattle.spec.proofs.Lists.{in-getD, in-map, getD-map}
 use Rattle.spec.proofs.Accepted.{one-solid, every-passed}
 use Rattle.spec.proofs.Demand3.{demand3}
@@ -44,17 +45,17 @@ part-of v (l ∷ ls) f rest (suc k) h =
 
 -- ---- the members that a search writes out
 
-kept-count : (l kept : List Member) → keptBy (keptOf l kept .answer) ≡ length (keptOf l kept .members)
-unfolding keptOf keptBy choose
+kept-count : (l kept : List Member) → answerCount (keptOf l kept .answer) ≡ length (keptOf l kept .members)
+unfolding keptOf choose
 kept-count [] kept = refl
 kept-count (x ∷ l) kept = go (ltb (length kept) (length (x ∷ l)))
   where
-    go : (b : Bool) → keptBy (choose kept b .answer) ≡ length (choose kept b .members)
+    go : (b : Bool) → answerCount (choose kept b .answer) ≡ length (choose kept b .members)
     go true = refl
     go false = refl
 
-found-count : (o : Judged (Concrete × List Member)) (m : Room) → keptBy (found o m .answer) ≡ length (found o m .members)
-unfolding found keptBy
+found-count : (o : Judged (Concrete × List Member)) (m : Room) → answerCount (outcome o m .answer) ≡ length (outcome o m .members)
+unfolding outcome
 found-count (refused why) m = refl
 found-count (passed x) m = kept-count (x .1) (fitting m (x .0 .dimension) (length (x .0 .points)) 0 (x .1))
 
@@ -66,7 +67,7 @@ no-member = record { matrix = []; row = []; mark = 0 }
 module _ (b : List ℕ) (words floats : ℕ) (o : Judged (Concrete × List Member)) (shaped : Shaped o) (w : Confirms b words floats o)
     (words′ floats′ : ℕ) (c : Concrete) (e : preflight b words′ floats′ ≡ passed c) (old : SearchOut) where
   ms : List Member
-  ms = found o (roomOf old) .members
+  ms = outcome o (roomOf old) .members
 
   row-length : (x : Member) → In x ms → length (x .row) ≡ length (c .points)
   unfolding ms Shaped
@@ -81,7 +82,7 @@ module _ (b : List ℕ) (words floats : ℕ) (o : Judged (Concrete × List Membe
       subst (λ (d : Concrete). marked (d .abs) (byTable (classTable d)) (x .row) ≡ true) (one-solid b words floats words′ floats′ (f .0 .0) c (w .read (f .0) (f .1)) e)
       (w .rule (f .0) (f .1) x (f .2) h)
 
-  module _ (k : ℕ) (h : k < keptBy (searchWritten (found o (roomOf old)) old .0)) where
+  module _ (k : ℕ) (h : k < answerCount (searchWritten (outcome o (roomOf old)) old .0)) where
     one : Member
     one = getD ms k no-member
 
@@ -89,24 +90,24 @@ module _ (b : List ℕ) (words floats : ℕ) (o : Judged (Concrete × List Membe
     unfolding ms searchWritten
     there = rw (← found-count o (roomOf old)) h
 
-    mark-is : getD (searchWritten (found o (roomOf old)) old .1 .marks) k 0 ≡ one .mark
+    mark-is : getD (searchWritten (outcome o (roomOf old)) old .1 .marks) k 0 ≡ one .mark
     unfolding ms one searchWritten written
     mark-is = List·getD-append (map (λ x. x .mark) ms) _ 0 k (rw length-map there) ∙ getD-map (λ x. x .mark) no-member 0 ms k there
 
-    row-is : rowAt (length (c .points)) k (searchWritten (found o (roomOf old)) old .1 .rows) ≡ one .row
+    row-is : rowAt (length (c .points)) k (searchWritten (outcome o (roomOf old)) old .1 .rows) ≡ one .row
     unfolding ms one searchWritten written rowAt
     row-is =
         part-of (length (c .points)) (map (λ x. x .row) ms) (λ l m. let i = in-map (λ (x : Member). x .row) l ms m in ap length (i .2) ∙ row-length (i .0) (i .1)) _ k (rw length-map there)
         ∙ getD-map (λ x. x .row) no-member [] ms k there
 
-    confirmed : getD (searchWritten (found o (roomOf old)) old .1 .marks) k 0 ≡ 1
-        → marked (c .abs) (byTable (classTable c)) (rowAt (length (c .points)) k (searchWritten (found o (roomOf old)) old .1 .rows)) ≡ true
+    confirmed : getD (searchWritten (outcome o (roomOf old)) old .1 .marks) k 0 ≡ 1
+        → marked (c .abs) (byTable (classTable c)) (rowAt (length (c .points)) k (searchWritten (outcome o (roomOf old)) old .1 .rows)) ≡ true
     unfolding one
     confirmed q = rw row-is (row-rule one (in-getD no-member ms k there) (sym mark-is ∙ q))
 
 listed : (inside : List ℕ → ℕ → ℕ → Judged (Concrete × List Member)) → ((b : List ℕ) (words floats : ℕ) → Shaped (inside b words floats)) → ((b : List ℕ) (words floats : ℕ) → Confirms b words floats (inside b words floats))
     → (b : List ℕ) (words floats : ℕ) (c : Concrete) → preflight b words floats ≡ passed c → (S z : State) → Agree (c .abs) (byTable (classTable c)) S z
-    → Listed (λ b words floats old. searchWritten (found (inside b words floats) (roomOf old)) old) b c S z
+    → ListedMembers (λ b words floats old. searchWritten (outcome (inside b words floats) (roomOf old)) old) b c S z
 listed inside shaped confirms b words floats c e S z a = record {
   confirmed = λ words′ floats′ old k h q r i l.
       let t = a .confirmed _ (confirmed b words′ floats′ (inside b words′ floats′) (shaped b words′ floats′) (confirms b words′ floats′) words floats c e old k h q) r i l in

@@ -22,14 +22,14 @@ use Rattle.spec.specs.Solid.{Concrete, preflight}
 use Rattle.spec.specs.Flags.{Flag, firstFlag, flags}
 use Rattle.spec.specs.Classes.{classTable, byTable, typesOf}
 use Rattle.spec.specs.Search.{Setting, Member, firstFar, exchanged, flagColumns, candidate, sameTypes, rowOf, examplesGo, markOf, tested, membersOf, isRotation, rotationsOf, full, allFinite, setting, search}
-use Rattle.spec.specs.Calls.{Room, Found, fits, fitting, keptOf, found, membersIn, rotationsIn}
+use Rattle.spec.specs.Calls.{Room, Outcome, haveRoom, fitting, keptOf, outcome, membersIn, rotationsIn}
 use Rattle.spec.proofs.Accepted.{same, bound-to, then-to}
 
 -- ---- what a call writes out is among the members
 
 pub fitting-in : (m : Room) (d v n : ℕ) (l : List Member) (x : Member) → In x (fitting m d v n l) → In x l
 unfolding fitting
-fitting-in m d v n (y ∷ l) x h = go (fits m d v (suc n)) h (λ k. fitting-in m d v (suc n) l x k)
+fitting-in m d v n (y ∷ l) x h = go (haveRoom m d v (suc n)) h (λ k. fitting-in m d v (suc n) l x k)
   where
     go : (b : Bool) → In x (elim b as (λ z. List Member) [ true ↦ y ∷ fitting m d v (suc n) l | false ↦ [] ]) → (In x (fitting m d v (suc n) l) → In x l) → In x (y ∷ l)
     go true (inl q) f = inl q
@@ -41,12 +41,12 @@ unfolding keptOf
 kept-in [] kept x h = absurd h
 kept-in (y ∷ l) kept x h = go (ltb (length kept) (length (y ∷ l))) h
   where
-    go : (b : Bool) → In x ((elim b as (λ z. Found) [ true ↦ record { answer = Refused ShortSheet (length kept); members = kept } | false ↦ record { answer = Done (length kept); members = kept } ]) .members) → In x kept
+    go : (b : Bool) → In x ((elim b as (λ z. Outcome) [ true ↦ record { answer = Refused ShortSheet (length kept); members = kept } | false ↦ record { answer = Done (length kept); members = kept } ]) .members) → In x kept
     go true k = k
     go false k = k
 
-pub found-in : (o : Judged (Concrete × List Member)) (m : Room) (x : Member) → In x (found o m .members) → (y : Concrete × List Member) × (o ≡ passed y) × In x (y .1)
-unfolding found
+pub found-in : (o : Judged (Concrete × List Member)) (m : Room) (x : Member) → In x (outcome o m .members) → (y : Concrete × List Member) × (o ≡ passed y) × In x (y .1)
+unfolding outcome
 found-in (refused why) m x h = absurd h
 found-in (passed y) m x h = (y, refl, fitting-in m (y .0 .dimension) (length (y .0 .points)) 0 (y .1) x (kept-in (y .1) _ x h))
 

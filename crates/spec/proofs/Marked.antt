@@ -13,7 +13,7 @@ use lib.Dec.{T, eqb, ltb, ltb→lt}
 use Rattle.spec.specs.Lists.{In, holds, place, eqList, range, keep, every}
 use Rattle.spec.specs.Types.{Solid, top, size, subs, properRanks, isProper, Classes, State, typeOf, start, Step, play, result}
 use Rattle.spec.specs.Demand.{Sound, Proper, AllProper, Carries}
-use Rattle.spec.specs.Mark.{noRepeats, inOrder, reach, vertices, vertexSets, image, goes, fits, marked}
+use Rattle.spec.specs.Mark.{noRepeats, inOrder, reach, vertices, vertexSets, image, goes, carriesElement, marked}
 use Rattle.spec.proofs.Distinct.{Test, Once, Split, split, in?, place-at, place-inj}
 use Rattle.spec.proofs.Lists.{in-getD, in-place, map-in, in-map, in-range, of-range, getD-table, length-table}
 use Rattle.spec.proofs.Counts.{numbers, lists, keep-in, in-keep, holds-in, in-holds}
@@ -105,7 +105,7 @@ module _ (s : Solid) (w : Sound s) (cls : Classes) (row : List ℕ) (ok : marked
     full : length row ≡ size s 1
     low : (v : ℕ) → In v row → v < size s 1
     once : Once row
-    fit : (r e : ℕ) → Proper s r → e < size s r → fits s cls row r e ≡ true
+    fit : (r e : ℕ) → Proper s r → e < size s r → carriesElement s cls row r e ≡ true
 
   parts : Parts
   unfolding marked
@@ -115,7 +115,7 @@ module _ (s : Solid) (w : Sound s) (cls : Classes) (row : List ℕ) (ok : marked
       let b = eqb (length row) n₁ in
       let c = every (λ v. ltb v n₁) row in
       let d = noRepeats eqb row in
-      let e = every (λ r. every (fits s cls row r) (range 0 (size s r))) (properRanks s) in
+      let e = every (λ r. every (carriesElement s cls row r) (range 0 (size s r))) (properRanks s) in
       let h₄ = both (a && b && c && d) e ok in
       let h₃ = both (a && b && c) d (h₄ .0) in
       let h₂ = both (a && b) c (h₃ .0) in
@@ -125,8 +125,8 @@ module _ (s : Solid) (w : Sound s) (cls : Classes) (row : List ℕ) (ok : marked
         full = numbers .sound (length row) n₁ (h₁ .1);
         low = λ v m. lt-test v n₁ (every-in (λ u. ltb u n₁) row (h₂ .1) v m);
         once = no-repeats eqb numbers row (h₃ .1);
-        fit = λ r i p h. every-in (fits s cls row r) (range 0 (size s r))
-            (every-in (λ q. every (fits s cls row q) (range 0 (size s q))) (properRanks s) (h₄ .1) r (proper-rank s r p)) i (in-range 0 (size s r) i (omega arith) (omega arith));
+        fit = λ r i p h. every-in (carriesElement s cls row r) (range 0 (size s r))
+            (every-in (λ q. every (carriesElement s cls row q) (range 0 (size s q))) (properRanks s) (h₄ .1) r (proper-rank s r p)) i (in-range 0 (size s r) i (omega arith) (omega arith));
       }
 
   record Fit (r e : ℕ) : Type 0 where
@@ -135,7 +135,7 @@ module _ (s : Solid) (w : Sound s) (cls : Classes) (row : List ℕ) (ok : marked
     onto : subs s r (goes s row r e) ≡ inOrder (size s (pred r)) (map (goes s row (pred r)) (subs s r e))
 
   fit : (r e : ℕ) → Proper s r → e < size s r → Fit r e
-  unfolding fits
+  unfolding carriesElement
   fit r e p h =
       let a = ltb (goes s row r e) (size s r) in
       let b = eqb (cls r (goes s row r e)) (cls r e) in

@@ -9,7 +9,7 @@ use native.Mathlib.Omega.{arith}
 use lib.ListN.{length, getD, replicate, getD-replicate}
 use lib.Dec.{eqb}
 use Rattle.spec.specs.Lists.{In, distinct, renumber, count, range}
-use Rattle.spec.specs.Types.{Solid, top, size, Classes, State, typesAt, typeOf, isProper, startAt, start, Step, at, next, near, key, step, play}
+use Rattle.spec.specs.Types.{Solid, top, size, Classes, State, typesAt, typeOf, isProper, startAt, start, Step, at, next, neighbours, key, step, play}
 use Rattle.spec.specs.Demand.{Proper, AllProper}
 use Rattle.spec.proofs.Distinct.{in-distinct, of-distinct}
 use Rattle.spec.proofs.Lists.{map-same, getD-table, length-table}
@@ -34,12 +34,12 @@ module _ (s : Solid) (cls : Classes) where
   -- a step: elements of its rank still share a type exactly when they shared one and, for every type of the rank looked to, have as many neighbours of it
   pub step-means : (S : State) → Good s cls S → (x : Step) → Proper s (at x) → (e f : ℕ) → e < size s (at x) → f < size s (at x)
       → (typeOf (step s S x) (at x) e ≡ typeOf (step s S x) (at x) f)
-      ↔ ((typeOf S (at x) e ≡ typeOf S (at x) f) × ((t : ℕ) → In t (typesAt S (next x)) → count eqb t (look (typesAt S (next x)) (near s x e)) ≡ count eqb t (look (typesAt S (next x)) (near s x f))))
+      ↔ ((typeOf S (at x) e ≡ typeOf S (at x) f) × ((t : ℕ) → In t (typesAt S (next x)) → count eqb t (look (typesAt S (next x)) (neighbours s x e)) ≡ count eqb t (look (typesAt S (next x)) (neighbours s x f))))
   step-means S g x p e f he hf =
       let ts = typesAt S (next x) in (
         λ q. let k = step-key s cls S g x p e f he hf q in
             (key-type ts ts _ _ _ _ k, λ t m. key-counts ts _ _ _ _ k t (in-distinct eqb numbers t ts m)),
-        λ q. key-step s cls S g x p e f he hf (key-join ts (typeOf S (at x) e) (typeOf S (at x) f) (near s x e) (near s x f) (q .0) (λ t m. q .1 t (of-distinct eqb numbers t ts m))),
+        λ q. key-step s cls S g x p e f he hf (key-join ts (typeOf S (at x) e) (typeOf S (at x) f) (neighbours s x e) (neighbours s x f) (q .0) (λ t m. q .1 t (of-distinct eqb numbers t ts m))),
       )
 
   -- other ranks keep theirs

@@ -13,7 +13,7 @@ use lib.ListN.{length, getD}
 use lib.Seq.{ext-getD}
 use lib.Dec.{eqb}
 use Rattle.spec.specs.Lists.{In, distinct, renumber, count, range, keep, holds, sum}
-use Rattle.spec.specs.Types.{Solid, top, size, subs, sups, properRanks, elements, Classes, State, typesAt, typeOf, typeCount, start, Step, up, down, at, next, near, key, step, play, sweepSteps, sweep, settle, result}
+use Rattle.spec.specs.Types.{Solid, top, size, subs, sups, properRanks, elements, Classes, State, typesAt, typeOf, typeCount, start, Step, up, down, at, next, neighbours, key, step, play, sweepSteps, sweep, settle, result}
 use Rattle.spec.specs.Demand.{Sound, Proper, AllProper, Steady}
 use Rattle.spec.proofs.Distinct.{in-distinct}
 use Rattle.spec.proofs.Lists.{in-getD, map-same, map-map, map-in, in-map, getD-map, in-range, of-range}
@@ -23,7 +23,7 @@ use Rattle.spec.proofs.Steps.{look, key-counts, key-same, proper?, prop
 
 -- ---- neighbours are there
 
-pub near-low : (s : Solid) → Sound s → (x : Step) → Proper s (at x) → (e f : ℕ) → In f (near s x e) → f < size s (next x)
+pub near-low : (s : Solid) → Sound s → (x : Step) → Proper s (at x) → (e f : ℕ) → In f (neighbours s x e) → f < size s (next x)
 unfolding sups
 near-low s w (up zero) p e f h = absurd (not-suc-le-zero (p .0))
 near-low s w (up (suc r)) p e f h = w .below r e f h
@@ -39,18 +39,18 @@ module _ (s : Solid) (w : Sound s) (cls : Classes) (S T : State) (gS : Good s cl
   glued : ℕ → ℕ
   glued = glue eqb 0 (typesAt T (next x)) (typesAt S (next x))
 
-  look-glued : (e : ℕ) → look (typesAt S (next x)) (near s x e) ≡ map glued (look (typesAt T (next x)) (near s x e))
+  look-glued : (e : ℕ) → look (typesAt S (next x)) (neighbours s x e) ≡ map glued (look (typesAt T (next x)) (neighbours s x e))
   unfolding glued
   look-glued e =
-      map-same (λ f. typeOf S (next x) f) (λ f. glued (typeOf T (next x) f)) (near s x e)
+      map-same (λ f. typeOf S (next x) f) (λ f. glued (typeOf T (next x) f)) (neighbours s x e)
       (λ f h. let n = near-low s w x p e f h in
       ap (λ (l : List ℕ). getD l f 0) (factor eqb numbers eqb numbers 0 0 (typesAt T (next x)) (typesAt S (next x)) (gS .sizes (next x) ∙ sym (gT .sizes (next x))) (b (next x)))
       ∙ getD-map glued 0 0 (typesAt T (next x)) f (rw (gT .sizes (next x)) n))
-      ∙ sym (map-map (λ f. typeOf T (next x) f) glued (near s x e))
+      ∙ sym (map-map (λ f. typeOf T (next x) f) glued (neighbours s x e))
 
-  look-elementTypes : (e t : ℕ) → In t (look (typesAt T (next x)) (near s x e)) → In t (distinct eqb (typesAt T (next x)))
+  look-elementTypes : (e t : ℕ) → In t (look (typesAt T (next x)) (neighbours s x e)) → In t (distinct eqb (typesAt T (next x)))
   look-elementTypes e t h =
-      let r = in-map (λ f. typeOf T (next x) f) t (near s x e) h in
+      let r = in-map (λ f. typeOf T (next x) f) t (neighbours s x e) h in
       in-distinct eqb numbers t (typesAt T (next x))
       (rw (r .2) (in-getD 0 (typesAt T (next x)) (r .0) (rw (gT .sizes (next x)) (near-low s w x p e (r .0) (r .1)))))
 
@@ -65,11 +65,11 @@ module _ (s : Solid) (w : Sound s) (cls : Classes) (S T : State) (gS : Good s cl
           here e f he hf t =
               let he′ : e < size s (at x) = rw (gT .sizes (at x)) at he in
               let hf′ : f < size s (at x) = rw (gT .sizes (at x)) at hf in
-              let c = key-counts (typesAt T (next x)) (typeOf T (at x) e) (typeOf T (at x) f) (near s x e) (near s x f) (step-key s cls T gT x p e f he′ hf′ (calm e f he hf t)) in
+              let c = key-counts (typesAt T (next x)) (typeOf T (at x) e) (typeOf T (at x) f) (neighbours s x e) (neighbours s x f) (step-key s cls T gT x p e f he′ hf′ (calm e f he hf t)) in
               key-step s cls S gS x p e f he′ hf′
-              (key-same (typesAt S (next x)) (typeOf S (at x) e) (typeOf S (at x) f) (near s x e) (near s x f) (b (at x) e f he hf t)
+              (key-same (typesAt S (next x)) (typeOf S (at x) e) (typeOf S (at x) f) (neighbours s x e) (neighbours s x f) (b (at x) e f he hf t)
               (λ k. rw (look-glued e, look-glued f)
-              (regroup eqb numbers eqb numbers glued (distinct eqb (typesAt T (next x))) (look (typesAt T (next x)) (near s x e)) (look (typesAt T (next x)) (near s x f)) (look-elementTypes e) (look-elementTypes f) c k)))
+              (regroup eqb numbers eqb numbers glued (distinct eqb (typesAt T (next x))) (look (typesAt T (next x)) (neighbours s x e)) (look (typesAt T (next x)) (neighbours s x f)) (look-elementTypes e) (look-elementTypes f) c k)))
 
 -- ---- what every step keeps, every list of steps keeps
 

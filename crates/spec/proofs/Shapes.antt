@@ -26,7 +26,7 @@ use Rattle.spec.specs.Solid.{Concrete, preflight}
 use Rattle.spec.specs.Flags.{Flag, firstFlag, flags}
 use Rattle.spec.specs.Classes.{pointOf, typesOf}
 use Rattle.spec.specs.Search.{Setting, Member, firstFar, exchanged, walk, flagColumns, candidate, sameTypes, rowOf, examplesGo, markOf, tested, membersOf, rotationsOf, full, allFinite, setting, search}
-use Rattle.spec.specs.Calls.{typeCells, Room, Found, fits, fitting, keptOf, found, membersIn, rotationsIn}
+use Rattle.spec.specs.Calls.{typeCells, Room, Outcome, haveRoom, fitting, keptOf, outcome, membersIn, rotationsIn}
 use Rattle.spec.proofs.Lists.{length-range, in-map}
 use Rattle.spec.proofs.Listed.{rotation-in, fitting-in}
 use Rattle.spec.proofs.Marked.{both}
@@ -217,8 +217,8 @@ record Holds (m : Room) (d v n : ℕ) : Type 0 where
 none-held : (m : Room) (d v : ℕ) → Holds m d v 0
 none-held m d v = record { matrices = omega (arith, zero-mul (d * d)); rows = omega (arith, zero-mul v); marks = omega arith }
 
-fits-holds : (m : Room) (d v n : ℕ) → fits m d v n ≡ true → Holds m d v n
-unfolding fits
+fits-holds : (m : Room) (d v n : ℕ) → haveRoom m d v n ≡ true → Holds m d v n
+unfolding haveRoom
 fits-holds m d v n e =
     let a = leb (n * (d * d)) (m .floats) in
     let b = leb (n * v) (m .entries) in
@@ -229,9 +229,9 @@ fits-holds m d v n e =
 fitting-holds : (m : Room) (d v n : ℕ) (l : List Member) → Holds m d v n → Holds m d v (n + length (fitting m d v n l))
 unfolding fitting
 fitting-holds m d v n [] h = let q : n + 0 ≡ n = omega arith in rw q h
-fitting-holds m d v n (x ∷ l) h = go (fits m d v (suc n)) refl (λ k. fitting-holds m d v (suc n) l k)
+fitting-holds m d v n (x ∷ l) h = go (haveRoom m d v (suc n)) refl (λ k. fitting-holds m d v (suc n) l k)
   where
-    go : (b : Bool) → fits m d v (suc n) ≡ b → (Holds m d v (suc n) → Holds m d v (suc n + length (fitting m d v (suc n) l)))
+    go : (b : Bool) → haveRoom m d v (suc n) ≡ b → (Holds m d v (suc n) → Holds m d v (suc n + length (fitting m d v (suc n) l)))
         → Holds m d v (n + length {A = Member} (elim b as (λ z. List Member) [ true ↦ x ∷ fitting m d v (suc n) l | false ↦ [] ]))
     go true e f =
         let q : n + suc (length (fitting m d v (suc n) l)) ≡ suc n + length (fitting m d v (suc n) l) = omega arith in
@@ -266,12 +266,12 @@ unfolding keptOf
 kept-cells m [] kept h = no-cells m
 kept-cells m (x ∷ l) kept h = go (ltb (length kept) (length (x ∷ l)))
   where
-    go : (b : Bool) → Cells m ((elim b as (λ z. Found) [ true ↦ record { answer = Refused ShortSheet (length kept); members = kept } | false ↦ record { answer = Done (length kept); members = kept } ]) .members)
+    go : (b : Bool) → Cells m ((elim b as (λ z. Outcome) [ true ↦ record { answer = Refused ShortSheet (length kept); members = kept } | false ↦ record { answer = Done (length kept); members = kept } ]) .members)
     go true = h
     go false = h
 
-pub found-cells : (o : Judged (Concrete × List Member)) → Shaped o → (m : Room) → Cells m (found o m .members)
-unfolding found Shaped
+pub found-cells : (o : Judged (Concrete × List Member)) → Shaped o → (m : Room) → Cells m (outcome o m .members)
+unfolding outcome Shaped
 found-cells (refused why) s m = no-cells m
 found-cells (passed y) s m =
     let d = y .0 .dimension in

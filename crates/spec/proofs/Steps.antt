@@ -12,7 +12,7 @@ use lib.ListN.{length, getD, set, replicate, length-set, length-replicate, getD-
 use lib.Seq.{ext-getD, getD-set-same, getD-set-other}
 use lib.Dec.{eqb, ltb}
 use Rattle.spec.specs.Lists.{In, distinct, place, renumber, count, eqList, range}
-use Rattle.spec.specs.Types.{Solid, top, size, subs, sups, Classes, State, typesAt, typeOf, isProper, startAt, start, Step, up, down, at, next, near, key, keys, step, play}
+use Rattle.spec.specs.Types.{Solid, top, size, subs, sups, Classes, State, typesAt, typeOf, isProper, startAt, start, Step, up, down, at, next, neighbours, key, keys, step, play}
 use Rattle.spec.specs.Demand.{Sound, Proper, AllProper, Steady}
 use Rattle.spec.proofs.Distinct.{in-distinct, place-yes}
 use Rattle.spec.proofs.Lists.{in-getD, in-place, map-same, map-map, getD-map, length-table, getD-table, of-range, in-map}
@@ -133,11 +133,11 @@ module _ (s : Solid) (cls : Classes) (S : State) (g : Good s cls S) (x : Step) (
 
   pub keys-length : length (keys s S x) ≡ size s (at x)
   unfolding keys
-  keys-length = length-table (λ e. key (typesAt S (next x)) (typeOf S (at x) e) (near s x e)) (size s (at x))
+  keys-length = length-table (λ e. key (typesAt S (next x)) (typeOf S (at x) e) (neighbours s x e)) (size s (at x))
 
-  pub key-at : (e : ℕ) → e < size s (at x) → getD (keys s S x) e [] ≡ key (typesAt S (next x)) (typeOf S (at x) e) (near s x e)
+  pub key-at : (e : ℕ) → e < size s (at x) → getD (keys s S x) e [] ≡ key (typesAt S (next x)) (typeOf S (at x) e) (neighbours s x e)
   unfolding keys
-  key-at e h = getD-table (λ e′. key (typesAt S (next x)) (typeOf S (at x) e′) (near s x e′)) [] (size s (at x)) e h
+  key-at e h = getD-table (λ e′. key (typesAt S (next x)) (typeOf S (at x) e′) (neighbours s x e′)) [] (size s (at x)) e h
 
   pub step-good : Good s cls (step s S x)
   unfolding step
@@ -158,13 +158,13 @@ module _ (s : Solid) (cls : Classes) (S : State) (g : Good s cls S) (x : Step) (
 
   -- after the step, elements share a type exactly when they share a key
   pub step-key : (e f : ℕ) → e < size s (at x) → f < size s (at x) → typeOf (step s S x) (at x) e ≡ typeOf (step s S x) (at x) f
-      → key (typesAt S (next x)) (typeOf S (at x) e) (near s x e) ≡ key (typesAt S (next x)) (typeOf S (at x) f) (near s x f)
+      → key (typesAt S (next x)) (typeOf S (at x) e) (neighbours s x e) ≡ key (typesAt S (next x)) (typeOf S (at x) f) (neighbours s x f)
   step-key e f he hf q =
       let len = length-renumber eqList lists (keys s S x) ∙ keys-length in
       sym (key-at e he) ∙ renumber-fine eqList lists [] (keys s S x) e f (rw len he) (rw len hf) (rw step-here at q) ∙ key-at f hf
 
   pub key-step : (e f : ℕ) → e < size s (at x) → f < size s (at x)
-      → key (typesAt S (next x)) (typeOf S (at x) e) (near s x e) ≡ key (typesAt S (next x)) (typeOf S (at x) f) (near s x f)
+      → key (typesAt S (next x)) (typeOf S (at x) e) (neighbours s x e) ≡ key (typesAt S (next x)) (typeOf S (at x) f) (neighbours s x f)
       → typeOf (step s S x) (at x) e ≡ typeOf (step s S x) (at x) f
   key-step e f he hf q =
       rw step-here

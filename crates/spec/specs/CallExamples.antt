@@ -1,4 +1,4 @@
--- Small closed examples of the calls and of the mark, each of which tells the definitions from a wrong one that a must-fail edit makes.
+-- Small closed examples of the calls, the mark and single rules: they tell the definitions from the wrong ones that the must-fail edits make.
 -- Assumes nothing.
 use mathlib.Core.Path.{_≡_, refl}
 use Prim.Native.Nat.{ℕ}
@@ -6,13 +6,16 @@ use mathlib.Core.Bool.{true, false}
 use mathlib.Core.Option.{some}
 use mathlib.Core.List.{List, [], _∷_, map}
 use lib.ListN.{getD, replicate}
-use lib.Ieee.{binary64, ofBits, toBits}
-use Rattle.spec.specs.declared.Refusal.the-variants.{DoubleCorner, Centred, Flat, ShortSheet}
+use lib.Ieee.{nan, binary64, ofBits, toBits}
+use Rattle.spec.specs.declared.Refusal.the-variants.{Format, BadList, DoubleCorner, Centred, Flat, ShortSheet}
 use Rattle.spec.specs.declared.Answer.{Answer}
 use Rattle.spec.specs.declared.Answer.the-variants.{Done, Refused}
 use Rattle.spec.specs.Ascii.{ascii}
 use Rattle.spec.specs.Types.{Solid, Classes, result, elementTypes}
 use Rattle.spec.specs.Mark.{marked}
+use Rattle.spec.specs.Judged.{Judged, refused, passed}
+use Rattle.spec.specs.Sheet.{list}
+use Rattle.spec.specs.Search.{examplesGo, isRotation}
 use Rattle.spec.specs.Calls.{TypesOut, typesCall, SearchOut, searchCall, rotationsCall}
 use Rattle.spec.specs.KitText.{kitText}
 use Rattle.spec.specs.SolidExamples.{alike, square, sides, prism}
@@ -166,3 +169,29 @@ vertex-set-clause = refl
 pub repeat-clause : marked (([] ∷ []) ∷ replicate 2 (0 ∷ []) ∷ ((0 ∷ 1 ∷ []) ∷ []) ∷ []) alike (0 ∷ 0 ∷ []) ≡ false
 unfolding evaluate
 repeat-clause = refl
+
+-- ---- single rules
+
+-- "a list's length counts as entries when it is read": entry 8,192 passes, entry 8,193 is refused 2, and a length of 0 only then 4
+pub entries-full : list (0 ∷ 16 ∷ 0 ∷ []) 1 8191 0 ≡ passed (0 ∷ [], 23)
+unfolding evaluate
+entries-full = refl
+
+pub entries-over : list (0 ∷ 16 ∷ 0 ∷ []) 1 8192 0 ≡ refused Format
+unfolding evaluate
+entries-over = refl
+
+pub entries-none : list (0 ∷ 0 ∷ 0 ∷ []) 1 8192 0 ≡ refused BadList
+unfolding evaluate
+entries-none = refl
+
+-- "sorted with repeats kept": the face 0 1 2 3 goes to 0 0 1 2, which is not the face 0 1 2
+pub repeats-kept : examplesGo (
+    ([] ∷ []) ∷ replicate 4 (0 ∷ []) ∷ ((0 ∷ 1 ∷ 2 ∷ 3 ∷ []) ∷ (0 ∷ 1 ∷ 2 ∷ []) ∷ []) ∷ ((0 ∷ 1 ∷ []) ∷ []) ∷ []) ((0 ∷ []) ∷ replicate 4 0 ∷ replicate 2 0 ∷ (0 ∷ []) ∷ []) (0 ∷ 0 ∷ 1 ∷ 2 ∷ []) ≡ false
+unfolding evaluate
+repeats-kept = refl
+
+-- a determinant that is no number is not above 0
+pub nan-is-no-rotation : isRotation (record { matrix = (nan ∷ []) ∷ []; row = []; mark = 0 }) ≡ false
+unfolding evaluate
+nan-is-no-rotation = refl

@@ -46,6 +46,8 @@ typesWritten (refused why) old = (Refused why 0, old)
 typesWritten (passed g) old =
     (Done (length (g .types)), record { elements = written (g .elements) (old .elements); types = written (join (map typeCells (g .types))) (old .types) })
 
+-- The types call: the answer and the outputs afterwards, from the sheet's bytes, the lengths of the workspace's words and floats, and the outputs as they were. "Outputs
+-- are untouched, except ..": a refusal changes nothing here. "Workspace afterwards is free": no definition speaks of what it holds
 unfoldable pub typesCall : List ℕ → ℕ → ℕ → TypesOut → Answer × TypesOut
 typesCall b words floats old = typesWritten (typesGiven b words floats (length (old .elements)) (length (old .types))) old
 
@@ -58,30 +60,31 @@ pub record Room : Type 0 where
   pub marks : ℕ
 
 -- n members in D dimensions, of V vertices, fit
-unfoldable pub fits : Room → ℕ → ℕ → ℕ → Bool
-fits m D vs n = leb (n * (D * D)) (m .floats) && leb (n * vs) (m .entries) && leb n (m .marks)
+unfoldable pub haveRoom : Room → ℕ → ℕ → ℕ → Bool
+haveRoom m D vs n = leb (n * (D * D)) (m .floats) && leb (n * vs) (m .entries) && leb n (m .marks)
 
 -- "what fitted in search (whole members only)", n having been taken before
 unfoldable pub fitting : Room → ℕ → ℕ → ℕ → List Member → List Member
 fitting m D vs n [] = []
-fitting m D vs n (x ∷ xs) = elim (fits m D vs (suc n)) [ true ↦ x ∷ fitting m D vs (suc n) xs | false ↦ [] ]
+fitting m D vs n (x ∷ xs) = elim (haveRoom m D vs (suc n)) [ true ↦ x ∷ fitting m D vs (suc n) xs | false ↦ [] ]
 
 -- a search's answer, and the members that it writes out
-pub record Found : Type 0 where
+pub record Outcome : Type 0 where
   pub answer : Answer
   pub members : List Member
 
 -- "then 12 or 13"
-unfoldable pub keptOf : List Member → List Member → Found
+unfoldable pub keptOf : List Member → List Member → Outcome
 keptOf [] kept = record { answer = Refused Blank 0; members = [] }
 keptOf (x ∷ xs) kept = elim (ltb (length kept) (length (x ∷ xs))) [
   | true ↦ record { answer = Refused ShortSheet (length kept); members = kept }
   | false ↦ record { answer = Done (length kept); members = kept }
 ]
 
-unfoldable pub found : Judged (Concrete × List Member) → Room → Found
-found (refused why) m = record { answer = Refused why 0; members = [] }
-found (passed x) m = keptOf (x .1) (fitting m (x .0 .dimension) (length (x .0 .points)) 0 (x .1))
+-- "13 keeps what fitted in search (whole members only)"; at any other refusal nothing is written
+unfoldable pub outcome : Judged (Concrete × List Member) → Room → Outcome
+outcome (refused why) m = record { answer = Refused why 0; members = [] }
+outcome (passed x) m = keptOf (x .1) (fitting m (x .0 .dimension) (length (x .0 .points)) 0 (x .1))
 
 -- all members of the sheet's solid
 unfoldable pub membersIn : List ℕ → ℕ → ℕ → Judged (Concrete × List Member)
@@ -104,7 +107,8 @@ pub record SearchOut : Type 0 where
 unfoldable pub roomOf : SearchOut → Room
 roomOf o = record { floats = length (o .matrices); entries = length (o .rows); marks = length (o .marks) }
 
-unfoldable pub searchWritten : Found → SearchOut → Answer × SearchOut
+-- "Cells past the answer never change"
+unfoldable pub searchWritten : Outcome → SearchOut → Answer × SearchOut
 searchWritten f old = (
   f .answer,
   record {
@@ -114,8 +118,9 @@ searchWritten f old = (
   },
 )
 
+-- The search call, and the rotations call: "members (rotations in their call)"
 unfoldable pub searchCall : List ℕ → ℕ → ℕ → SearchOut → Answer × SearchOut
-searchCall b words floats old = searchWritten (found (membersIn b words floats) (roomOf old)) old
+searchCall b words floats old = searchWritten (outcome (membersIn b words floats) (roomOf old)) old
 
 unfoldable pub rotationsCall : List ℕ → ℕ → ℕ → SearchOut → Answer × SearchOut
-rotationsCall b words floats old = searchWritten (found (rotationsIn b words floats) (roomOf old)) old
+rotationsCall b words floats old = searchWritten (outcome (rotationsIn b words floats) (roomOf old)) old

@@ -45,6 +45,7 @@ unfoldable pub copiesFrom : List Matrix → List Vector → List Vector → List
 copiesFrom ms [] cs = cs
 copiesFrom ms (p ∷ ps) cs = elim (found cs p) [ true ↦ copiesFrom ms ps cs | false ↦ copiesFrom ms ps (spread ms p cs) ]
 
+-- from no copies
 unfoldable pub copies : List Matrix → List Vector → List Vector
 copies ms ps = copiesFrom ms ps []
 

@@ -6,7 +6,8 @@ use mathlib.Core.Option.{some}
 use mathlib.Core.List.{List, map}
 use lib.ListN.{length, getD, take, drop}
 use Rattle.spec.specs.declared.Answer.{Answer}
-use Rattle.spec.specs.declared.Answer.the-variants.{Done, Refused}
+use Rattle.spec.specs.declared.Answer.the-variants.{Done}
+use Rattle.spec.specs.Refusal.{answerCount}
 use Rattle.spec.specs.Lists.{join}
 use Rattle.spec.specs.Types.{Solid, size, State, typeOf, start, Step, play, given, elementTypes}
 use Rattle.spec.specs.Mark.{goes}
@@ -16,11 +17,6 @@ use Rattle.spec.specs.Copying.{written}
 use Rattle.spec.specs.Solid.{Concrete, preflight}
 use Rattle.spec.specs.Classes.{classTable, byTable, typesOf}
 use Rattle.spec.specs.Calls.{typeCells, TypesOut, typesCall, SearchOut, searchCall, rotationsCall}
-
--- how many members a search's answer says that it wrote out: all of them; at 13, those that fitted; at any other refusal none
-unfoldable pub keptBy : Answer → ℕ
-keptBy (Done m) = m
-keptBy (Refused why m) = m
 
 -- row k among rows of v cells each
 unfoldable pub rowAt : ℕ → ℕ → List ℕ → List ℕ
@@ -33,8 +29,8 @@ pub record KeepsType (s : Solid) (S z : State) (row : List ℕ) (r e : ℕ) : Ty
   pub result : typeOf z r (goes s row r e) ≡ typeOf z r e
 
 -- "Listed members are those that a search call writes out": of any search call, or rotations call, on the sheet b, each row that it writes with mark 1 keeps every element's type
-pub record Listed (call : List ℕ → ℕ → ℕ → SearchOut → Answer × SearchOut) (b : List ℕ) (c : Concrete) (S z : State) : Type 0 where
-  pub confirmed : (words floats : ℕ) (old : SearchOut) (k : ℕ) → k < keptBy (call b words floats old .0) → getD (call b words floats old .1 .marks) k 0 ≡ 1
+pub record ListedMembers (call : List ℕ → ℕ → ℕ → SearchOut → Answer × SearchOut) (b : List ℕ) (c : Concrete) (S z : State) : Type 0 where
+  pub confirmed : (words floats : ℕ) (old : SearchOut) (k : ℕ) → k < answerCount (call b words floats old .0) → getD (call b words floats old .1 .marks) k 0 ≡ 1
       → (r e : ℕ) → e < size (c .abs) r → KeepsType (c .abs) S z (rowAt (length (c .points)) k (call b words floats old .1 .rows)) r e
 
 -- of the state S after a list of steps, and the result z
@@ -42,8 +38,8 @@ pub record Demand3After (b : List ℕ) (c : Concrete) (S z : State) : Type 0 whe
   -- (a) what S tells apart, z tells apart; (b) if no step would part more, their numbers are the same; and (c) of any row that the mark's rule confirms
   pub agree : Agree (c .abs) (byTable (classTable c)) S z
   -- (c) of the listed members
-  pub searches : Listed searchCall b c S z
-  pub rotations : Listed rotationsCall b c S z
+  pub searches : ListedMembers searchCall b c S z
+  pub rotations : ListedMembers rotationsCall b c S z
 
 -- of a types call that gives out n types
 pub record Demand3Call (b : List ℕ) (words floats : ℕ) (old : TypesOut) (n : ℕ) : Type 0 where

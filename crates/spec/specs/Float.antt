@@ -68,6 +68,7 @@ unfoldable pub total : List Float → Float
 total [] = zeroF
 total (x ∷ xs) = addOn x xs
 
+-- "A dot product starts with the first product .."
 unfoldable pub dot : List Float → List Float → Float
 dot u v = total (zip times u v)
 

@@ -1,6 +1,6 @@
 -- What the program `kit` prints for its standard input.
 -- Assumes nothing.
-use Prim.Native.Nat.{ℕ, zero, suc, _+_, _/_, _%_}
+use Prim.Native.Nat.{ℕ, zero, suc, _+_, _*_, _/_, _%_}
 use Prim.Native.String.{String}
 use mathlib.Core.Bool.{Bool, true, false}
 use mathlib.Core.List.{List, [], _∷_, _++_, map}
@@ -14,7 +14,7 @@ use Rattle.spec.specs.Lists.{sum, join}
 use Rattle.spec.specs.Types.{ElementType}
 use Rattle.spec.specs.Judged.{Judged, refused, passed}
 use Rattle.spec.specs.Search.{Member, rotationsOf}
-use Rattle.spec.specs.Calls.{Given, typesGiven, Room, Found, found, membersIn}
+use Rattle.spec.specs.Calls.{Given, typesGiven, Room, Outcome, outcome, membersIn}
 use Rattle.spec.specs.Ascii.{ascii}
 
 -- the decimal digits of n, of which there are at most k
@@ -25,6 +25,7 @@ digits (suc k) n = elim (ltb n 10) [ true ↦ (48 + n) ∷ [] | false ↦ digits
 unfoldable pub decimal : ℕ → List ℕ
 decimal n = digits (suc n) n
 
+-- "A refusal prints `refused` and its number"
 unfoldable pub refusedLine : Refusal → List ℕ
 refusedLine why = ascii "refused " ++ decimal (number why) ++ ascii "\n"
 
@@ -43,18 +44,40 @@ membersLine ms =
     ++ ascii " confirmed " ++ decimal (sum (map (λ x. x .mark) ms))
     ++ ascii " rotations " ++ decimal (length (rotationsOf ms)) ++ ascii "\n"
 
-unfoldable pub lastLine : Found → List ℕ
+unfoldable pub lastLine : Outcome → List ℕ
 lastLine f = elim (f .answer) [ Done n ↦ membersLine (f .members) | Refused why k ↦ refusedLine why ]
+
+-- ---- what `kit` lends, each number once
+
+-- "space for 256 elements' types and 256 types", of four cells each
+abbrev pub elementCells : ℕ
+elementCells = 256
+
+abbrev pub typeRecords : ℕ
+typeRecords = 4 * 256
 
 -- "1,024 matrix floats, 8,192 row entries, 512 marks"
 abbrev pub lent : Room
 lent = record { floats = 1024; entries = 8192; marks = 512 }
 
+-- "a workspace of 4,096 words and 2,048 floats"
+abbrev pub workWords : ℕ
+workWords = 4096
+
+abbrev pub workFloats : ℕ
+workFloats = 2048
+
+-- "input past 8,192 bytes is refused 1"
+abbrev pub longest : ℕ
+longest = 8192
+
+-- ---- the text
+
 -- "A refusal prints `refused` and its number, after the types if they stood"
 unfoldable pub afterTypes : Judged Given → List ℕ → List ℕ
 afterTypes (refused why) b = refusedLine why
-afterTypes (passed g) b = typesLines (g .types) ++ lastLine (found (membersIn b 4096 2048) lent)
+afterTypes (passed g) b = typesLines (g .types) ++ lastLine (outcome (membersIn b workWords workFloats) lent)
 
--- "space for 256 elements' types and 256 types .. a workspace of 4,096 words and 2,048 floats; input past 8,192 bytes is refused 1"
+-- "The program `kit` reads a sheet from standard input and prints" these bytes
 unfoldable pub kitText : List ℕ → List ℕ
-kitText b = elim (ltb 8192 (length b)) [ true ↦ refusedLine CutSheet | false ↦ afterTypes (typesGiven b 4096 2048 256 1024) b ]
+kitText b = elim (ltb longest (length b)) [ true ↦ refusedLine CutSheet | false ↦ afterTypes (typesGiven b workWords workFloats elementCells typeRecords) b ]

@@ -26,6 +26,7 @@ entry a r c = getD (row a r) c zeroF
 unfoldable pub columns : Matrix → Matrix
 columns a = map (λ c. map (λ r. getD r c zeroF) a) (range 0 (length a))
 
+-- a point's image: each entry is the dot of a row and the point
 unfoldable pub mulVec : Matrix → Vector → Vector
 mulVec a v = map (λ r. dot r v) a
 
@@ -53,9 +54,11 @@ unfoldable pub scan : Matrix → ℕ → ℕ → List ℕ → ℕ
 scan a c p [] = p
 scan a c p (r ∷ rs) = elim (lt (absF (entry a p c)) (absF (entry a r c))) [ true ↦ scan a c r rs | false ↦ scan a c p rs ]
 
+-- "In column c the pivot is the largest magnitude in rows c and below, lowest row on ties"
 unfoldable pub pivotRow : Matrix → ℕ → ℕ
 pivotRow a c = scan a c c (range (suc c) (length a - suc c))
 
+-- "Swap"
 unfoldable pub swapRows : Matrix → ℕ → ℕ → Matrix
 swapRows a p c = set (set a p (row a c)) c (row a p)
 

@@ -123,6 +123,11 @@ pub inverse-4 : inverse m4 ≡ some (mat ((0x3fbd_948a_4109_c65f ∷ 0x3fc0_f6ef
 unfolding all
 inverse-4 = refl
 
+-- a NaN is never strictly larger: row 0 stays
+pub pivot-no-nan : pivotRow (mat ((0x3ff0_0000_0000_0000 ∷ []) ∷ (0x7ff8_0000_0000_0000 ∷ []) ∷ [])) 0 ≡ 0
+unfolding all
+pivot-no-nan = refl
+
 -- singular
 pub inverse-flat : inverse flat3 ≡ none
 unfolding all
@@ -156,6 +161,12 @@ distance-full = refl
 pub distance-4 : distance 4 (hullOf 4 (mat ((0x3ff0_0000_0000_0000 ∷ 0x3fe0_0000_0000_0000 ∷ 0xbfd0_0000_0000_0000 ∷ 0x4008_0000_0000_0000 ∷ []) ∷ (0x4000_0000_0000_0000 ∷ 0x3ff0_0000_0000_0000 ∷ 0x3fb9_9999_9999_999a ∷ 0xbff0_0000_0000_0000 ∷ []) ∷ (0x3ff8_0000_0000_0000 ∷ 0x3fe8_0000_0000_0000 ∷ 0xbfb3_3333_3333_3333 ∷ 0x3ff0_0000_0000_0000 ∷ []) ∷ (0x3fe3_3333_3333_3333 ∷ 0xbff1_9999_9999_999a ∷ 0x4001_9999_9999_999a ∷ 0x3fd9_9999_9999_999a ∷ []) ∷ []))) ≡ ofBits binary64 0x3ff8_c6ed_33d7_6472
 unfolding all
 distance-4 = refl
+
+-- "Stop at D vectors": a basis of one vector in one dimension takes no more, though the point 1 lies off what it spans
+pub hull-stops : addAll 1 (record { offset = vec (0 ∷ []); basis = mat ((0x3fe0_0000_0000_0000 ∷ []) ∷ []) }) (mat ((0x3ff0_0000_0000_0000 ∷ []) ∷ []))
+    ≡ record { offset = vec (0 ∷ []); basis = mat ((0x3fe0_0000_0000_0000 ∷ []) ∷ []) }
+unfolding all
+hull-stops = refl
 
 -- no dimension
 pub hull-0 : distance 0 (hullOf 0 ([] ∷ [])) ≡ zeroF

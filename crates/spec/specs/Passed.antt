@@ -26,6 +26,7 @@ pub record Passed (b : List ℕ) (c : Concrete) : Type 0 where
   pub solid : c .abs ≡ solidOf parsed
   pub rank : top (c .abs) ≡ parsed .rank
   pub dimension : c .dimension ≡ parsed .dimension
+  pub same-points : c .points ≡ parsed .points
   pub sound : Sound (c .abs)
   -- the limits
   pub tall : top (c .abs) ≤ maxRank

@@ -4,6 +4,8 @@ use Prim.Native.Nat.{ℕ}
 use Prim.Native.String.{String}
 use Rattle.spec.specs.declared.Refusal.{Refusal}
 use Rattle.spec.specs.declared.Refusal.the-variants.{CutSheet, Format, OffTheBoard, BadList, Loose, Mitre, Bench, NotFull, DoubleCorner, Centred, Flat, Blank, ShortSheet, Open, Unsettled}
+use Rattle.spec.specs.declared.Answer.{Answer}
+use Rattle.spec.specs.declared.Answer.the-variants.{Done, Refused}
 
 -- the column "No."
 abbrev pub number : Refusal → ℕ
@@ -22,6 +24,16 @@ number Blank = 12
 number ShortSheet = 13
 number Open = 14
 number Unsettled = 15
+
+-- an answer's number: the refusal's, or 0 where the call gave its result
+abbrev pub answerNumber : Answer → ℕ
+answerNumber (Done n) = 0
+answerNumber (Refused why n) = number why
+
+-- an answer's value: how many types, members or copies there are; at 13, how many members or points fitted; at 14, how many copies; else 0
+abbrev pub answerCount : Answer → ℕ
+answerCount (Done n) = n
+answerCount (Refused why n) = n
 
 -- the column "Word"
 abbrev pub word : Refusal → String

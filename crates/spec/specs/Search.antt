@@ -33,6 +33,7 @@ swapWithFirst l f = set (set l f (getD l 0 [])) 0 (getD l f [])
 unfoldable pub exchangedIn : Solid → ℕ → Solid
 exchangedIn s f = set s (top s - 1) (swapWithFirst (getD s (top s - 1) []) f)
 
+-- the exchanged solid, with its vertices where they were
 unfoldable pub exchanged : Concrete → ℕ → Concrete
 exchanged c f = record { dimension = c .dimension; points = c .points; abs = exchangedIn (c .abs) f }
 
@@ -89,6 +90,7 @@ unfoldable pub examplesGo : Solid → State → List ℕ → Bool
 examplesGo s z row =
     every (λ r. every (λ k. holds eqList (sorted (map (λ v. getD row v 0) (vertices s r (k .example)))) (vertexSets s r)) (elementTypesAt z r)) (range 2 (top s - 2))
 
+-- "Members come in flag order with matrix and row", and with the mark
 pub record Member : Type 0 where
   pub matrix : Matrix
   pub row : List ℕ
@@ -143,6 +145,7 @@ setting c = do
   judge Flat (allFinite i)
   passed (record { read = c; classes = classTable c; searched = d; types = z; inv = i })
 
+-- the members of every flag that passes, in flag order
 unfoldable pub search : Concrete → Judged (List Member)
 search c = do
   w ← setting c

@@ -52,7 +52,7 @@ times (suc n) m = do
 
 -- ---- the fields, each with its limit
 
--- V: "rank 1's count, but 1 where R = 1 and 0 where R = 0", where there are no counts
+-- V: "rank 1's count, but 1 where R = 1 and 0 where R = 0": there the list of counts is empty, and V is R itself
 unfoldable pub vertexCount : ℕ → List ℕ → ℕ
 vertexCount R counts = getD counts 0 R
 

@@ -1,4 +1,4 @@
--- Two solids, evaluated: the square, and the prism over a triangle, all distances alike.
+-- Solids as lists, evaluated: the square, the prism over a triangle, and the two smallest, with distance classes given by hand.
 -- Assumes nothing.
 use mathlib.Core.Path.{_≡_, refl}
 use Prim.Native.Nat.{ℕ, zero, suc}
@@ -7,7 +7,7 @@ use mathlib.Core.Option.{Option, none, some}
 use mathlib.Core.List.{List, [], _∷_}
 use lib.ListN.{getD}
 use Rattle.spec.specs.Lists.{distinct, renumber, count, holds, eqList, range, keep, sum, without, place, join, every}
-use Rattle.spec.specs.Mark.{noRepeats, inOrder, reach, vertices, vertexSets, image, goes, fits, marked}
+use Rattle.spec.specs.Mark.{noRepeats, inOrder, reach, vertices, vertexSets, image, goes, carriesElement, marked}
 use Rattle.spec.specs.Types.{Solid, State, Classes, subs, sups, properRanks, elements, typeCount, startAt, start, key, keys, step, play, sweepSteps, sweep, settle, result, given, ElementType, elementTypesAt, elementTypes}
 use Rattle.spec.specs.Flags.{flags, flagsTo}
 
@@ -61,19 +61,19 @@ prism-types = refl
 
 -- the mark, on the square: the quarter turn and a mirror pass, a swap of two neighbours does not
 pub quarter : marked square alike (1 ∷ 2 ∷ 3 ∷ 0 ∷ []) ≡ true
-unfolding marked fits goes image vertexSets vertices reach inOrder join noRepeats every properRanks subs holds eqList range keep place
+unfolding marked carriesElement goes image vertexSets vertices reach inOrder join noRepeats every properRanks subs holds eqList range keep place
 quarter = refl
 
 pub mirror : marked square alike (1 ∷ 0 ∷ 3 ∷ 2 ∷ []) ≡ true
-unfolding marked fits goes image vertexSets vertices reach inOrder join noRepeats every properRanks subs holds eqList range keep place
+unfolding marked carriesElement goes image vertexSets vertices reach inOrder join noRepeats every properRanks subs holds eqList range keep place
 mirror = refl
 
 pub swap : marked square alike (1 ∷ 0 ∷ 2 ∷ 3 ∷ []) ≡ false
-unfolding marked fits goes image vertexSets vertices reach inOrder join noRepeats every properRanks subs holds eqList range keep place
+unfolding marked carriesElement goes image vertexSets vertices reach inOrder join noRepeats every properRanks subs holds eqList range keep place
 swap = refl
 
 pub turned-prism : marked prism alike (4 ∷ 3 ∷ 5 ∷ 1 ∷ 0 ∷ 2 ∷ []) ≡ true
-unfolding marked fits goes image vertexSets vertices reach inOrder join noRepeats every properRanks subs holds eqList range keep place
+unfolding marked carriesElement goes image vertexSets vertices reach inOrder join noRepeats every properRanks subs holds eqList range keep place
 turned-prism = refl
 
 -- what the square's types call gives out: two types, with rank, number, example and count

@@ -88,9 +88,9 @@ abbrev pub next : Step → ℕ
 next (up r) = pred r
 next (down r) = suc r
 
-abbrev pub near : Solid → Step → ℕ → List ℕ
-near s (up r) e = subs s r e
-near s (down r) e = sups s r e
+abbrev pub neighbours : Solid → Step → ℕ → List ℕ
+neighbours s (up r) e = subs s r e
+neighbours s (down r) e = sups s r e
 
 -- "two elements there still share a type exactly when they shared one and, for every type of rank r−1, have as many subs of it. Step down: the same with sups and rank
 -- r+1". What a step tells elements apart by: of an element of type t with the neighbours es, t, and for every type in the list `types`, the types of the rank looked
@@ -100,7 +100,7 @@ key types t es = t ∷ map (λ k. count eqb k (map (λ e. getD types e 0) es)) (
 
 -- the keys of the elements of the step's rank; and the state after it: "Other ranks keep theirs; numbers go from 0 in each rank by first appearance"
 unfoldable pub keys : Solid → State → Step → List (List ℕ)
-keys s S x = map (λ e. key (typesAt S (next x)) (typeOf S (at x) e) (near s x e)) (range 0 (size s (at x)))
+keys s S x = map (λ e. key (typesAt S (next x)) (typeOf S (at x) e) (neighbours s x e)) (range 0 (size s (at x)))
 
 unfoldable pub step : Solid → State → Step → State
 step s S x = set S (at x) (renumber eqList (keys s S x))

@@ -79,13 +79,15 @@ pub record AxisOrderTable : Type 0 where
   pub dictionary : orders ≡ unrepeated triples
   -- "entry 8 times p + s"
   pub rule : map (λ p. map (λ s. getD axisOrders (8 * p + s) []) (range 0 8)) (range 0 6) ≡ map (λ p. map (axisOrder (getD orders p [])) (range 0 8)) (range 0 6)
+  -- "row i has its unit at the column the order names", minus where the sign bit of axis i is 1: each row is one of the six of `axes`
+  pub rows : axisOrders ≡ map (map (λ a. getD axes a [])) rowNumbers
   -- every product of two entries is an entry
   pub multiplied : map (λ a. map (mulMat a) axisOrders) axisOrders ≡ map (map (λ j. getD axisOrders j [])) products
   pub within : every (every (λ j. ltb j 48)) products ≡ true
 
 pub axis-order-table : AxisOrderTable
-unfolding all triples unrepeated noRepeats products rowNumbers eqList
-axis-order-table = record { entries = refl; dictionary = refl; rule = refl; multiplied = closed; within = refl }
+unfolding all triples unrepeated noRepeats products rowNumbers axes eqList
+axis-order-table = record { entries = refl; dictionary = refl; rule = refl; rows = refl; multiplied = closed; within = refl }
 
 -- ---- copies
 

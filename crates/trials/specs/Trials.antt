@@ -9,11 +9,11 @@ use Rattle.spec.specs.declared.Refusal.the-variants.{NotFull, DoubleCorner, Cen
 use Rattle.spec.specs.declared.Answer.{Answer}
 use Rattle.spec.specs.declared.Answer.the-variants.{Done, Refused}
 use Rattle.spec.specs.Ascii.{ascii}
-use Rattle.spec.specs.Float.{zeroF, root}
+use Rattle.spec.specs.Float.{zeroF, oneF, root}
 use Rattle.spec.specs.Lists.{join}
 use Rattle.spec.specs.Copying.{axisOrders, copyCall}
 use Rattle.spec.specs.Calls.{TypesOut, typesCall, SearchOut, searchCall, rotationsCall}
-use Rattle.spec.specs.KitText.{kitText}
+use Rattle.spec.specs.KitText.{elementCells, typeRecords, lent, workWords, workFloats, kitText}
 use Rattle.spec.specs.Eval.{evaluate}
 use Rattle.spec.specs.NumberExamples.{all}
 use Rattle.spec.specs.CallExamples.{dyad, lopsided, tiny, close}
@@ -22,23 +22,21 @@ use Rattle.trials.specs.AxisOrders.{forty-eight}
 
 -- ---- the calls as `kit` makes them
 
--- "space for 256 elements' types and 256 types", four cells each
+-- cells of 7, so that those past an answer are seen to stay
 abbrev typesLent : TypesOut
-typesLent = record { elements = replicate 256 0; types = replicate 1024 0 }
+typesLent = record { elements = replicate elementCells 7; types = replicate typeRecords 7 }
 
--- "1,024 matrix floats, 8,192 row entries, 512 marks"
 abbrev searchLent : SearchOut
-searchLent = record { matrices = replicate 1024 zeroF; rows = replicate 8192 0; marks = replicate 512 0 }
+searchLent = record { matrices = replicate (lent .floats) oneF; rows = replicate (lent .entries) 7; marks = replicate (lent .marks) 7 }
 
--- "a workspace of 4,096 words and 2,048 floats"
 abbrev typesIn : List ℕ → Answer × TypesOut
-typesIn b = typesCall b 4096 2048 typesLent
+typesIn b = typesCall b workWords workFloats typesLent
 
 abbrev members : List ℕ → Answer
-members b = searchCall b 4096 2048 searchLent .0
+members b = searchCall b workWords workFloats searchLent .0
 
 abbrev rotations : List ℕ → Answer
-rotations b = rotationsCall b 4096 2048 searchLent .0
+rotations b = rotationsCall b workWords workFloats searchLent .0
 
 -- a point under turns, with room for n points
 abbrev copies : ℕ → ℕ → List Float → List Float → Answer
@@ -59,12 +57,12 @@ pub record Trials : Type 0 where
   pub square-kit : kitText square ≡ ascii "types 2\n1 0 0 4\n2 0 0 4\nmembers 8 confirmed 8 rotations 4\n"
   -- "that square, first coordinates doubled: edge types 0 and 1, two each; 4 members, 2 rotations"
   pub doubled-types : typesIn doubled
-      ≡ (Done 3, record { elements = (0 ∷ 0 ∷ 0 ∷ 0 ∷ 0 ∷ 1 ∷ 0 ∷ 1 ∷ []) ++ replicate 248 0; types = (1 ∷ 0 ∷ 0 ∷ 4 ∷ 2 ∷ 0 ∷ 0 ∷ 2 ∷ 2 ∷ 1 ∷ 1 ∷ 2 ∷ []) ++ replicate 1012 0 })
+      ≡ (Done 3, record { elements = (0 ∷ 0 ∷ 0 ∷ 0 ∷ 0 ∷ 1 ∷ 0 ∷ 1 ∷ []) ++ replicate 248 7; types = (1 ∷ 0 ∷ 0 ∷ 4 ∷ 2 ∷ 0 ∷ 0 ∷ 2 ∷ 2 ∷ 1 ∷ 1 ∷ 2 ∷ []) ++ replicate 1012 7 })
   pub doubled-members : members doubled ≡ Done 4
   pub doubled-rotations : rotations doubled ≡ Done 2
   -- "(2,0), (0,1), (−2,0), (0,−1): vertex types two and two, one edge type; 4 members"
   pub rhombus-types : typesIn rhombus
-      ≡ (Done 3, record { elements = (0 ∷ 1 ∷ 0 ∷ 1 ∷ 0 ∷ 0 ∷ 0 ∷ 0 ∷ []) ++ replicate 248 0; types = (1 ∷ 0 ∷ 0 ∷ 2 ∷ 1 ∷ 1 ∷ 1 ∷ 2 ∷ 2 ∷ 0 ∷ 0 ∷ 4 ∷ []) ++ replicate 1012 0 })
+      ≡ (Done 3, record { elements = (0 ∷ 1 ∷ 0 ∷ 1 ∷ 0 ∷ 0 ∷ 0 ∷ 0 ∷ []) ++ replicate 248 7; types = (1 ∷ 0 ∷ 0 ∷ 2 ∷ 1 ∷ 1 ∷ 1 ∷ 2 ∷ 2 ∷ 0 ∷ 0 ∷ 4 ∷ []) ++ replicate 1012 7 })
   pub rhombus-members : members rhombus ≡ Done 4
   -- "R = 2 at −1 and 1: 2 members, 1 rotation. At 0 and 1: 11. At −1e-7 and 1e-7: 10. At 0 and 1e-7: 9, yet two vertex types"
   pub dyad-members : members dyad ≡ Done 2
@@ -73,7 +71,7 @@ pub record Trials : Type 0 where
   pub tiny-members : members tiny ≡ Refused Centred 0
   pub close-members : members close ≡ Refused DoubleCorner 0
   pub close-types : typesIn close
-      ≡ (Done 2, record { elements = (0 ∷ 1 ∷ []) ++ replicate 254 0; types = (1 ∷ 0 ∷ 0 ∷ 1 ∷ 1 ∷ 1 ∷ 1 ∷ 1 ∷ []) ++ replicate 1016 0 })
+      ≡ (Done 2, record { elements = (0 ∷ 1 ∷ []) ++ replicate 254 7; types = (1 ∷ 0 ∷ 0 ∷ 1 ∷ 1 ∷ 1 ∷ 1 ∷ 1 ∷ []) ++ replicate 1016 7 })
   -- "R = 1: no types; search 8"
   pub single-types : typesIn single ≡ (Done 0, typesLent)
   pub single-members : members single ≡ Refused NotFull 0

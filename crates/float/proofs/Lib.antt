@@ -1,0 +1,10 @@
+pub mod Magnitude
+pub mod Dots
+pub mod Written
+pub mod Sized
+pub mod Corner
+pub mod Leading
+pub mod PivotScan
+pub mod Beside
+pub mod Columns
+pub mod Inverses

@@ -1,0 +1,51 @@
+-- The magnitude by two tests against 0: each public lemma is one of the three ways through the tests.
+-- Assumes nothing.
+use mathlib.Core.Path.{_≡_, refl, sym, ap}
+use mathlib.Core.Bool.{Bool, true, false, _&&_}
+use Prim.Native.Nat.{ℕ, zero, suc, _+_, _*_, _^_, _<_}
+use native.Mathlib.Nat.{zero-mul, mul-pos, zero-lt-suc, pow-suc}
+use native.Mathlib.Omega.{arith}
+use lib.IntN.{ℤ, pos, negsuc}
+use lib.Ieee.{Float, nan, inf, fin, binary64, ofBits, fits, lt, eq, neg, up, down}
+use lib.Ieee.Fits.{up-pos}
+use borrow.Author.Tests.{eqb-true, ltb-true, ltb-false}
+use Rattle.spec.specs.Float.{absF}
+
+pub below-zero : (x : Float) → lt x (ofBits binary64 0) ≡ true → neg x ≡ absF x
+unfolding lt neg absF ofBits
+below-zero nan h = cc
+below-zero (inf false) h = cc
+below-zero (inf true) h = refl
+below-zero (fin false m e) h = absurd (omega (arith, ltb-true (m * up e * 1) (0 * down e) h, zero-mul (down e)))
+below-zero (fin true m e) h = refl
+
+-- a zero that fits is written with the exponent 0
+zero-is : (s : Bool) (e : ℤ) → fits binary64 (fin s 0 e) ≡ true → e ≡ pos 0
+unfolding fits
+zero-is s (pos zero) h = refl
+zero-is s (pos (suc k)) h = absurd (omega (arith, eqb-true (2 ^ suc k * 1) 1 h, pow-suc 2 k))
+zero-is s (negsuc k) h = absurd (omega (arith, eqb-true (1 * 2 ^ suc k) 1 h, pow-suc 2 k))
+
+and-left : (p q : Bool) → p && q ≡ true → p ≡ true
+and-left false q h = h
+and-left true q h = refl
+
+-- the magnitude of a number that is not zero is not zero
+some : (m : ℕ) (e : ℤ) → 0 < suc m * up e
+some m e = mul-pos (zero-lt-suc m) (up-pos e)
+
+pub at-zero : (x : Float) → fits binary64 x ≡ true → eq x (ofBits binary64 0) ≡ true → ofBits binary64 0 ≡ absF x
+unfolding eq absF ofBits
+at-zero nan f h = cc
+at-zero (inf s) f h = cc
+at-zero (fin s zero e) f h = ap (fin false 0) (sym (zero-is s e f))
+at-zero (fin s (suc m) e) f h = absurd (omega (arith, eqb-true (suc m * up e * 1) (0 * down e) (and-left _ _ h), zero-mul (down e), some m e))
+
+pub above-zero : (x : Float) → lt x (ofBits binary64 0) ≡ false → eq x (ofBits binary64 0) ≡ false → x ≡ absF x
+unfolding lt eq absF ofBits
+above-zero nan h k = refl
+above-zero (inf false) h k = refl
+above-zero (inf true) h k = cc
+above-zero (fin false m e) h k = refl
+above-zero (fin true zero e) h k = let z = simp zero-mul at k in cc
+above-zero (fin true (suc m) e) h k = absurd (omega (arith, ltb-false 0 (suc m * up e * 1 + 0 * down e) h, some m e))

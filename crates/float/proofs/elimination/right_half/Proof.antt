@@ -1,0 +1,54 @@
+-- The loop's invariant: the cells below j hold those from d on. The measure is what is left of d.
+-- Assumes nothing.
+use mathlib.Core.Path.{_≡_, sym, _∙_}
+use mathlib.Core.List.{map-id}
+use Prim.Native.Nat.{_≤_, _-_}
+use native.Mathlib.Omega.{arith}
+use lib.ListN.{getD, take, drop, length, length-drop}
+use lib.Seq.{getD-drop}
+use lib.Ieee.{nan}
+use borrow.Author.Needs.{needs}
+use Rattle.float.specs.Reading.{width}
+use Rattle.float.proofs.Written.{Written, none, next, end-plain, table-map}
+use Rattle.float.proofs.Beside.{drop-take}
+use Rattle.float.proofs.elimination.right_half.Statement.{statement}
+use Rattle.float.proofs.elimination.right_half.Tie as tie
+
+abbrev Inv-loop : tie.InvT-loop
+Inv-loop d v r₀ j₀ r j = (j ≤ d) × Written (λ x. x) (λ k. getD (drop d v) k nan) r₀ r j
+
+abbrev μ-loop : tie.MeasureT-loop
+μ-loop d v r₀ j₀ r j = d - j
+
+loop-again : tie.Need-loop-again Inv-loop μ-loop
+loop-again c =
+    let l = c .before .loop in
+    let a = c .before .before .args in
+    (search needs, next _ (omega arith) (sym (getD-drop (a .d) (a .t1) (l .j) nan)) (l .inv .1))
+
+returns : tie.Need-returns Inv-loop μ-loop
+returns c =
+    let a = c .before .before .args in
+    let v = drop (a .d) (a .t1) in
+    let k : length (a .t1) ≡ width = search needs in
+    end-plain (a .d) (c .before .loop .inv .0) (c .loop-test .left) (c .before .loop .inv .1)
+    ∙ table-map (λ x. x) nan v (a .d) (omega (arith, length-drop (a .d) (a .t1)))
+    ∙ map-id (take (a .d) v)
+    ∙ sym (drop-take (a .d) (a .d) (a .t1) (omega arith))
+
+pub right-half-spec : {M : Type 1} → statement M
+right-half-spec =
+    tie.close
+    (tie.spec
+    Inv-loop
+    μ-loop
+    (λ c. (search needs, none))
+    (λ c. search needs)
+    (λ c. search needs)
+    (λ c. search needs)
+    (λ c. search needs)
+    (λ c. search needs)
+    (λ c. search needs)
+    (λ c. search needs)
+    loop-again
+    returns)

@@ -1,0 +1,53 @@
+-- The loop's invariant: the rows below i hold the product's. The measure is what is left of d.
+-- Assumes nothing.
+use mathlib.Core.Path.{_≡_, _∙_}
+use mathlib.Core.List.{[], map}
+use Prim.Native.Nat.{_≤_, _-_}
+use native.Mathlib.Omega.{arith}
+use lib.ListN.{getD, take, length}
+use borrow.Author.Needs.{needs}
+use Rattle.spec.specs.Limits.{maxDimension}
+use Rattle.spec.specs.Float.{dot}
+use Rattle.spec.specs.Matrix.{mulMat}
+use Rattle.float.specs.Reading.{corner}
+use Rattle.float.proofs.Written.{Written, none, next, end}
+use Rattle.float.proofs.Corner.{over-corner}
+use Rattle.float.proofs.matrix.product.Statement.{statement}
+use Rattle.float.proofs.matrix.product.Tie as tie
+
+abbrev Inv-loop : tie.InvT-loop
+Inv-loop d a t r₀ i₀ r i = (i ≤ d) × Written (take d) (λ k. map (dot (take d (getD a k []))) (corner d t)) r₀ r i
+
+abbrev μ-loop : tie.MeasureT-loop
+μ-loop d a t r₀ i₀ r i = d - i
+
+loop-again : tie.Need-loop-again Inv-loop μ-loop
+loop-again c = (search needs, next _ (omega arith) (c .dots .ensures) (c .before .before .before .loop .inv .1))
+
+returns : tie.Need-returns Inv-loop μ-loop
+unfolding corner mulMat
+returns c =
+    let s = c .before .before in
+    let a = s .before .args .t1 in
+    let h : length a ≡ maxDimension = search needs in
+    end (s .before .args .d) (c .before .loop .inv .0) (c .loop-test .left) (c .before .loop .inv .1)
+    ∙ over-corner (λ x. map (dot x) (corner (s .before .args .d) (s .from-columns .result))) (s .before .args .d) a (omega arith)
+    ∙ rw (s .from-columns .ensures)
+
+pub product-spec : {M : Type 1} → statement M
+product-spec =
+    tie.close
+    (tie.spec
+    Inv-loop
+    μ-loop
+    (λ c κs. search needs)
+    (λ c. (search needs, none))
+    (λ c. search needs)
+    (λ c. search needs)
+    (λ c κs. search needs)
+    (λ c. search needs)
+    (λ c. search needs)
+    (λ c. search needs)
+    (λ c. search needs)
+    loop-again
+    returns)

@@ -1,0 +1,30 @@
+// How near is one and the same: the constant, and the magnitude that it is compared with.
+ghost use mathlib.Core.Path.{_≡_};
+ghost use Rattle.spec.specs.Float.{eps, absF};
+
+// The type that the constant belongs to.
+pub struct Tolerance {}
+
+impl Tolerance {
+    pub const EPS: f64 = 1e-7;
+
+    // The constant is the one that the definitions name.
+    pub fn eps() -> f64
+        ensures { λ r. ⌜ r ≡ eps ⌝ }
+    {
+        Self::EPS
+    }
+}
+
+// The number without its sign. A zero is equal to 0.0 under either sign, so it has a case of its own; a NaN passes neither test.
+pub fn magnitude(x: f64) -> f64
+    ensures { λ r. ⌜ r ≡ absF x ⌝ }
+{
+    if x < 0.0 {
+        return -x;
+    }
+    if x == 0.0 {
+        return 0.0;
+    }
+    x
+}

@@ -1,0 +1,70 @@
+// Vectors: slices of any length, and the first d entries of arrays.
+ghost use mathlib.Core.Path.{_≡_};
+ghost use Prim.Native.Nat.{_≤_, _-_};
+ghost use mathlib.Core.List.{_++_};
+ghost use lib.ListN.{length, take, replicate};
+ghost use Rattle.spec.specs.Limits.{maxDimension};
+ghost use Rattle.spec.specs.Float.{zeroF, dot, zip, minus, norm};
+use crate::DIMENSION;
+use crate::root;
+
+// The sum of the products, from the first on, by rising index.
+pub fn dot(a: &[f64], b: &[f64]) -> f64
+    requires { ⌜ length (now a) ≡ length (now b) ⌝ }
+    ensures { λ r. ⌜ r ≡ dot (now (a .entry)) (now (b .entry)) ⌝ }
+{
+    if a.len() == 0 {
+        return 0.0;
+    }
+    let mut t = a[0] * b[0];
+    let mut i: usize = 1;
+    while i < a.len() {
+        t = t + a[i] * b[i];
+        i += 1;
+    }
+    t
+}
+
+// The same of the first d entries.
+pub fn dot_of(a: [f64; DIMENSION], b: [f64; DIMENSION], d: usize) -> f64
+    requires { ⌜ d ≤ maxDimension ⌝ }
+    ensures { λ r. ⌜ r ≡ dot (take d a) (take d b) ⌝ }
+{
+    dot(&a[..d], &b[..d])
+}
+
+// a less b, entry by entry.
+pub fn difference(a: [f64; DIMENSION], b: [f64; DIMENSION], d: usize) -> [f64; DIMENSION]
+    requires { ⌜ d ≤ maxDimension ⌝ }
+    ensures { λ r. ⌜ take d r ≡ zip minus (take d a) (take d b) ⌝ }
+{
+    let mut r = a;
+    let mut i: usize = 0;
+    while i < d {
+        r[i] = a[i] - b[i];
+        i += 1;
+    }
+    r
+}
+
+// A slice as an array, with zeros after it.
+pub fn load(p: &[f64]) -> [f64; DIMENSION]
+    requires { ⌜ length (now p) ≤ maxDimension ⌝ }
+    ensures { λ r. ⌜ r ≡ now (p .entry) ++ replicate (maxDimension - length (now (p .entry))) zeroF ⌝ }
+{
+    let mut r = [0.0; DIMENSION];
+    let mut i: usize = 0;
+    while i < p.len() {
+        r[i] = p[i];
+        i += 1;
+    }
+    r
+}
+
+// "A norm is the square root of a vector's dot with itself."
+pub fn norm(a: [f64; DIMENSION], d: usize) -> f64
+    requires { ⌜ d ≤ maxDimension ⌝ }
+    ensures { λ r. ⌜ r ≡ norm (take d a) ⌝ }
+{
+    root::root(dot_of(a, a, d))
+}

@@ -1,0 +1,96 @@
+// Does one operation of crate `float` again and again, each on what the one before gave, and prints the last pattern. The first
+// argument names it: r root, i inverse, d determinant, p product; the second, a digit n, says how often: 8^n times.
+// tools/bench_float.sh times it. In the gate it runs a few times only.
+use float::bits;
+use float::matrix;
+
+fn repeat_root(times: u64) -> f64 {
+    let mut x = 2.0;
+    let mut left = times;
+    while left > 0 {
+        x = float::root::root(x + 1000.0);
+        left -= 1;
+    }
+    x
+}
+
+fn start(x: f64) -> [[f64; 4]; 4] {
+    [
+        [x, 0.5, -0.25, 3.0],
+        [2.0, 1.0, 0.1, -1.0],
+        [-2.0, 0.3, 0.7, 0.9],
+        [0.6, -1.1, 2.2, 0.4],
+    ]
+}
+
+fn repeat_inverse(times: u64) -> f64 {
+    let mut x = 1.0;
+    let mut left = times;
+    while left > 0 {
+        let m = matrix::rows(matrix::inverse(start(x), 4));
+        x = m[1][1] + 1.0;
+        left -= 1;
+    }
+    x
+}
+
+fn repeat_determinant(times: u64) -> f64 {
+    let mut x = 1.0;
+    let mut left = times;
+    while left > 0 {
+        x = 1.0 / matrix::determinant(start(x), 4);
+        left -= 1;
+    }
+    x
+}
+
+// Each product is of the one before with itself, so that every entry counts.
+fn repeat_product(times: u64) -> f64 {
+    let mut m = [
+        [0.0, 1.0, 0.0, 0.0],
+        [0.0, 0.0, -1.0, 0.0],
+        [0.0, 0.0, 0.0, 1.0],
+        [1.0, 0.0, 0.0, 0.0],
+    ];
+    let mut left = times;
+    while left > 0 {
+        m = matrix::product(m, m, 4);
+        left -= 1;
+    }
+    m[0][0]
+}
+
+fn power(n: u8) -> u64 {
+    match n {
+        b'1' => 8,
+        b'2' => 64,
+        b'3' => 512,
+        b'4' => 4096,
+        b'5' => 32768,
+        b'6' => 262144,
+        b'7' => 2097152,
+        b'8' => 16777216,
+        _ => 1,
+    }
+}
+
+fn repeat(kind: u8, times: u64) -> f64 {
+    match kind {
+        b'r' => repeat_root(times),
+        b'i' => repeat_inverse(times),
+        b'd' => repeat_determinant(times),
+        _ => repeat_product(times),
+    }
+}
+
+fn argument(i: usize) -> u8 {
+    let mut b = [0u8; 1];
+    let n = os::arg(i, &mut b);
+    if n == 1 { b[0] } else { 0 }
+}
+
+fn main() {
+    let x = repeat(argument(1), power(argument(2)));
+    io::print_hex(1, bits::pattern(x), 16);
+    io::write_all(1, &[b'\n']);
+}
