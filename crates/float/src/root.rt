@@ -103,7 +103,8 @@ fn root_bits(b: u64) -> u64
 }
 
 // "The root is the exact root rounded to nearest, ties to even"; of a zero it is that zero, and of what is
-// below, no number. A NaN fails both tests against zero, and is its own root.
+// below, no number. A NaN fails both tests against zero, and is its own root. That the definition is IEEE 754's root is `EveryRoot` of
+// crate `spec`; that the root of a finite x that is not negative is finite, not negative, and zero only at zero, is its `root-facts`.
 pub fn root(x: f64) -> f64
     ensures { λ r. ⌜ r ≡ rootOf x ⌝ }
 {
