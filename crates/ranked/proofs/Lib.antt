@@ -1,0 +1,6 @@
+pub mod Turns
+pub mod Solids
+pub mod Parts
+pub mod Between
+pub mod Judged
+pub mod Walked

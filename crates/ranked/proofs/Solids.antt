@@ -1,0 +1,92 @@
+-- From words to the solid that they hold: one law each for lists, subs, sups, sizes and the top.
+-- Assumes nothing.
+use mathlib.Core.Path.{_≡_, sym, _∙_, ap}
+use mathlib.Core.List.{List, [], map}
+use Prim.Native.Nat.{ℕ, zero, suc, _+_, _-_, _≤_, _<_}
+use native.Mathlib.Omega.{arith}
+use native.Mathlib.Numerals.{add-one}
+use lib.ListN.{length, getD, length-take, length-drop, List·getD-eq-default}
+use lib.Seq.{getD-take, getD-drop}
+use Rattle.spec.specs.Lists.{In, range}
+use Rattle.spec.specs.Types.{top, size, subs, sups}
+use Rattle.spec.proofs.Lists.{getD-table, length-table}
+use Rattle.ranked.specs.declared.Shape.{Shape}
+use Rattle.ranked.specs.Words.{firstAt, sizeAt, total, listAt, subsIn, supsIn, solidIn, Inside, Held}
+use Rattle.ranked.specs.Reading.{Lies, subsWord, supsWord}
+use Rattle.ranked.proofs.Between.{sup-means}
+
+-- ---- a list
+
+module _ (w : List ℕ) (i : ℕ) (a : Lies w i) where
+  pub count-is : length (listAt w i) ≡ getD w (i + 1) 0
+  unfolding listAt
+  count-is = let h = a .inside in rw add-one (simp (length-take, length-drop) (omega arith))
+
+  pub list-in : getD w i 0 + length (listAt w i) ≤ length w
+  list-in = let h : Inside w i = a .inside in rw (count-is, add-one) h
+
+  pub entry-is : (k : ℕ) → k < length (listAt w i) → getD (listAt w i) k 0 ≡ getD w (getD w i 0 + k) 0
+  unfolding listAt
+  entry-is k h = let q : k < getD w (suc i) 0 = rw (count-is, add-one) at h in rw (getD-take, getD-drop)
+
+-- ---- the solid
+
+module _ (sh : Shape) (w : List ℕ) where
+  pub top-is : top (solidIn sh w) ≡ sh .rank
+  unfolding solidIn
+  top-is = rw length-table (omega arith)
+
+  rank-is : (r : ℕ) → r ≤ sh .rank → getD (solidIn sh w) r [] ≡ map (subsIn sh w r) (range 0 (sizeAt sh r))
+  unfolding solidIn
+  rank-is r h = getD-table (λ q. map (subsIn sh w q) (range 0 (sizeAt sh q))) [] (suc (sh .rank)) r (omega arith)
+
+  pub size-is : (r : ℕ) → r ≤ sh .rank → size (solidIn sh w) r ≡ sizeAt sh r
+  size-is r h = ap length (rank-is r h) ∙ length-table (subsIn sh w r) (sizeAt sh r)
+
+  -- no rank stands above the top
+  pub size-past : (r : ℕ) → sh .rank < r → size (solidIn sh w) r ≡ 0
+  unfolding solidIn
+  size-past r h = ap length (List·getD-eq-default (solidIn sh w) [] (rw (length-table (λ q. map (subsIn sh w q) (range 0 (sizeAt sh q)))) h))
+
+  pub subs-is : (r e : ℕ) → r ≤ sh .rank → e < sizeAt sh r → subs (solidIn sh w) r e ≡ subsIn sh w r e
+  unfolding subs
+  subs-is r e h k = ap (λ (l : List (List ℕ)). getD l e []) (rank-is r h) ∙ getD-table (subsIn sh w r) [] (sizeAt sh r) e k
+
+module _ (sh : Shape) (w : List ℕ) (h : Held sh w) where
+  -- the ranks up to r, and so the top's, lie one after another
+  below-total : (n r : ℕ) → r + n ≡ sh .rank → firstAt sh (suc r) ≤ total sh
+  below-total zero r e = let q : suc r ≡ suc (sh .rank) = omega arith in rw q (omega arith)
+  below-total (suc n) r e = omega (arith, below-total n (suc r) (omega arith), h .some (suc r) (omega arith))
+
+  -- an element's number over all ranks
+  pub number-in : (r e : ℕ) → r ≤ sh .rank → e < sizeAt sh r → firstAt sh r + e < total sh
+  number-in r e q k = omega (arith, below-total (sh .rank - r) r (omega arith))
+
+  pub subs-lie : (r e : ℕ) → r ≤ sh .rank → e < sizeAt sh r → Lies w (subsWord (firstAt sh r) e)
+  subs-lie r e q k =
+      let n = number-in r e q k in
+      record { head = omega (arith, h .room); inside = h .subs-inside (firstAt sh r + e) n }
+
+  pub sups-lie : (r e : ℕ) → r ≤ sh .rank → e < sizeAt sh r → Lies w (supsWord (firstAt sh r) e)
+  sups-lie r e q k =
+      let n = number-in r e q k in
+      record { head = omega (arith, h .room); inside = h .sups-inside (firstAt sh r + e) n }
+
+  pub sups-is : (r e : ℕ) → r ≤ sh .rank → e < sizeAt sh r → sups (solidIn sh w) r e ≡ supsIn sh w r e
+  sups-is r e q k = sym (h .derived r e q k)
+
+  -- the lists in the words
+  pub subs-listed : (r e : ℕ) → r ≤ sh .rank → e < sizeAt sh r → listAt w (subsWord (firstAt sh r) e) ≡ subs (solidIn sh w) r e
+  unfolding subsIn
+  subs-listed r e q k = sym (subs-is sh w r e q k)
+
+  pub sups-listed : (r e : ℕ) → r ≤ sh .rank → e < sizeAt sh r → listAt w (supsWord (firstAt sh r) e) ≡ sups (solidIn sh w) r e
+  unfolding supsIn
+  sups-listed r e q k = h .derived r e q k
+
+  -- "Subs of an element lie one rank below, sups one above"
+  pub sub-in : (r e x : ℕ) → suc r ≤ sh .rank → In x (subs (solidIn sh w) (suc r) e) → x < sizeAt sh r
+  sub-in r e x q m = rw (size-is sh w r (omega arith)) at (h .sound .below r e x m)
+
+  pub sup-in : (r e x : ℕ) → suc r ≤ sh .rank → In x (sups (solidIn sh w) r e) → x < sizeAt sh (suc r)
+  sup-in r e x q m = rw (size-is sh w (suc r) q) at (sup-means (solidIn sh w) r x e m .0)
