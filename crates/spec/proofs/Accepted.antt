@@ -47,7 +47,7 @@ module _ {A B : Type 0} where
       go (refused why) q e = absurd (never why y e)
       go (passed x) q e = (x, q, e)
 
-  after : (m : Reader A) (k : Reader B) (i : ℕ) (y : B × ℕ) → (m >> k) i ≡ passed y → (x : A × ℕ) × (m i ≡ passed x) × (k (x .1) ≡ passed y)
+  pub after : (m : Reader A) (k : Reader B) (i : ℕ) (y : B × ℕ) → (m >> k) i ≡ passed y → (x : A × ℕ) × (m i ≡ passed x) × (k (x .1) ≡ passed y)
   unfolding _>>_
   after m k i y = go (m i) refl
     where
@@ -55,7 +55,7 @@ module _ {A B : Type 0} where
       go (refused why) q e = absurd (never why y e)
       go (passed x) q e = (x, q, e)
 
-judged : (why : Refusal) (ok : Bool) (i : ℕ) (y : Unit {0} × ℕ) → judge why ok i ≡ passed y → ok ≡ true
+pub judged : (why : Refusal) (ok : Bool) (i : ℕ) (y : Unit {0} × ℕ) → judge why ok i ≡ passed y → ok ≡ true
 unfolding judge
 judged why true i y e = refl
 judged why false i y e = absurd (never why y e)
@@ -140,7 +140,7 @@ unfolding Sized
 sized-length [] [] h = refl
 sized-length (n ∷ sizes) (ls ∷ more) h = ap suc (sized-length sizes more (h .2))
 
-times-read : {A : Type 0} (n : ℕ) (m : Reader A) (i : ℕ) (y : List A × ℕ) → times n m i ≡ passed y → length (y .0) ≡ n
+pub times-read : {A : Type 0} (n : ℕ) (m : Reader A) (i : ℕ) (y : List A × ℕ) → times n m i ≡ passed y → length (y .0) ≡ n
 unfolding times done
 times-read zero m i y e = ap (λ (z : List _ × ℕ). length (z .0)) (sym (same ([], i) y e))
 times-read (suc n) m i y e =
@@ -152,7 +152,7 @@ pub one-or : {A : Type 0} (P : A → Type 0) (x a : A) (l : List A) → In x (a 
 one-or P x a l (inl q) k r = rw q k
 one-or P x a l (inr m) k r = r m
 
-times-each : {A : Type 0} (P : A → Type 0) (m : Reader A) → ((i : ℕ) (y : A × ℕ) → m i ≡ passed y → P (y .0)) → (n i : ℕ) (y : List A × ℕ) → times n m i ≡ passed y → (x : A) → In x (y .0) → P x
+pub times-each : {A : Type 0} (P : A → Type 0) (m : Reader A) → ((i : ℕ) (y : A × ℕ) → m i ≡ passed y → P (y .0)) → (n i : ℕ) (y : List A × ℕ) → times n m i ≡ passed y → (x : A) → In x (y .0) → P x
 unfolding times done
 times-each P m f zero i y e x h = absurd (subst (λ (z : List _ × ℕ). In x (z .0)) (sym (same ([], i) y e)) h)
 times-each P m f (suc n) i y e x h =
@@ -170,15 +170,15 @@ judged-field b w k t f i y e =
     (h₁ .0 .0, judged k (t (h₁ .0 .0)) (h₁ .0 .1) (h₂ .0) (h₂ .1), ap (λ z. z .0) (sym (same _ y (h₂ .2))))
 
 module _ (b : List ℕ) (i : ℕ) where
-  rank-read : (y : ℕ × ℕ) → rank b i ≡ passed y → y .0 ≤ maxRank
+  pub rank-read : (y : ℕ × ℕ) → rank b i ≡ passed y → y .0 ≤ maxRank
   unfolding rank
   rank-read y e = let h = judged-field b 3 Format (λ n. leb n maxRank) (λ n. n) i y e in rw (h .2) (le-test (h .0) maxRank (h .1))
 
-  dimension-read : (y : ℕ × ℕ) → dimension b i ≡ passed y → y .0 ≤ maxDimension
+  pub dimension-read : (y : ℕ × ℕ) → dimension b i ≡ passed y → y .0 ≤ maxDimension
   unfolding dimension
   dimension-read y e = let h = judged-field b 3 Format (λ n. leb n maxDimension) (λ n. n) i y e in rw (h .2) (le-test (h .0) maxDimension (h .1))
 
-  count-read : (y : ℕ × ℕ) → count b i ≡ passed y → (0 < y .0) × (y .0 ≤ maxCount)
+  pub count-read : (y : ℕ × ℕ) → count b i ≡ passed y → (0 < y .0) × (y .0 ≤ maxCount)
   unfolding count
   count-read y e =
       let h = judged-field b 12 Format (λ n. ltb 0 n && leb n maxCount) (λ n. n) i y e in

@@ -1,0 +1,45 @@
+-- What judging a sheet answers: the verdict of the preflight answers 1 to 4, and of a sheet that passes what it says beside its coordinates and
+-- lists.
+-- Assumes nothing.
+use Prim.Native.Nat.{ℕ, _-_}
+use mathlib.Core.List.{List, map, _++_}
+use lib.ListN.{length, replicate}
+use Rattle.spec.specs.Limits.{maxRank}
+use Rattle.spec.specs.Lists.{sum}
+use Rattle.spec.specs.Judged.{Judged, refused, passed}
+use Rattle.spec.specs.Sheet.{Parsed}
+use Rattle.sheet.specs.declared.Header.{Header}
+use Rattle.sheet.specs.declared.Verdict.the-variants as verdict
+use Rattle.sheet.specs.declared.Judgement.{Judgement}
+
+-- the proper ranks of the greatest R
+abbrev pub proper : ℕ
+proper = maxRank - 1
+
+-- the counts, with zeros after them
+unfoldable pub padded : List ℕ → List ℕ
+padded counts = counts ++ replicate (proper - length counts) 0
+
+-- how many entries a rank's lists have, and those of all ranks
+unfoldable pub rankEntries : List (List ℕ) → ℕ
+rankEntries ls = sum (map length ls)
+
+unfoldable pub allEntries : List (List (List ℕ)) → ℕ
+allEntries lists = sum (map rankEntries lists)
+
+-- R, D and the counts; "E counts proper elements, I stored list entries"
+unfoldable pub headerOf : Parsed → Header
+headerOf p = record {
+  rank = p .rank;
+  dimension = p .dimension;
+  counts = padded (p .counts);
+  elements = sum (p .counts);
+  entries = allEntries (p .lists);
+}
+
+unfoldable pub noHeader : Header
+noHeader = record { rank = 0; dimension = 0; counts = replicate proper 0; elements = 0; entries = 0 }
+
+unfoldable pub judgementOf : Judged Parsed → Judgement
+judgementOf (refused why) = record { verdict = verdict.Refused why; header = noHeader }
+judgementOf (passed p) = record { verdict = verdict.Accepted; header = headerOf p }

@@ -1,0 +1,388 @@
+// Section 2's sheet: its bits, and the judging of refusals 1 to 4 in one pass that uses no workspace.
+ghost use mathlib.Core.Path.{_≡_};
+ghost use Prim.Native.Nat.{ℕ, _+_, _-_, _*_, _/_, _^_, _≤_, _<_};
+ghost use lib.ListN.{length, getD, take};
+ghost use lib.Dec.{leb};
+ghost use lib.Ieee.{binary64, ofBits};
+ghost use Rattle.spec.specs.Limits.{maxRank, maxDimension, maxCount, maxEntries};
+ghost use Rattle.spec.specs.Float.{inRange};
+ghost use Rattle.spec.specs.Bits as bits;
+ghost use Rattle.spec.specs.Judged as judged;
+ghost use Rattle.spec.specs.Sheet as form;
+ghost use Rattle.sheet.specs.Judge.{proper, rankEntries, allEntries, judgementOf};
+ghost use Rattle.sheet.specs.Reading.{placeOf, countedOf, listedOf, passes, bodyAt, restAt, judgementAt};
+use spec::Refusal;
+
+// Section 2's limits.
+const MAX_RANK: usize = 5;
+
+const MAX_DIMENSION: usize = 4;
+
+const MAX_COUNT: usize = 2048;
+
+const MAX_ENTRIES: usize = 8192;
+
+// The proper ranks of the greatest R.
+pub const PROPER: usize = MAX_RANK - 1;
+
+// What a sheet says beside its coordinates and lists: R, D, the counts of ranks 1 to R - 1 and zeros after them, the sum of the counts (E) and
+// the number of list entries (I).
+pub struct Header {
+    pub rank: usize,
+    pub dimension: usize,
+    pub counts: [usize; PROPER],
+    pub elements: usize,
+    pub entries: usize,
+}
+
+pub enum Verdict {
+    Accepted,
+    Refused(Refusal),
+}
+
+// The header is all zeros where the sheet is refused.
+pub struct Judgement {
+    pub verdict: Verdict,
+    pub header: Header,
+}
+
+// Where a reading ends: the bit at which the next field starts, or a refusal.
+enum Place {
+    At(usize),
+    Refused(Refusal),
+}
+
+// The same of the counts, with the counts read and their sum, zeros where it is refused.
+struct Counted {
+    place: Place,
+    counts: [usize; PROPER],
+    elements: usize,
+}
+
+// The same of lists, with the number of entries.
+enum Listed {
+    At(usize, usize),
+    Refused(Refusal),
+}
+
+// Bit `at` of the sheet.
+fn bit(sheet: &[u8], at: usize) -> u64
+    requires { ⌜ at / 8 < length (now sheet) ⌝ }
+    ensures { λ r. ⌜ r ≡ bits.bit (now (sheet .entry)) at ⌝ }
+{
+    ((sheet[at / 8] >> (7 - at % 8)) % 2) as u64
+}
+
+// Whether the `width` bits from bit `at` on are all there. A sheet's length in bits may not fit 64 bits, so bytes are compared.
+fn whole(sheet: &[u8], at: usize, width: usize) -> bool
+    requires { ⌜ at + width + 7 < 2 ^ 64 ⌝ }
+    ensures { λ r. ⌜ r ≡ leb (at + width) (8 * length (now (sheet .entry))) ⌝ }
+{
+    (at + width + 7) / 8 <= sheet.len()
+}
+
+// The number that the `width` bits from bit `at` on are.
+pub fn field(sheet: &[u8], at: usize, width: usize) -> u64
+    requires { ⌜ (width ≤ 64) × (at + width < 2 ^ 64) × (at + width ≤ 8 * length (now sheet)) ⌝ }
+    ensures { λ r. ⌜ r ≡ bits.field (now (sheet .entry)) at width ⌝ }
+{
+    let mut v: u64 = 0;
+    let mut k = 0;
+    while k < width {
+        v = 2 * v + bit(sheet, at + k);
+        k += 1;
+    }
+    v
+}
+
+// Whether a pattern's value is finite and of magnitude at most 1,048,576. A NaN's pattern may not become a float, so the pattern is judged:
+// without its sign it is at most the greatest magnitude's.
+fn on_board(pattern: u64) -> bool
+    ensures { λ r. ⌜ r ≡ inRange (ofBits binary64 pattern) ⌝ }
+{
+    pattern % 0x8000_0000_0000_0000 <= 0x4130_0000_0000_0000
+}
+
+// What a refusal says of counts.
+fn uncounted(why: Refusal) -> Counted
+    ensures { λ r. ⌜ r ≡ countedOf (judged.refused why) ⌝ }
+{
+    Counted {
+        place: Place::Refused(why),
+        counts: [0usize; PROPER],
+        elements: 0,
+    }
+}
+
+// The counts of `n` proper ranks, 12 bits each.
+fn counts(sheet: &[u8], start: usize, n: usize) -> Counted
+    requires { ⌜ (start + 12 * n + 7 < 2 ^ 64) × (n ≤ proper) ⌝ }
+    ensures { λ r. ⌜ r ≡ countedOf (form.times n (form.count (now (sheet .entry))) start) ⌝ }
+{
+    let mut counts = [0usize; PROPER];
+    let mut elements: usize = 0;
+    let mut at = start;
+    let mut k = 0;
+    while k < n {
+        if !whole(sheet, at, 12) {
+            return uncounted(Refusal::CutSheet);
+        }
+        let x = field(sheet, at, 12) as usize;
+        if x == 0 {
+            return uncounted(Refusal::Format);
+        }
+        if x > MAX_COUNT {
+            return uncounted(Refusal::Format);
+        }
+        counts[k] = x;
+        elements += x;
+        at += 12;
+        k += 1;
+    }
+    Counted {
+        place: Place::At(at),
+        counts,
+        elements,
+    }
+}
+
+// `n` coordinates, 64 bits each.
+fn coordinates(sheet: &[u8], start: usize, n: usize) -> Place
+    requires { ⌜ start + 64 * n + 7 < 2 ^ 64 ⌝ }
+    ensures { λ r. ⌜ r ≡ placeOf (form.times n (form.coordinate (now (sheet .entry))) start) ⌝ }
+{
+    let mut at = start;
+    let mut k = 0;
+    while k < n {
+        if !whole(sheet, at, 64) {
+            return Place::Refused(Refusal::CutSheet);
+        }
+        if !on_board(field(sheet, at, 64)) {
+            return Place::Refused(Refusal::OffTheBoard);
+        }
+        at += 64;
+        k += 1;
+    }
+    Place::At(at)
+}
+
+// `n` subs, 11 bits each: below `below`, and strictly rising.
+fn subs(sheet: &[u8], start: usize, below: usize, n: usize) -> Place
+    requires { ⌜ start + 11 * n + 7 < 2 ^ 64 ⌝ }
+    ensures { λ r. ⌜ r ≡ placeOf (form.subList (now (sheet .entry)) below n 0 start) ⌝ }
+{
+    let mut low: usize = 0;
+    let mut at = start;
+    let mut k = 0;
+    while k < n {
+        if !whole(sheet, at, 11) {
+            return Place::Refused(Refusal::CutSheet);
+        }
+        let x = field(sheet, at, 11) as usize;
+        if x >= below {
+            return Place::Refused(Refusal::BadList);
+        }
+        if x < low {
+            return Place::Refused(Refusal::BadList);
+        }
+        low = x + 1;
+        at += 11;
+        k += 1;
+    }
+    Place::At(at)
+}
+
+// One list, its length in 12 bits and its subs, after `used` entries of its rank.
+fn list(sheet: &[u8], at: usize, below: usize, used: usize) -> Listed
+    requires { ⌜ (at < 2 ^ 32) × (used ≤ maxEntries) ⌝ }
+    ensures { λ r. ⌜ r ≡ listedOf length used (form.list (now (sheet .entry)) below used at) ⌝ }
+{
+    if !whole(sheet, at, 12) {
+        return Listed::Refused(Refusal::CutSheet);
+    }
+    let n = field(sheet, at, 12) as usize;
+    if used + n > MAX_ENTRIES {
+        return Listed::Refused(Refusal::Format);
+    }
+    if n == 0 {
+        return Listed::Refused(Refusal::BadList);
+    }
+    match subs(sheet, at + 12, below, n) {
+        Place::Refused(why) => Listed::Refused(why),
+        Place::At(p) => Listed::At(p, used + n),
+    }
+}
+
+// The lists of a rank's `n` elements.
+fn rank_lists(sheet: &[u8], start: usize, below: usize, n: usize) -> Listed
+    requires { ⌜ (start < 2 ^ 31) × (n ≤ maxCount) ⌝ }
+    ensures { λ r. ⌜ r ≡ listedOf rankEntries 0 (form.listsAt (now (sheet .entry)) below n 0 start) ⌝ }
+{
+    let mut used: usize = 0;
+    let mut at = start;
+    let mut k = 0;
+    while k < n {
+        match list(sheet, at, below, used) {
+            Listed::Refused(why) => {
+                return Listed::Refused(why);
+            }
+            Listed::At(p, u) => {
+                at = p;
+                used = u;
+            }
+        }
+        k += 1;
+    }
+    Listed::At(at, used)
+}
+
+// The lists of ranks 2 to n, by the counts of ranks 1 to n.
+fn lists(sheet: &[u8], start: usize, counts: [usize; PROPER], n: usize) -> Listed
+    requires { ⌜ (start < 2 ^ 30) × (n ≤ proper) × ((k : ℕ) → getD counts k 0 ≤ maxCount) ⌝ }
+    ensures { λ r. ⌜ r ≡ listedOf allEntries 0 (form.lists (now (sheet .entry)) (take n counts) start) ⌝ }
+{
+    let mut entries: usize = 0;
+    let mut below = counts[0];
+    let mut at = start;
+    let mut k = 1;
+    while k < n {
+        match rank_lists(sheet, at, below, counts[k]) {
+            Listed::Refused(why) => {
+                return Listed::Refused(why);
+            }
+            Listed::At(p, u) => {
+                at = p;
+                entries += u;
+            }
+        }
+        below = counts[k];
+        k += 1;
+    }
+    Listed::At(at, entries)
+}
+
+// Whether the sheet ends here: no byte follows, and the filling bits are 0.
+fn ends(sheet: &[u8], at: usize) -> bool
+    requires { ⌜ at < 2 ^ 63 ⌝ }
+    ensures { λ r. ⌜ r ≡ passes (form.end (now (sheet .entry)) at) ⌝ }
+{
+    if sheet.len() > (at + 7) / 8 {
+        return false;
+    }
+    let end = 8 * sheet.len();
+    if end <= at {
+        return true;
+    }
+    field(sheet, at, end - at) == 0
+}
+
+// The number of proper ranks.
+fn proper_ranks(rank: usize) -> usize
+    ensures { λ r. ⌜ r ≡ rank - 1 ⌝ }
+{
+    if rank == 0 { 0 } else { rank - 1 }
+}
+
+// V: rank 1's count, but 1 where R = 1 and 0 where R = 0.
+fn vertices(rank: usize, counts: [usize; PROPER]) -> usize
+    ensures { λ r. ⌜ r ≡ form.vertexCount rank (take (rank - 1) counts) ⌝ }
+{
+    if rank < 2 {
+        return rank;
+    }
+    counts[0]
+}
+
+// The coordinates, the lists of `n` proper ranks and the end.
+fn body(
+    sheet: &[u8],
+    start: usize,
+    vertices: usize,
+    dimension: usize,
+    counts: [usize; PROPER],
+    n: usize,
+) -> Listed
+    requires { ⌜ (start < 2 ^ 16) × (vertices ≤ maxCount) × (dimension ≤ maxDimension) × (n ≤ proper) × ((k : ℕ) → getD counts k 0 ≤ maxCount) ⌝ }
+    ensures { λ r. ⌜ r ≡ listedOf allEntries 0 (bodyAt (now (sheet .entry)) vertices dimension (take n counts) start) ⌝ }
+{
+    match coordinates(sheet, start, vertices * dimension) {
+        Place::Refused(why) => Listed::Refused(why),
+        Place::At(at) => match lists(sheet, at, counts, n) {
+            Listed::Refused(why) => Listed::Refused(why),
+            Listed::At(end, entries) => {
+                if ends(sheet, end) {
+                    Listed::At(end, entries)
+                } else {
+                    Listed::Refused(Refusal::CutSheet)
+                }
+            }
+        },
+    }
+}
+
+// What a refusal says.
+fn refused(why: Refusal) -> Judgement
+    ensures { λ r. ⌜ r ≡ judgementOf (judged.refused why) ⌝ }
+{
+    Judgement {
+        verdict: Verdict::Refused(why),
+        header: Header {
+            rank: 0,
+            dimension: 0,
+            counts: [0usize; PROPER],
+            elements: 0,
+            entries: 0,
+        },
+    }
+}
+
+// All that comes after R and D.
+fn rest(sheet: &[u8], rank: usize, dimension: usize) -> Judgement
+    requires { ⌜ (rank ≤ maxRank) × (dimension ≤ maxDimension) ⌝ }
+    ensures { λ r. ⌜ r ≡ judgementAt (restAt (now (sheet .entry)) rank dimension 6) ⌝ }
+{
+    let n = proper_ranks(rank);
+    let c = counts(sheet, 6, n);
+    let counts = c.counts;
+    let elements = c.elements;
+    let place = c.place;
+    match place {
+        Place::Refused(why) => refused(why),
+        Place::At(at) => {
+            match body(sheet, at, vertices(rank, counts), dimension, counts, n) {
+                Listed::Refused(why) => refused(why),
+                Listed::At(_, entries) => Judgement {
+                    verdict: Verdict::Accepted,
+                    header: Header {
+                        rank,
+                        dimension,
+                        counts,
+                        elements,
+                        entries,
+                    },
+                },
+            }
+        }
+    }
+}
+
+// A sheet of any bytes and any length: its verdict, and what it says. R and D come first, 3 bits each.
+pub fn judge(sheet: &[u8]) -> Judgement
+    ensures { λ r. ⌜ r ≡ judgementOf (form.readSheet (now (sheet .entry))) ⌝ }
+{
+    if !whole(sheet, 0, 3) {
+        return refused(Refusal::CutSheet);
+    }
+    let rank = field(sheet, 0, 3) as usize;
+    if rank > MAX_RANK {
+        return refused(Refusal::Format);
+    }
+    if !whole(sheet, 3, 3) {
+        return refused(Refusal::CutSheet);
+    }
+    let dimension = field(sheet, 3, 3) as usize;
+    if dimension > MAX_DIMENSION {
+        return refused(Refusal::Format);
+    }
+    rest(sheet, rank, dimension)
+}

@@ -1,0 +1,180 @@
+#!/usr/bin/env python3
+"""Makes the stored sheets that program sheet_replay answers to: crates/sheet_replay/stdin, for each sheet its length in four bytes, highest
+first, and its bytes; and stdout, for each the number of its refusal among 1 to 7, or 0, a line each. The answers come from the judge in
+this file, which was written from document 01's section 2 and table alone, in another language and another shape than the program. Run
+once; the files are kept.
+
+    python3 tools/make_sheets.py SAMPLES         SAMPLES is a folder of valid sheets, NAME.sheet
+
+The sheets: the samples of up to 1,000 bytes; small solids cut at every byte, with bytes after them, with each filling bit set; every limit
+broken by one and just kept; lists empty, not rising, repeating, with a sub equal to its count; coordinates NaN, infinite, at the limit and
+one above; loose and mitred solids, both at once, and with too little workspace; 400 random damages of samples (Python's random, seed
+20261115).
+"""
+import os
+import random
+import struct
+import sys
+
+TOP = os.path.dirname(os.path.dirname(os.path.abspath(__file__)))
+sys.path.insert(0, os.path.dirname(os.path.abspath(__file__)))
+from pack_sheet import pack
+
+WORDS, FLOATS = 65536, 8256
+
+
+class Refused(Exception):
+    pass
+
+
+def judge(data):
+    """The refusal's number, or 0: fields as they come, the end, 7, 5, 6."""
+    bits = "".join(f"{b:08b}" for b in data)
+    at = 0
+
+    def read(width):
+        nonlocal at
+        if len(bits) < at + width:
+            raise Refused(1)
+        n = int(bits[at:at + width], 2)
+        at += width
+        return n
+
+    try:
+        rank = read(3)
+        if rank > 5:
+            raise Refused(2)
+        dimension = read(3)
+        if dimension > 4:
+            raise Refused(2)
+        counts = []
+        for _ in range(rank - 1):
+            c = read(12)
+            if not 1 <= c <= 2048:
+                raise Refused(2)
+            counts.append(c)
+        for _ in range((counts[0] if counts else rank) * dimension):
+            x = struct.unpack(">d", struct.pack(">Q", read(64)))[0]
+            if not abs(x) <= 1048576.0:
+                raise Refused(3)
+        lists = []
+        for below, count in zip(counts, counts[1:]):
+            used, ranked = 0, []
+            for _ in range(count):
+                n = read(12)
+                used += n
+                if used > 8192:
+                    raise Refused(2)
+                if n == 0:
+                    raise Refused(4)
+                subs = []
+                for _ in range(n):
+                    s = read(11)
+                    if s >= below or (subs and s <= subs[-1]):
+                        raise Refused(4)
+                    subs.append(s)
+                ranked.append(subs)
+            lists.append(ranked)
+        if len(bits) - at >= 8 or "1" in bits[at:]:
+            raise Refused(1)
+        elements, entries = sum(counts), sum(len(l) for r in lists for l in r)
+        if WORDS < 16 * (elements + entries + 4) or FLOATS < 8 * (elements + 8):
+            raise Refused(7)
+        solid = [[[]]]
+        if rank > 1:
+            solid += [[[0]] * counts[0]] + lists
+        if rank > 0:
+            solid.append([list(range(len(solid[-1])))])
+        for r in range(1, rank - 1):
+            held = {s for l in solid[r + 1] for s in l}
+            if len(held) < len(solid[r]):
+                raise Refused(5)
+        for r in range(1, rank):
+            for g in solid[r + 1]:
+                seen = {}
+                for f in g:
+                    for h in solid[r][f]:
+                        seen[h] = seen.get(h, 0) + 1
+                if any(n != 2 for n in seen.values()):
+                    raise Refused(6)
+    except Refused as e:
+        return e.args[0]
+    return 0
+
+
+def packed(bits):
+    bits += "0" * (-len(bits) % 8)
+    return bytes(int(bits[i:i + 8], 2) for i in range(0, len(bits), 8))
+
+
+def head(rank, dimension, counts):
+    return f"{rank:03b}{dimension:03b}" + "".join(f"{c:012b}" for c in counts)
+
+
+def made():
+    square = pack(3, 2, [(1, 1), (-1, 1), (-1, -1), (1, -1)], [[[0, 1], [1, 2], [2, 3], [0, 3]]])
+    tetra = pack(4, 0, [()] * 4, [[[0, 1], [0, 2], [0, 3], [1, 2], [1, 3], [2, 3]], [[0, 1, 3], [0, 2, 4], [1, 2, 5], [3, 4, 5]]])
+    pair = pack(2, 1, [(-1.0,), (1.0,)], [])
+    for whole in (square, tetra, pair, bytes([0]), bytes([0x20]), b""):
+        yield from (whole[:n] for n in range(len(whole) + 1))
+        yield from (whole + tail for tail in (b"\x00", b"\x01", b"\xff", b"\x00\x00"))
+        if whole:
+            yield from (whole[:-1] + bytes([whole[-1] | 1 << k]) for k in range(8))
+    for rank in range(8):
+        for dimension in range(8):
+            yield packed(head(rank, dimension, []))
+    for c in (0, 1, 2, 2047, 2048, 2049, 4095):
+        yield packed(head(2, 0, [c]))
+        yield packed(head(3, 0, [2, c]))
+    for x in (float("nan"), float("inf"), float("-inf"), 1048576.0, -1048576.0, 1048576.0000000002, -1048576.0000000002, 5e-324, -0.0):
+        yield pack(2, 1, [(x,), (1.0,)], [])
+        yield pack(1, 2, [(0.0, x)], [])
+        yield pack(2, 1, [(x,), (1.0,)], [])[:10]
+    for edges in ([[]], [[0]], [[0, 0]], [[1, 0]], [[0, 2]], [[0, 1], []], [[0, 1], [1, 1]], [[0, 1], [0, 1]], [[0, 1]], [[0, 1], [0, 1], [0, 1]]):
+        yield pack(3, 0, [()] * 2, [edges])
+    yield pack(3, 0, [()] * 3, [[[0, 1], [0, 1]]])
+    yield pack(3, 0, [()] * 3, [[[0, 1]]])
+    yield pack(4, 0, [()] * 3, [[[0, 1], [1, 2], [0, 2]], [[0, 1, 2], [0, 1, 2]]])
+    yield pack(4, 0, [()] * 3, [[[0, 1], [1, 2], [0, 2]], [[0, 1, 2]]])
+    yield pack(4, 0, [()] * 3, [[[0, 1], [1, 2], [0, 2], [0, 1]], [[0, 1, 2], [0, 1, 2]]])
+    full = list(range(2048))
+    for last in ([0, 1], [0]):
+        yield pack(3, 0, [()] * 2048, [[full, full, full, full[:2046], last]])
+    yield pack(3, 0, [()] * 2048, [[full, full, full, full[:2047], []]])
+    yield pack(3, 0, [()] * 2048, [[full, full, full, full, []]])
+    yield pack(3, 0, [()] * 2048, [[full, full, full, full, [0]]])
+    for n in (200, 1000, 1023, 1024, 1025):
+        yield pack(3, 0, [()] * n, [[[i, i + 1] for i in range(n - 1)] + [[0, n - 1]]])
+
+
+def damaged(samples):
+    rng = random.Random(20261115)
+    for _ in range(400):
+        data = bytearray(rng.choice(samples))
+        for _ in range(rng.randrange(1, 4)):
+            if data and rng.random() < 0.8:
+                data[rng.randrange(len(data))] ^= 1 << rng.randrange(8)
+            elif data and rng.random() < 0.5:
+                del data[rng.randrange(len(data))]
+            else:
+                data.insert(rng.randrange(len(data) + 1), rng.randrange(256))
+        yield bytes(data)
+
+
+def main():
+    folder = sys.argv[1]
+    samples = [open(f"{folder}/{f}", "rb").read() for f in sorted(os.listdir(folder)) if f.endswith(".sheet")]
+    samples = [s for s in samples if len(s) <= 1000]
+    sheets = samples + list(made()) + list(damaged(samples))
+    crate = f"{TOP}/crates/sheet_replay"
+    os.makedirs(crate, exist_ok=True)
+    numbers = [judge(s) for s in sheets]
+    with open(f"{crate}/stdin", "wb") as given, open(f"{crate}/stdout", "w") as answers:
+        for sheet, number in zip(sheets, numbers):
+            given.write(struct.pack(">I", len(sheet)) + sheet)
+            answers.write(f"{number}\n")
+    print(len(sheets), "sheets;", ", ".join(f"{numbers.count(k)} of {k}" for k in range(8)))
+
+
+if __name__ == "__main__":
+    main()
