@@ -1,5 +1,6 @@
 #!/bin/sh
-# bench_float.sh: nanoseconds an operation of crate `float` takes, and the machine's own square root beside it. Needs `rt` and gcc.
+# bench_float.sh: nanoseconds of processor time an operation of crate `float` takes, and the machine's own square root beside it. Needs
+# `rt`, gcc and python3.
 set -e
 cd "$(dirname "$0")/.."
 rt check float_bench > /dev/null
@@ -8,21 +9,21 @@ cat > "$work/sqrt.c" <<'END'
 #include <math.h>
 #include <stdio.h>
 int main(void) {
-    volatile double start = 2.0;
+    volatile double start = 0.3;
     double x = start;
-    for (long i = 0; i < 16777216; i++) x = sqrt(x + 1000.0);
+    for (long i = 0; i < 16777216; i++) { double y = x * x; x = sqrt(3.99 * y * (1.0 - y)); }
     printf("%a\n", x);
 }
 END
 gcc -O2 -fno-math-errno -o "$work/sqrt" "$work/sqrt.c" -lm
 python3 - "$work/sqrt" <<'END'
-import subprocess, sys, time
+import resource, subprocess, sys
 def seconds(command):
     best = 1e9
     for _ in range(5):
-        t = time.perf_counter()
+        t = resource.getrusage(resource.RUSAGE_CHILDREN).ru_utime
         subprocess.run(command, stdout=subprocess.DEVNULL, check=True)
-        best = min(best, time.perf_counter() - t)
+        best = min(best, resource.getrusage(resource.RUSAGE_CHILDREN).ru_utime - t)
     return best
 for name, kind in (("root", "r"), ("inverse 4x4", "i"), ("determinant 4x4", "d"), ("product 4x4", "p")):
     t = seconds(["target/bin/float_bench", kind, "7"]) - seconds(["target/bin/float_bench", kind, "0"])

@@ -3,7 +3,7 @@
 //!
 //! For each matrix, on standard output, as numbers of eight bytes, highest byte first: the dimension and the entries' bit patterns row by
 //! row; then on standard error the answers: 1 and the inverse's patterns, or 0 where it is singular; the determinant; the product of the
-//! matrix with itself; the image of its first row. A NaN is written as 0x7ff8000000000000.
+//! matrix with its own rows in falling order; the image of its first row. A NaN is written as 0x7ff8000000000000.
 use nalgebra::DMatrix;
 use std::io::Write;
 
@@ -21,14 +21,15 @@ impl Random {
         (self.next() >> 11) as f64 / (1u64 << 53) as f64 * 2.0 - 1.0
     }
 
-    // By kind: any value in (-1, 1); small whole numbers, which tie and make singular matrices; values of wildly different size, which
-    // overflow to infinities and NaN; zeros of both signs and units.
+    // By kind: any value in (-1, 1); small whole numbers, which tie and make singular matrices; values of wildly different size; zeros of
+    // both signs and units; small whole numbers among which NaN and infinities stand.
     fn entry(&mut self, kind: u64) -> f64 {
         match kind {
             0 => self.unit(),
             1 => (self.next() % 5) as f64 - 2.0,
             2 => self.unit() * 2f64.powi((self.next() % 1200) as i32 - 600),
-            _ => [0.0, -0.0, 1.0, -1.0][(self.next() % 4) as usize],
+            3 => [0.0, -0.0, 1.0, -1.0][(self.next() % 4) as usize],
+            _ => [1.0, 2.0, -3.0, 0.5, f64::NAN, f64::INFINITY, f64::NEG_INFINITY, -1.0][(self.next() % 8) as usize],
         }
     }
 }
@@ -40,9 +41,9 @@ fn pattern(x: f64) -> u64 {
 fn main() {
     let mut random = Random(20261115);
     let (mut given, mut answers) = (Vec::new(), Vec::new());
-    for k in 0..480u64 {
+    for k in 0..600u64 {
         let d = (k % 4 + 1) as usize;
-        let kind = k / 4 % 4;
+        let kind = k / 4 % 5;
         let entries: Vec<f64> = (0..d * d).map(|_| random.entry(kind)).collect();
         let m = DMatrix::from_row_slice(d, &entries);
         given.push(d as u64);
@@ -59,7 +60,8 @@ fn main() {
             }
         }
         answers.push(pattern(m.determinant()));
-        let square = m.clone() * &m;
+        let falling: Vec<f64> = (0..d).rev().flat_map(|i| entries[i * d..(i + 1) * d].to_vec()).collect();
+        let square = m.clone() * &DMatrix::from_row_slice(d, &falling);
         for i in 0..d {
             for j in 0..d {
                 answers.push(pattern(square[(i, j)]));

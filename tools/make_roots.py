@@ -4,7 +4,8 @@ a 0 and its bit pattern, and the root's pattern, as numbers of eight bytes, high
 root. tools/make_float_replay.sh runs it.
 
 Arguments: zeros, infinities, NaN, negatives; the smallest and largest subnormals and normals; every power of two; squares of whole
-numbers and of random 26-bit and 53-bit values with their two neighbours; 1,000 random patterns (Python's random, seed 20261115).
+numbers and of random 26-bit and 53-bit values with their two neighbours; 1,000 random patterns with the sign clear and 100 random
+subnormals (Python's random, seed 20261115).
 """
 import math
 import os
@@ -45,8 +46,10 @@ def arguments():
             for d in (-1, 0, 1):
                 yield pattern(v * v) + d
     for _ in range(1000):
-        n = rng.getrandbits(64)
+        n = rng.getrandbits(63)
         yield n if value(n) == value(n) else NAN
+    for _ in range(100):
+        yield rng.getrandbits(52) >> rng.randrange(52)
 
 
 def main():

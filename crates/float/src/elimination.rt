@@ -159,7 +159,7 @@ pub enum Answer {
     Singular,
 }
 
-// A row of the inverse; a struct's field can't be an array of arrays.
+// A row of the inverse: a struct's field that is an array of arrays would leave the whole walk of its functions to a proof by hand.
 pub struct Row {
     pub entries: [f64; DIMENSION],
 }

@@ -13,6 +13,7 @@ use crate::elimination::Inverse;
 use crate::vector;
 
 // The matrix times the column v.
+// Entries past d are free: they hold 0.0.
 pub fn image(m: [[f64; DIMENSION]; DIMENSION], v: [f64; DIMENSION], d: usize) -> [f64; DIMENSION]
     requires { ⌜ d ≤ maxDimension ⌝ }
     ensures { λ r. ⌜ take d r ≡ mulVec (corner d m) (take d v) ⌝ }
@@ -41,6 +42,7 @@ fn column_of(c: [[f64; DIMENSION]; DIMENSION], j: usize, d: usize) -> [f64; DIME
 }
 
 // The matrix with the rows of c as its columns.
+// Entries past d are free: they hold 0.0.
 pub fn from_columns(c: [[f64; DIMENSION]; DIMENSION], d: usize) -> [[f64; DIMENSION]; DIMENSION]
     requires { ⌜ d ≤ maxDimension ⌝ }
     ensures { λ r. ⌜ corner d r ≡ columns (corner d c) ⌝ }
@@ -69,6 +71,7 @@ fn dots(v: [f64; DIMENSION], m: [[f64; DIMENSION]; DIMENSION], d: usize) -> [f64
 }
 
 // The product: each entry is the dot of a row of a and a column of b.
+// Entries past d are free: they hold 0.0.
 pub fn product(
     a: [[f64; DIMENSION]; DIMENSION],
     b: [[f64; DIMENSION]; DIMENSION],

@@ -1,5 +1,6 @@
 // The square root of a 64-bit float, rounded to nearest, worked out with whole numbers.
 ghost use mathlib.Core.Path.{_≡_};
+ghost use mathlib.Core.Logic.{_⊎_};
 ghost use Prim.Native.Nat.{_+_, _*_, _^_, _≤_, _<_};
 ghost use lib.Ieee.{binary64, ofBits};
 ghost use Rattle.spec.specs.Float.{root as rootOf, rootDown, rootUnits};
@@ -20,6 +21,13 @@ struct Scaled {
     zeros: u64,
 }
 
+// 1 where a is at most b, and 0 otherwise: a number and no branch, since a root's digits can't be foretold.
+fn at_most(a: u64, b: u64) -> u64
+    ensures { λ r. ⌜ ((r ≡ 1) × (a ≤ b)) ⊎ ((r ≡ 0) × (b < a)) ⌝ }
+{
+    if a <= b { 1 } else { 0 }
+}
+
 // The root of n in 27 binary digits: for each of them, from the top, two digits of n are brought down.
 fn short_root(n: u64) -> Whole
     requires { ⌜ n < 2 ^ 54 ⌝ }
@@ -31,13 +39,9 @@ fn short_root(n: u64) -> Whole
     while done < 27 {
         let with = 4 * rest + (n >> (52 - 2 * done)) % 4;
         let odd = 4 * root + 1;
-        if odd <= with {
-            rest = with - odd;
-            root = 2 * root + 1;
-        } else {
-            rest = with;
-            root = 2 * root;
-        }
+        let digit = at_most(odd, with);
+        rest = with - odd * digit;
+        root = 2 * root + digit;
         done += 1;
     }
     Whole { root, rest }

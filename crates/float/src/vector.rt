@@ -34,6 +34,7 @@ pub fn dot_of(a: [f64; DIMENSION], b: [f64; DIMENSION], d: usize) -> f64
 }
 
 // a less b, entry by entry.
+// Entries past d are free: they are a's.
 pub fn difference(a: [f64; DIMENSION], b: [f64; DIMENSION], d: usize) -> [f64; DIMENSION]
     requires { ⌜ d ≤ maxDimension ⌝ }
     ensures { λ r. ⌜ take d r ≡ zip minus (take d a) (take d b) ⌝ }

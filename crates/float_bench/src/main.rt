@@ -1,20 +1,23 @@
 // Does one operation of crate `float` again and again, each on what the one before gave, and prints the last pattern. The first
 // argument names it: r root, i inverse, d determinant, p product; the second, a digit n, says how often: 8^n times.
 // tools/bench_float.sh times it. In the gate it runs a few times only.
+use float::DIMENSION;
 use float::bits;
 use float::matrix;
 
+// The arguments wander over the numbers from 0 to 1, so that no digit of a root can be foretold.
 fn repeat_root(times: u64) -> f64 {
-    let mut x = 2.0;
+    let mut x = 0.3;
     let mut left = times;
     while left > 0 {
-        x = float::root::root(x + 1000.0);
+        let square = x * x;
+        x = float::root::root(3.99 * square * (1.0 - square));
         left -= 1;
     }
     x
 }
 
-fn start(x: f64) -> [[f64; 4]; 4] {
+fn start(x: f64) -> [[f64; DIMENSION]; DIMENSION] {
     [
         [x, 0.5, -0.25, 3.0],
         [2.0, 1.0, 0.1, -1.0],
@@ -27,7 +30,7 @@ fn repeat_inverse(times: u64) -> f64 {
     let mut x = 1.0;
     let mut left = times;
     while left > 0 {
-        let m = matrix::rows(matrix::inverse(start(x), 4));
+        let m = matrix::rows(matrix::inverse(start(x), DIMENSION));
         x = m[1][1] + 1.0;
         left -= 1;
     }
@@ -38,7 +41,7 @@ fn repeat_determinant(times: u64) -> f64 {
     let mut x = 1.0;
     let mut left = times;
     while left > 0 {
-        x = 1.0 / matrix::determinant(start(x), 4);
+        x = 1.0 / matrix::determinant(start(x), DIMENSION);
         left -= 1;
     }
     x
@@ -54,7 +57,7 @@ fn repeat_product(times: u64) -> f64 {
     ];
     let mut left = times;
     while left > 0 {
-        m = matrix::product(m, m, 4);
+        m = matrix::product(m, m, DIMENSION);
         left -= 1;
     }
     m[0][0]

@@ -1,15 +1,16 @@
 // Replays stored arithmetic: reads records of eight-byte numbers, highest byte first, and writes the answers in the same form. A record
 // is a 0 and a float's bit pattern, answered by its root's; or a dimension from 1 to 4 and a matrix's patterns row by row, answered by 1
-// and its inverse (or by 0 where it is singular), its determinant, its product with itself, and the image of its first row.
+// and its inverse (or by 0 where it is singular), its determinant, its product with its rows in falling order, and the image of its first row.
 // tools/make_float_replay.sh made stdin and stdout.
 ghost use Prim.Native.Nat.{_<_, _≤_, _^_};
-ghost use mathlib.Core.Path.{_≡_};
+ghost use Rattle.spec.specs.Limits.{maxDimension};
+use float::DIMENSION;
 use float::bits;
 use float::elimination::Answer;
 use float::matrix;
 
 // What stands at the end of the input in place of a dimension.
-const END: u64 = 5;
+const END: u64 = DIMENSION as u64 + 1;
 
 fn wide(x: u8) -> u64
     ensures { λ r. ⌜ r < 256 ⌝ }
@@ -51,10 +52,10 @@ fn write_float(x: f64) -> bool {
     write(bits::pattern(x))
 }
 
-fn read_row(d: usize) -> [f64; 4]
-    requires { ⌜ d ≤ 4 ⌝ }
+fn read_row(d: usize) -> [f64; DIMENSION]
+    requires { ⌜ d ≤ maxDimension ⌝ }
 {
-    let mut row = [0.0; 4];
+    let mut row = [0.0; DIMENSION];
     let mut j: usize = 0;
     while j < d {
         row[j] = bits::from_pattern(next());
@@ -63,10 +64,10 @@ fn read_row(d: usize) -> [f64; 4]
     row
 }
 
-fn read_matrix(d: usize) -> [[f64; 4]; 4]
-    requires { ⌜ d ≤ 4 ⌝ }
+fn read_matrix(d: usize) -> [[f64; DIMENSION]; DIMENSION]
+    requires { ⌜ d ≤ maxDimension ⌝ }
 {
-    let mut m = [[0.0; 4]; 4];
+    let mut m = [[0.0; DIMENSION]; DIMENSION];
     let mut i: usize = 0;
     while i < d {
         m[i] = read_row(d);
@@ -75,8 +76,8 @@ fn read_matrix(d: usize) -> [[f64; 4]; 4]
     m
 }
 
-fn write_row(row: [f64; 4], d: usize) -> bool
-    requires { ⌜ d ≤ 4 ⌝ }
+fn write_row(row: [f64; DIMENSION], d: usize) -> bool
+    requires { ⌜ d ≤ maxDimension ⌝ }
 {
     let mut j: usize = 0;
     while j < d {
@@ -88,8 +89,8 @@ fn write_row(row: [f64; 4], d: usize) -> bool
     true
 }
 
-fn write_matrix(m: [[f64; 4]; 4], d: usize) -> bool
-    requires { ⌜ d ≤ 4 ⌝ }
+fn write_matrix(m: [[f64; DIMENSION]; DIMENSION], d: usize) -> bool
+    requires { ⌜ d ≤ maxDimension ⌝ }
 {
     let mut i: usize = 0;
     while i < d {
@@ -101,8 +102,8 @@ fn write_matrix(m: [[f64; 4]; 4], d: usize) -> bool
     true
 }
 
-fn write_inverse(m: [[f64; 4]; 4], d: usize) -> bool
-    requires { ⌜ d ≤ 4 ⌝ }
+fn write_inverse(m: [[f64; DIMENSION]; DIMENSION], d: usize) -> bool
+    requires { ⌜ d ≤ maxDimension ⌝ }
 {
     let inverse = matrix::inverse(m, d);
     let answer = inverse.answer;
@@ -112,13 +113,26 @@ fn write_inverse(m: [[f64; 4]; 4], d: usize) -> bool
     }
 }
 
+// The rows in falling order.
+fn turned(m: [[f64; DIMENSION]; DIMENSION], d: usize) -> [[f64; DIMENSION]; DIMENSION]
+    requires { ⌜ d ≤ maxDimension ⌝ }
+{
+    let mut t = m;
+    let mut i: usize = 0;
+    while i < d {
+        t[i] = m[d - 1 - i];
+        i += 1;
+    }
+    t
+}
+
 fn replay_matrix(d: usize) -> bool
-    requires { ⌜ d ≤ 4 ⌝ }
+    requires { ⌜ d ≤ maxDimension ⌝ }
 {
     let m = read_matrix(d);
     write_inverse(m, d)
         && write_float(matrix::determinant(m, d))
-        && write_matrix(matrix::product(m, m, d), d)
+        && write_matrix(matrix::product(m, turned(m, d), d), d)
         && write_row(matrix::image(m, m[0], d), d)
 }
 

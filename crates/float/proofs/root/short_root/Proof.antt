@@ -1,7 +1,7 @@
 -- `float::root::short_root` meets its contract. The invariant of its loop: `root` is the root of the digits brought down, in as many digits
 -- as turns are done, and `rest` what its square leaves of them. Assumes nothing.
 use mathlib.Core.Path.{_≡_, refl, sym, ap, _∙_, subst}
-use mathlib.Core.Logic.{⊎-elim}
+use mathlib.Core.Logic.{_⊎_, inl, inr}
 use Prim.Native.Nat.{ℕ, suc, _+_, _-_, _*_, _/_, _%_, _^_, _≤_, _<_}
 use native.Mathlib.Nat.{div-one, div-eq-of-lt}
 use native.Mathlib.Numerals.{add-one}
@@ -58,11 +58,21 @@ last n i q c h k r =
 bounds : (c : tie.In-loop Inv-loop μ-loop) → (c .before .loop .root < 2 ^ 54) × (c .before .loop .rest < 2 ^ 54)
 bounds c = small _ _ _ _ (c .before .before .pre) (c .before .loop .inv .1)
 
+-- what `at_most` answers of the test that a digit is by
+abbrev Digit : ℕ → ℕ → ℕ → Type 0
+Digit a b d = ((d ≡ 1) × (a ≤ b)) ⊎ ((d ≡ 0) × (b < a))
+
+digit-le : (a b d : ℕ) → Digit a b d → (a * d ≤ a) × (a * d ≤ b) × (d ≤ 1)
+digit-le a b d (inl (e, l)) = rw e (omega arith, omega arith, omega arith)
+digit-le a b d (inr (e, l)) = rw e (omega arith, omega arith, omega arith)
+
+next : (n i q c d : ℕ) → i < 27 → Root i (Brought n i) q c → Digit (4 * q + 1) (4 * c + n / 2 ^ (52 - 2 * i) % 4) d
+    → (i + 1 ≤ 27) × Root (i + 1) (Brought n (i + 1)) (2 * q + d) (4 * c + n / 2 ^ (52 - 2 * i) % 4 - (4 * q + 1) * d)
+next n i q c d h r (inl (e, l)) = one n i q c h r _ _ l (ap (λ (x : ℕ). 2 * q + x) e) (rw e (omega arith))
+next n i q c d h r (inr (e, l)) = nought n i q c h r _ _ l (rw e (omega arith)) (rw e (omega arith))
+
 loop-again : tie.Need-loop-again Inv-loop μ-loop
-loop-again c =
-    let r = c .before .before .loop .inv .1 in
-    let h = c .before .loop-test .taken in
-    ⊎-elim (λ w. one _ _ _ _ h r _ _ (w .0 .taken) (w .1) (w .2)) (λ w. nought _ _ _ _ h r _ _ (w .0 .left) (w .1) (w .2)) (c .if1 .came)
+loop-again c = next _ _ _ _ _ (c .before .loop-test .taken) (c .before .before .loop .inv .1) (c .at-most .ensures)
 
 pub short-root-spec : {M : Type 1} → statement M
 short-root-spec =
@@ -78,9 +88,11 @@ short-root-spec =
     (λ c. omega (arith, bounds c))
     (λ c. omega (arith, bounds c))
     (λ c. omega (arith, bounds c))
+    (λ c κs. tt)
+    (λ c. omega (arith, bounds (c .before), digit-le _ _ _ (c .at-most .ensures)))
+    (λ c. omega (arith, bounds (c .before), digit-le _ _ _ (c .at-most .ensures)))
     (λ c. omega (arith, bounds (c .before)))
-    (λ c. omega (arith, bounds (c .before)))
-    (λ c. omega (arith, bounds (c .before)))
+    (λ c. omega (arith, bounds (c .before), digit-le _ _ _ (c .at-most .ensures)))
     (λ c. omega arith)
     (λ c. omega arith)
     loop-again
