@@ -3,11 +3,11 @@
 use mathlib.Core.Path.{_≡_, refl, sym, _∙_, ap, subst}
 use mathlib.Core.Logic.{_⊎_, inl, inr, _≢_}
 use Prim.Native.Nat.{ℕ, zero, suc, _+_, _-_, _≤_, _<_}
-use mathlib.Core.Bool.{Bool, true, false, _&&_, false≢true}
-use mathlib.Core.Option.{none, some}
+use mathlib.Core.Bool.{Bool, true, false, _&&_}
+use mathlib.Core.Option.{none}
 use mathlib.Core.List.{List, [], _∷_, _++_}
 use native.Mathlib.Omega.{arith}
-use lib.ListN.{length, getD, replicate, length-append, length-replicate, List·getD-append, List·getD-eq-default}
+use lib.ListN.{length, getD, replicate, length-append, length-replicate, List·getD-append}
 use lib.Seq.{getD-append-seam}
 use lib.Dec.{leb, ltb, leb→le, T}
 use lib.Ieee.{Float, binary64, ofBits}
@@ -16,8 +16,8 @@ use Rattle.spec.specs.Limits.{maxRank, maxDimension, maxCount, maxEntrie
 use Rattle.spec.specs.declared.Refusal.the-variants.{Format, OffTheBoard, BadList, Loose, Mitre, Bench}
 use Rattle.spec.specs.Float.{inRange}
 use Rattle.spec.specs.Lists.{In, range}
-use Rattle.spec.specs.Types.{Solid, top, size, subs, State, start, Step, play, result}
-use Rattle.spec.specs.Demand.{RisingAbove, Rising, Sound, AllProper, Agree}
+use Rattle.spec.specs.Types.{Solid, top, size, subs}
+use Rattle.spec.specs.Demand.{RisingAbove, Rising, Sound}
 use Rattle.spec.specs.Judged as Judging
 use Rattle.spec.specs.Judged.{Judged, refused, passed}
 use Rattle.spec.specs.Sheet.{Parsed, Reader, _>>=_, _>>_, done, judge, times, bits, rank, dimension, count, coordinate, subList, list, listsAt, lists, end, sheet, readSheet, vertexCount}
@@ -28,7 +28,7 @@ use Rattle.spec.proofs.FlagList.{in-either}
 use Rattle.spec.proofs.Marked.{both, lt-test}
 use Rattle.spec.proofs.Soundness.{point-sound}
 use Rattle.spec.proofs.Settled.{settled}
-use Rattle.spec.specs.Passed.{Passed, EveryPassed}
+use Rattle.spec.specs.Passed.{EveryPassed}
 
 -- ---- what a passed reading passed through
 

@@ -1,23 +1,22 @@
 -- A symmetry keeps types, through every step.
 -- Assumes nothing.
 use mathlib.Core.Path.{_≡_, refl, sym, _∙_, ap, subst}
-use mathlib.Core.Logic.{_≢_, _↔_, _⊎_, inl, inr}
-use Prim.Native.Nat.{ℕ, zero, suc, pred, _+_, _-_, _≤_, _<_}
+use mathlib.Core.Logic.{_↔_, inl, inr}
+use Prim.Native.Nat.{ℕ, suc, _-_, _<_}
 use mathlib.Core.Bool.{Bool, true, false, _&&_, false≢true}
 use mathlib.Core.List.{List, [], _∷_, map}
 use native.Mathlib.Decide.{ℕ-discrete, decLt}
-use native.Mathlib.Nat.{not-suc-le-zero}
 use native.Mathlib.Omega.{arith}
-use lib.ListN.{length, getD, replicate, getD-replicate, length-map, List·getD-eq-default}
+use lib.ListN.{length, getD, getD-replicate, length-map, List·getD-eq-default}
 use lib.Dec.{T, eqb, ltb, ltb→lt, lt→ltb}
-use Rattle.spec.specs.Lists.{In, renumber, count, holds, range, keep}
-use Rattle.spec.specs.Types.{Solid, top, size, subs, sups, Classes, State, typesAt, typeOf, isProper, startAt, start, Step, up, down, at, next, neighbours, key, step}
+use Rattle.spec.specs.Lists.{In, count, holds, range}
+use Rattle.spec.specs.Types.{Solid, top, size, subs, sups, Classes, State, typesAt, typeOf, isProper, startAt, start, Step, up, down, at, next, neighbours, step}
 use Rattle.spec.specs.Demand.{RisingAbove, Rising, Sound, Proper, Carries}
 use Rattle.spec.proofs.Distinct.{Once, pigeons, in?}
 use Rattle.spec.proofs.Lists.{map-same, map-map, map-in, in-map, Injective, once-map, in-range, of-range, once-range, length-range, getD-table, length-table}
 use Rattle.spec.proofs.Renumber.{renumber-coarse}
 use Rattle.spec.proofs.Counts.{numbers, regroup, as-often, keep-in, in-keep, once-keep, holds-in, in-holds}
-use Rattle.spec.proofs.Steps.{look, key-same, proper?, proper-in, Good, start-at, step-else, key-step}
+use Rattle.spec.proofs.Steps.{look, key-same, proper?, Good, start-at, step-else, key-step}
 use Rattle.spec.proofs.Result.{near-low}
 
 -- ---- rising lists repeat nothing

@@ -1,34 +1,24 @@
--- Laws of finding and copying: what is found is near, and nothing lower is; copies only join at the end; and a call leaves its outputs as long as they were.
+-- Laws of finding and copying: what is found is near, and nothing lower is; copies only join at the end; how long copies and their table are; and that there is a copy.
 -- Assumes nothing.
-use mathlib.Core.Path.{_≡_, refl, sym, ap, _∙_, subst}
-use mathlib.Core.Logic.{_⊎_, inl, inr}
-use Prim.Native.Nat.{ℕ, zero, suc, _+_, _-_, _*_, _/_, _^_, _≤_, _<_, min, suc-le-suc, zero-le}
-use native.Mathlib.Nat.{zero-lt-suc, le-trans, le-of-eq, mul-le-mul-right, div-mul-le-self, suc-mul, zero-mul, add-zero, zero-add, not-suc-le-zero, le-of-suc-le-suc}
+use mathlib.Core.Path.{_≡_, refl, sym, ap, _∙_}
+use Prim.Native.Nat.{ℕ, zero, suc, _+_, _*_, _/_, _%_, _≤_, _<_, suc-le-suc}
+use native.Mathlib.Nat.{zero-lt-suc, le-trans, mul-le-mul-right, div-add-mod', suc-mul, zero-mul, not-suc-le-zero, le-of-suc-le-suc}
 use native.Mathlib.Omega.{arith}
-use mathlib.Core.Bool.{Bool, true, false, _&&_}
+use mathlib.Core.Bool.{Bool, true, false, true≢false, false≢true}
 use mathlib.Core.List.{List, [], _∷_, _++_, map, append-assoc, append-nil}
-use lib.ListN.{length, getD, take, drop, replicate, length-append, length-drop, length-take, length-map, length-replicate}
-use lib.Dec.{T, leb, eqb, leb→le}
+use lib.ListN.{length, getD, take, drop, length-append, length-drop, length-take, length-map}
 use lib.Ieee.{Float}
-use lib.Ieee.Fits.{and-l, and-r}
-use Rattle.spec.specs.declared.Refusal.the-variants.{ShortSheet, Open}
-use Rattle.spec.specs.declared.Answer.{Answer}
-use Rattle.spec.specs.declared.Answer.the-variants.{Done, Refused}
 use Rattle.spec.specs.Lists.{place, holds, join}
-use Rattle.spec.specs.Limits.{maxCount}
-use Rattle.spec.specs.Judged.{Judged, refused, passed}
 use Rattle.spec.specs.Float.{dot}
 use Rattle.spec.specs.Matrix.{Vector, Matrix, mulVec}
-use Rattle.spec.specs.Copying.{near, found, find, spread, copiesFrom, copies, copyRow, copyTable, parts, points, matrices, written, judgeCopy, copyOut, copyCall}
+use Rattle.spec.specs.Copying.{near, found, find, spread, copiesFrom, copies, copyRow, copyTable, parts, points, matrices, written}
+use Rattle.spec.specs.CallLaws.{EveryFind}
 
 -- ---- finding
 
-apart : true ≡ false → ⊥
-apart h = let z : _≡_ {A = ℕ} 0 1 = cc in omega arith
-
-pub found-near : (ps : List Vector) (q : Vector) → found ps q ≡ true → (find ps q < length ps) × (near (getD ps (find ps q) []) q ≡ true)
+found-near : (ps : List Vector) (q : Vector) → found ps q ≡ true → (find ps q < length ps) × (near (getD ps (find ps q) []) q ≡ true)
 unfolding found find holds place
-found-near [] q h = absurd (apart (sym h))
+found-near [] q h = absurd (false≢true h)
 found-near (p ∷ ps) q h = go (near p q) refl h (found-near ps q)
   where
     go : (b : Bool) → near p q ≡ b → elim b [ true ↦ true | false ↦ holds near q ps ] ≡ true
@@ -37,7 +27,7 @@ found-near (p ∷ ps) q h = go (near p q) refl h (found-near ps q)
     go true e t ih = (zero-lt-suc (length ps), e)
     go false e t ih = let r = ih t in (suc-le-suc (r .0), r .1)
 
-pub not-lower : (ps : List Vector) (q : Vector) (i : ℕ) → i < find ps q → near (getD ps i []) q ≡ false
+not-lower : (ps : List Vector) (q : Vector) (i : ℕ) → i < find ps q → near (getD ps i []) q ≡ false
 unfolding find place
 not-lower [] q i h = absurd (not-suc-le-zero h)
 not-lower (p ∷ ps) q i h = go (near p q) refl i h (not-lower ps q)
@@ -48,15 +38,18 @@ not-lower (p ∷ ps) q i h = go (near p q) refl i h (not-lower ps q)
     go false e zero h ih = e
     go false e (suc i) h ih = ih i (le-of-suc-le-suc h)
 
-pub not-found : (ps : List Vector) (q : Vector) → found ps q ≡ false → find ps q ≡ length ps
+not-found : (ps : List Vector) (q : Vector) → found ps q ≡ false → find ps q ≡ length ps
 unfolding found find holds place
 not-found [] q h = refl
 not-found (p ∷ ps) q h = go (near p q) h (not-found ps q)
   where
     go : (b : Bool) → elim b [ true ↦ true | false ↦ holds near q ps ] ≡ false → (holds near q ps ≡ false → place near q ps ≡ length ps)
         → elim b [ true ↦ zero | false ↦ suc (place near q ps) ] ≡ suc (length ps)
-    go true h ih = absurd (apart h)
+    go true h ih = absurd (true≢false h)
     go false h ih = ap suc (ih h)
+
+pub every-find : EveryFind
+every-find ps q = record { found-near = found-near ps q; not-lower = not-lower ps q; not-found = not-found ps q }
 
 -- ---- copies join at the end, so those that fit are the first
 
@@ -126,7 +119,7 @@ spread-wide d (m ∷ ms) p cs w h = go (found cs (mulVec m p)) (spread-wide d ms
     go true f g = f
     go false f g = g
 
-pub copies-wide : (d : ℕ) (ms : List Matrix) (ps cs : List Vector) → Wide d ms → Wide d cs → Wide d (copiesFrom ms ps cs)
+copies-wide : (d : ℕ) (ms : List Matrix) (ps cs : List Vector) → Wide d ms → Wide d cs → Wide d (copiesFrom ms ps cs)
 unfolding copiesFrom
 copies-wide d ms [] cs w h = h
 copies-wide d ms (p ∷ ps) cs w h = go (found cs p) (copies-wide d ms ps cs w h) (copies-wide d ms ps (spread ms p cs) w (spread-wide d ms p cs w h))
@@ -135,11 +128,11 @@ copies-wide d ms (p ∷ ps) cs w h = go (found cs p) (copies-wide d ms ps cs w h
     go true f g = f
     go false f g = g
 
-pub length-written : {A : Type 0} (new old : List A) → length new ≤ length old → length (written new old) ≡ length old
+pub written-length : {A : Type 0} (new old : List A) → length new ≤ length old → length (written new old) ≡ length old
 unfolding written
-length-written new old h = let a = length-append new (drop (length new) old) in let b = length-drop (length new) old in omega arith
+written-length new old h = rw (length-append, length-drop) (omega arith)
 
-table-length : (ms : List Matrix) (cs : List Vector) → length (copyTable ms cs) ≡ length ms * length cs
+pub table-length : (ms : List Matrix) (cs : List Vector) → length (copyTable ms cs) ≡ length ms * length cs
 unfolding copyTable copyRow
 table-length ms cs = wide-join (length cs) (map (copyRow cs) ms) (rows ms) ∙ ap (λ (x : ℕ). x * length cs) (length-map ms (copyRow cs))
   where
@@ -147,58 +140,37 @@ table-length ms cs = wide-join (length cs) (map (copyRow cs) ms) (rows ms) ∙ a
     rows [] = tt
     rows (m ∷ ms) = (length-map cs (λ c. find cs (mulVec m c)), rows ms)
 
--- room for n points of d floats, in l cells
-room : (l d : ℕ) → min maxCount (l / d) * d ≤ l
-room l d = le-trans (mul-le-mul-right d (omega arith)) (div-mul-le-self l d)
+-- every copy has d coordinates
+pub all-wide : (d : ℕ) (ps ts : List Float) → Wide d (copies (matrices d ts) (points d ps))
+unfolding copies matrices
+all-wide d ps ts = copies-wide d (matrices d ts) (points d ps) [] (matrices-wide d (parts (length ts / (d * d)) (d * d) ts)) tt
 
-abbrev pub SameLengths : List Float → List ℕ → Answer × List Float × List ℕ → Type 0
-SameLengths outPoints outTable r = (length (r .1) ≡ length outPoints) × (length (r .2) ≡ length outTable)
+-- where there is room for n points, the first n of cs fit
+pub kept-fit : (n d l : ℕ) (cs : List Vector) → Wide d cs → n * d ≤ l → length (join (take n cs)) ≤ l
+kept-fit n d l cs w h =
+    let k : length (take n cs) ≤ n = rw length-take (omega arith) in
+    rw (wide-join d (take n cs) (wide-take d n cs w)) (le-trans (mul-le-mul-right d k) h)
 
-out-lengths : (n d : ℕ) (ms : List Matrix) (cs : List Vector) (outPoints : List Float) (outTable : List ℕ) → Wide d cs → n * d ≤ length outPoints
-    → SameLengths outPoints outTable (copyOut n ms cs outPoints outTable)
-unfolding copyOut
-out-lengths n d ms cs outPoints outTable w h = go (leb (length cs) n && leb cells (length outTable)) (λ t. leb→le cells (length outTable) (and-r (leb (length cs) n) (leb cells (length outTable)) t)) (holds eqb (length cs) table)
+-- ---- there is a copy
+
+-- cells that are whole parts are one part at least
+some-part : (l n : ℕ) → 0 < l → l % n ≡ 0 → 0 < l / n
+some-part l n h q = go (l / n) (div-add-mod' l n)
   where
-    kept : List Vector
-    kept = take n cs
+    go : (k : ℕ) → k * n + l % n ≡ l → 0 < k
+    go zero e = absurd (omega (arith, zero-mul n))
+    go (suc k) e = zero-lt-suc k
 
-    cells : ℕ
-    cells = length ms * length cs
+one-copy : (ms : List Matrix) (ps : List Vector) → 0 < length ms → 0 < length ps → 0 < length (copies ms ps)
+unfolding copies copiesFrom spread found holds
+one-copy [] ps hm hp = absurd (not-suc-le-zero hm)
+one-copy (m ∷ ms) [] hm hp = absurd (not-suc-le-zero hp)
+one-copy (m ∷ ms) (p ∷ ps) hm hp =
+    let a = spread-adds ms p (mulVec m p ∷ []) in
+    let b = copies-add (m ∷ ms) ps (spread ms p (mulVec m p ∷ [])) in
+    rw (b .1, a .1) (zero-lt-suc _)
 
-    table : List ℕ
-    table = copyTable ms cs
-
-    fit : length (written (join kept) outPoints) ≡ length outPoints
-    fit =
-        let a = wide-join d kept (wide-take d n cs w) in
-        let b : length kept ≤ n = subst (λ (x : ℕ). x ≤ n) (sym (length-take n cs)) (omega arith) in
-        length-written (join kept) outPoints (le-trans (le-of-eq a) (le-trans (mul-le-mul-right d b) h))
-
-    go : (b : Bool) → (T b → cells ≤ length outTable) → (c : Bool) → SameLengths outPoints outTable (elim b [
-      | false ↦ (Refused ShortSheet (length kept), written (join kept) outPoints, outTable)
-      | true ↦ elim c [
-        | true ↦ (Refused Open (length kept), written (join kept) outPoints, written (replicate cells 65535) outTable)
-        | false ↦ (Done (length cs), written (join kept) outPoints, written table outTable)
-      ]
-    ])
-    go false f c = (fit, refl)
-    go true f true = (fit, length-written (replicate cells 65535) outTable (le-trans (le-of-eq (length-replicate cells 65535)) (f tt)))
-    go true f false = (fit, length-written table outTable (le-trans (le-of-eq (table-length ms cs)) (f tt)))
-
--- whatever a call answers, its outputs are as long as they were
-pub call-lengths : (d : ℕ) (ps ts outPoints : List Float) (outTable : List ℕ) → SameLengths outPoints outTable (copyCall d ps ts outPoints outTable)
-unfolding copyCall copies matrices
-call-lengths d ps ts outPoints outTable = go (judgeCopy d ps ts)
-  where
-    ms : List Matrix
-    ms = matrices d ts
-
-    cs : List Vector
-    cs = copies ms (points d ps)
-
-    go : (j : Judged (Unit {0})) → SameLengths outPoints outTable (elim j [
-      | refused why ↦ (Refused why 0, outPoints, outTable)
-      | passed u ↦ copyOut (min maxCount (length outPoints / d)) ms cs outPoints outTable
-    ])
-    go (refused why) = (refl, refl)
-    go (passed u) = out-lengths (min maxCount (length outPoints / d)) d ms cs outPoints outTable (copies-wide d ms (points d ps) [] (matrices-wide d (parts (length ts / (d * d)) (d * d) ts)) tt) (room (length outPoints) d)
+pub some-copy : (d : ℕ) (ps ts : List Float) → 0 < length ps → length ps % d ≡ 0 → 0 < length ts → length ts % (d * d) ≡ 0 → 0 < length (copies (matrices d ts) (points d ps))
+unfolding points matrices
+some-copy d ps ts hp p ht t =
+    one-copy (matrices d ts) (points d ps) (rw (length-map, parts-length) (some-part (length ts) (d * d) ht t)) (rw parts-length (some-part (length ps) d hp p))

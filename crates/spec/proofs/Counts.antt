@@ -1,16 +1,14 @@
 -- Counts under a map, the tests of numbers and of lists of numbers, and sums.
 -- Assumes nothing.
-use mathlib.Core.Path.{_≡_, refl, sym, _∙_, ap, ap₂, subst}
-use mathlib.Core.Logic.{_≢_, _⊎_, inl, inr}
-use Prim.Native.Nat.{ℕ, zero, suc, _+_, _≤_, _<_, zero-le}
-use mathlib.Core.Bool.{Bool, true, false, _&&_, false≢true}
+use mathlib.Core.Path.{_≡_, refl, sym, _∙_, ap, ap₂}
+use mathlib.Core.Logic.{_≢_, inl, inr}
+use Prim.Native.Nat.{ℕ, suc, _+_, _≤_, zero-le}
+use mathlib.Core.Bool.{Bool, true, false, false≢true}
 use mathlib.Core.List.{List, [], _∷_, map, _++_, reverse, reverseAux}
-use native.Mathlib.Nat.{zero-add, add-suc}
 use native.Mathlib.Omega.{arith}
-use lib.ListN.{length, getD}
 use lib.Dec.{T, eqb, eqb→eq, eqb-refl}
-use Rattle.spec.specs.Lists.{In, without, distinct, count, holds, eqList, keep, sum}
-use Rattle.spec.proofs.Distinct.{Test, Once, Split, split, without-yes, without-no, in-without, out-without, count-yes, count-no, count-in, count-out, count-without-same, count-without-other, in?}
+use Rattle.spec.specs.Lists.{In, without, count, holds, eqList, keep, sum}
+use Rattle.spec.proofs.Distinct.{Test, Once, Split, split, without-yes, without-no, out-without, count-yes, count-no, count-in, count-out, count-without-same, count-without-other, in?}
 
 -- ---- the tests
 

@@ -1,9 +1,9 @@
 -- The exchange of facets keeps a solid sound, and its diamonds.
 -- Assumes nothing.
-use mathlib.Core.Path.{_≡_, refl, sym, _∙_, ap, subst, fun-ext}
-use mathlib.Core.Logic.{_≢_, _⊎_, inl, inr}
-use Prim.Native.Nat.{ℕ, zero, suc, _+_, _-_, _≤_, _<_}
-use mathlib.Core.Bool.{Bool, true, false}
+use mathlib.Core.Path.{_≡_, refl, sym, _∙_, ap, fun-ext}
+use mathlib.Core.Logic.{_≢_, inl, inr}
+use Prim.Native.Nat.{ℕ, suc, _-_, _≤_, _<_}
+use mathlib.Core.Bool.{Bool, true}
 use mathlib.Core.List.{List, [], _∷_, map}
 use native.Mathlib.Omega.{arith}
 use native.Mathlib.Nat.{le-antisymm}
@@ -13,11 +13,12 @@ use lib.Seq.{getD-set-same, getD-set-other}
 use lib.Dec.{eqb}
 use Rattle.spec.specs.Lists.{In, holds, range, keep, every}
 use Rattle.spec.specs.Types.{Solid, top, size, subs, properRanks}
-use Rattle.spec.specs.Demand.{Rising, Sound}
+use Rattle.spec.specs.Demand.{Sound}
 use Rattle.spec.specs.Solid.{between, diamond}
 use Rattle.spec.specs.Search.{swapWithFirst, exchangedIn}
-use Rattle.spec.specs.Passed.{Kept, EveryExchange}
-use Rattle.spec.proofs.Distinct.{Once, Split, split, pigeons}
+use Rattle.spec.specs.SolidLaws.{swap}
+use Rattle.spec.specs.Passed.{EveryExchange}
+use Rattle.spec.proofs.Distinct.{Split, split, pigeons}
 use Rattle.spec.proofs.Lists.{in-map, once-map, in-range, of-range, once-range}
 use Rattle.spec.proofs.Counts.{numbers, keep-in, in-keep, once-keep}
 use Rattle.spec.proofs.FlagChange.{diamond-at}
@@ -29,12 +30,8 @@ unfolding every
 in-every p [] f = refl
 in-every p (x ∷ l) f = rw (f x (inl refl), every) (in-every p l (λ y m. f y (inr m)))
 
-keep-same : (p q : ℕ → Bool) → ((x : ℕ) → p x ≡ q x) → (l : List ℕ) → keep p l ≡ keep q l
+pub keep-same : (p q : ℕ → Bool) → ((x : ℕ) → p x ≡ q x) → (l : List ℕ) → keep p l ≡ keep q l
 keep-same p q f l = ap (λ (r : ℕ → Bool). keep r l) (fun-ext f)
-
--- 0 and f change places
-swap : ℕ → ℕ → ℕ
-swap f e = elim (eqb e 0) [ true ↦ f | false ↦ elim (eqb e f) [ true ↦ 0 | false ↦ e ] ]
 
 -- what swap comes to
 data Swapped (f e : ℕ) : Type 0 where
@@ -54,7 +51,7 @@ swapped f e = go (split eqb numbers e 0) (split eqb numbers e f)
     go (inr (n, t)) (inl (p, u)) = second n p (rw (t, u, swap))
     go (inr (n, t)) (inr (m, u)) = neither n m (rw (t, u, swap))
 
-swap-back : (f e : ℕ) → swap f (swap f e) ≡ e
+pub swap-back : (f e : ℕ) → swap f (swap f e) ≡ e
 swap-back f e = go (swapped f e)
   where
     at-f : f ≢ 0 → swap f f ≡ 0
@@ -82,7 +79,7 @@ swap-back f e = go (swapped f e)
     go (second m p q) = rw q (at-0 ∙ sym p)
     go (neither m k q) = rw q q
 
-swap-low : (f e n : ℕ) → f < n → e < n → swap f e < n
+pub swap-low : (f e n : ℕ) → f < n → e < n → swap f e < n
 swap-low f e n hf he = go (swapped f e)
   where
     go : Swapped f e → swap f e < n
@@ -125,34 +122,34 @@ swap-length : (l : List (List ℕ)) (f : ℕ) → length (swapWithFirst l f) ≡
 unfolding swapWithFirst
 swap-length l f = length-set (set l f (getD l 0 [])) 0 (getD l f []) ∙ length-set l f (getD l 0 [])
 
-module _ (s : Solid) (v : Sound s) (d : diamond s ≡ true) (full : (r e : ℕ) → e < size s (suc r) → 0 < length (subs s (suc r) e)) (tall : 2 ≤ top s) (f : ℕ) (low : f < size s (top s - 1)) where
-  t : Solid
+module _ (s : Solid) (tall : 2 ≤ top s) (f : ℕ) (low : f < size s (top s - 1)) where
+  abbrev t : Solid
   t = exchangedIn s f
 
   at-n : getD t (top s - 1) [] ≡ swapWithFirst (getD s (top s - 1) []) f
-  unfolding t exchangedIn
+  unfolding exchangedIn
   at-n = getD-set-same s (top s - 1) (swapWithFirst (getD s (top s - 1) []) f) [] (omega arith)
 
   at-other : (r : ℕ) → r ≢ top s - 1 → getD t r [] ≡ getD s r []
-  unfolding t exchangedIn
+  unfolding exchangedIn
   at-other r n = getD-set-other s (top s - 1) r (swapWithFirst (getD s (top s - 1) []) f) [] n
 
   top-same : top t ≡ top s
-  unfolding t exchangedIn
+  unfolding exchangedIn
   top-same = ap (λ (n : ℕ). n - 1) (length-set s (top s - 1) (swapWithFirst (getD s (top s - 1) []) f))
 
-  size-same : (r : ℕ) → size t r ≡ size s r
+  pub size-same : (r : ℕ) → size t r ≡ size s r
   size-same r = go (ℕ-discrete r (top s - 1))
     where
       go : Dec (r ≡ top s - 1) → size t r ≡ size s r
       go (yes p) = rw (p, at-n) (swap-length (getD s (top s - 1) []) f)
       go (no n) = ap length (at-other r n)
 
-  subs-n : (e : ℕ) → subs t (top s - 1) e ≡ subs s (top s - 1) (swap f e)
+  pub subs-n : (e : ℕ) → subs t (top s - 1) e ≡ subs s (top s - 1) (swap f e)
   unfolding subs
   subs-n e = ap (λ (l : List (List ℕ)). getD l e []) at-n ∙ swap-at (getD s (top s - 1) []) f low e
 
-  subs-other : (r : ℕ) → r ≢ top s - 1 → (e : ℕ) → subs t r e ≡ subs s r e
+  pub subs-other : (r : ℕ) → r ≢ top s - 1 → (e : ℕ) → subs t r e ≡ subs s r e
   unfolding subs
   subs-other r n e = ap (λ (l : List (List ℕ)). getD l e []) (at-other r n)
 
@@ -169,74 +166,74 @@ module _ (s : Solid) (v : Sound s) (d : diamond s ≡ true) (full : (r e : ℕ) 
       go (yes p) = record { was = swap f e; subs-was = rw p (subs-n e); low-was = λ h. swap-low f e (size s r) (rw p low) h }
       go (no n) = record { was = e; subs-was = subs-other r n e; low-was = λ h. h }
 
-  sound-t : Sound t
-  sound-t = record {
-    least = at-other 0 (omega arith) ∙ v .least;
-    below = λ r e x m. rw (size-same r) (v .below r (before (suc r) e .was) x (rw (before (suc r) e .subs-was) at m));
-    rising = λ r e. rw (before r e .subs-was) (v .rising r (before r e .was));
-    one = rw (top-same, size-same (top s)) (v .one);
-    all = λ h. rw (top-same, subs-other (top s) (omega arith) 0, size-same (top s - 1)) (v .all (omega arith));
-  }
+  module _ (v : Sound s) (d : diamond s ≡ true) (full : (r e : ℕ) → e < size s (suc r) → 0 < length (subs s (suc r) e)) where
+    sound-t : Sound t
+    sound-t = record {
+      least = at-other 0 (omega arith) ∙ v .least;
+      below = λ r e x m. rw (size-same r) (v .below r (before (suc r) e .was) x (rw (before (suc r) e .subs-was) at m));
+      rising = λ r e. rw (before r e .subs-was) (v .rising r (before r e .was));
+      one = rw (top-same, size-same (top s)) (v .one);
+      all = λ h. rw (top-same, subs-other (top s) (omega arith) 0, size-same (top s - 1)) (v .all (omega arith));
+    }
 
-  filled-t : (r e : ℕ) → e < size t (suc r) → 0 < length (subs t (suc r) e)
-  filled-t r e h = rw (before (suc r) e .subs-was) (full r (before (suc r) e .was) (before (suc r) e .low-was (rw (size-same (suc r)) at h)))
+    filled-t : (r e : ℕ) → e < size t (suc r) → 0 < length (subs t (suc r) e)
+    filled-t r e h = rw (before (suc r) e .subs-was) (full r (before (suc r) e .was) (before (suc r) e .low-was (rw (size-same (suc r)) at h)))
 
-  -- below the facets
-  two-below : (r g h x : ℕ) → 0 < r → r < top s → r ≢ top s - 1 → g < size t (suc r) → In x (subs t (suc r) g) → In h (subs t r x) → length (between t r g h) ≡ 2
-  unfolding between
-  two-below r g h x k₀ k₁ n low a b =
-      let w = before (suc r) g in
-      let p : keep (λ y. holds eqb h (subs t r y)) (subs t (suc r) g) ≡ keep (λ y. holds eqb h (subs s r y)) (subs s (suc r) (w .was)) =
-      keep-same (λ y. holds eqb h (subs t r y)) (λ y. holds eqb h (subs s r y)) (λ y. ap (holds eqb h) (subs-other r n y)) (subs t (suc r) g) ∙ ap (keep (λ y. holds eqb h (subs s r y))) (w .subs-was) in
-      ap length p ∙ diamond-at s d r k₀ k₁ (w .was) h x (w .low-was (rw (size-same (suc r)) at low)) (rw (w .subs-was) at a) (rw (subs-other r n x) at b)
+    -- below the facets
+    two-below : (r g h x : ℕ) → 0 < r → r < top s → r ≢ top s - 1 → g < size t (suc r) → In x (subs t (suc r) g) → In h (subs t r x) → length (between t r g h) ≡ 2
+    unfolding between
+    two-below r g h x k₀ k₁ n low a b =
+        let w = before (suc r) g in
+        let p : keep (λ y. holds eqb h (subs t r y)) (subs t (suc r) g) ≡ keep (λ y. holds eqb h (subs s r y)) (subs s (suc r) (w .was)) =
+        keep-same (λ y. holds eqb h (subs t r y)) (λ y. holds eqb h (subs s r y)) (λ y. ap (holds eqb h) (subs-other r n y)) (subs t (suc r) g) ∙ ap (keep (λ y. holds eqb h (subs s r y))) (w .subs-was) in
+        ap length p ∙ diamond-at s d r k₀ k₁ (w .was) h x (w .low-was (rw (size-same (suc r)) at low)) (rw (w .subs-was) at a) (rw (subs-other r n x) at b)
 
-  -- at the facets
-  all-facets : (e : ℕ) → subs s (suc (top s - 1)) 0 ≡ range 0 (size s (top s - 1))
-  all-facets e = let p : suc (top s - 1) ≡ top s = omega arith in rw p (v .all (omega arith))
+    -- at the facets
+    all-facets : subs s (suc (top s - 1)) 0 ≡ range 0 (size s (top s - 1))
+    all-facets = let p : suc (top s - 1) ≡ top s = omega arith in rw p (v .all (omega arith))
 
-  two-top : (h x : ℕ) → In x (subs t (suc (top s - 1)) 0) → In h (subs t (top s - 1) x) → length (between t (top s - 1) 0 h) ≡ 2
-  unfolding between
-  two-top h x a b =
-      let n = top s - 1 in
-      let m = size s n in
-      let top-subs : subs t (suc n) 0 ≡ range 0 m = subs-other (suc n) (omega arith) 0 ∙ all-facets 0 in
-      let p : keep (λ y. holds eqb h (subs t n y)) (subs t (suc n) 0) ≡ keep (λ y. holds eqb h (subs s n (swap f y))) (range 0 m) =
-      keep-same (λ y. holds eqb h (subs t n y)) (λ y. holds eqb h (subs s n (swap f y))) (λ y. ap (holds eqb h) (subs-n y)) (subs t (suc n) 0) ∙ ap (keep (λ y. holds eqb h (subs s n (swap f y)))) top-subs in
-      let z = of-range 0 m x (rw top-subs at a) in
-      ap length p ∙ count-swap (λ y. holds eqb h (subs s n y)) f m low ∙ ap (λ (l : List ℕ). length (keep (λ y. holds eqb h (subs s n y)) l)) (sym (all-facets 0))
-      ∙ diamond-at s d n (omega arith) (omega arith) 0 h (swap f x) (rw (suc-top) (omega (arith, v .one)))
-      (rw (all-facets 0) (in-range 0 m (swap f x) (omega arith) (omega (arith, swap-low f x m low (omega (arith, z .1)))))) (rw (subs-n x) at b)
-    where
-      suc-top : suc (top s - 1) ≡ top s
-      suc-top = omega arith
+    two-top : (h x : ℕ) → In x (subs t (suc (top s - 1)) 0) → In h (subs t (top s - 1) x) → length (between t (top s - 1) 0 h) ≡ 2
+    unfolding between
+    two-top h x a b =
+        let n = top s - 1 in
+        let m = size s n in
+        let top-subs : subs t (suc n) 0 ≡ range 0 m = subs-other (suc n) (omega arith) 0 ∙ all-facets in
+        let p : keep (λ y. holds eqb h (subs t n y)) (subs t (suc n) 0) ≡ keep (λ y. holds eqb h (subs s n (swap f y))) (range 0 m) =
+        keep-same (λ y. holds eqb h (subs t n y)) (λ y. holds eqb h (subs s n (swap f y))) (λ y. ap (holds eqb h) (subs-n y)) (subs t (suc n) 0) ∙ ap (keep (λ y. holds eqb h (subs s n (swap f y)))) top-subs in
+        let z = of-range 0 m x (rw top-subs at a) in
+        ap length p ∙ count-swap (λ y. holds eqb h (subs s n y)) f m low ∙ ap (λ (l : List ℕ). length (keep (λ y. holds eqb h (subs s n y)) l)) (sym all-facets)
+        ∙ diamond-at s d n (omega arith) (omega arith) 0 h (swap f x) (rw (suc-top) (omega (arith, v .one)))
+        (rw all-facets (in-range 0 m (swap f x) (omega arith) (omega (arith, swap-low f x m low (omega (arith, z .1)))))) (rw (subs-n x) at b)
+      where
+        suc-top : suc (top s - 1) ≡ top s
+        suc-top = omega arith
 
-  diamond-t : diamond t ≡ true
-  unfolding diamond properRanks
-  diamond-t =
-      in-every _ (range 1 (top t - 1)) (λ r mr.
-      in-every _ (range 0 (size t (suc r))) (λ g mg.
-      in-every _ (subs t (suc r) g) (λ x mx.
-      in-every _ (subs t r x) (λ h mh.
-      let kr = of-range 1 (top t - 1) r mr in
-      let kg = of-range 0 (size t (suc r)) g mg in
-      rw (two r g h x (kr .0) (omega (arith, top-same, kr .1)) (omega (arith, kg .1)) mx mh (ℕ-discrete r (top s - 1))) refl))))
-    where
-      two : (r g h x : ℕ) → 0 < r → r < top s → g < size t (suc r) → In x (subs t (suc r) g) → In h (subs t r x) → Dec (r ≡ top s - 1) → length (between t r g h) ≡ 2
-      two r g h x k₀ k₁ low a b (no n) = two-below r g h x k₀ k₁ n low a b
-      two r g h x k₀ k₁ low a b (yes p) = rw (p, zero-g) (two-top h x (rw (p, zero-g) at a) (rw p at b))
-        where
-          is-top : suc r ≡ top s
-          is-top = omega arith
+    diamond-t : diamond t ≡ true
+    unfolding diamond properRanks
+    diamond-t =
+        in-every _ (range 1 (top t - 1)) (λ r mr.
+        in-every _ (range 0 (size t (suc r))) (λ g mg.
+        in-every _ (subs t (suc r) g) (λ x mx.
+        in-every _ (subs t r x) (λ h mh.
+        let kr = of-range 1 (top t - 1) r mr in
+        let kg = of-range 0 (size t (suc r)) g mg in
+        rw (two r g h x (kr .0) (omega (arith, top-same, kr .1)) (omega (arith, kg .1)) mx mh (ℕ-discrete r (top s - 1))) refl))))
+      where
+        two : (r g h x : ℕ) → 0 < r → r < top s → g < size t (suc r) → In x (subs t (suc r) g) → In h (subs t r x) → Dec (r ≡ top s - 1) → length (between t r g h) ≡ 2
+        two r g h x k₀ k₁ low a b (no n) = two-below r g h x k₀ k₁ n low a b
+        two r g h x k₀ k₁ low a b (yes p) = rw (p, zero-g) (two-top h x (rw (p, zero-g) at a) (rw p at b))
+          where
+            is-top : suc r ≡ top s
+            is-top = omega arith
 
-          zero-g : g ≡ 0
-          zero-g = let k : size t (suc r) ≡ 1 = size-same (suc r) ∙ ap (size s) is-top ∙ v .one in omega arith
+            zero-g : g ≡ 0
+            zero-g = let k : size t (suc r) ≡ 1 = size-same (suc r) ∙ ap (size s) is-top ∙ v .one in omega arith
 
 pub every-exchange : EveryExchange
-unfolding t
 every-exchange s v d full tall f low = record {
-  sound = sound-t s v d full tall f low;
-  diamonds = diamond-t s v d full tall f low;
-  rank = top-same s v d full tall f low;
-  sizes = size-same s v d full tall f low;
-  filled = filled-t s v d full tall f low;
+  sound = sound-t s tall f low v d full;
+  diamonds = diamond-t s tall f low v d full;
+  rank = top-same s tall f low;
+  sizes = size-same s tall f low;
+  filled = filled-t s tall f low v d full;
 }

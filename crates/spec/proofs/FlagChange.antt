@@ -1,8 +1,8 @@
 -- The change of a flag at a proper rank, in a solid that has the diamond property.
 -- Assumes nothing.
-use mathlib.Core.Path.{_≡_, refl, sym, _∙_, ap, subst}
-use mathlib.Core.Logic.{_≢_, _⊎_, inl, inr}
-use Prim.Native.Nat.{ℕ, zero, suc, pred, _+_, _-_, _≤_, _<_}
+use mathlib.Core.Path.{_≡_, refl, sym, _∙_, ap}
+use mathlib.Core.Logic.{_≢_, inl, inr}
+use Prim.Native.Nat.{ℕ, zero, suc, _-_, _<_}
 use mathlib.Core.Bool.{Bool, true, false, not}
 use mathlib.Core.List.{List, [], _∷_}
 use native.Mathlib.Omega.{arith}
@@ -12,7 +12,7 @@ use lib.Seq.{getD-set-same, getD-set-other, set-set, set-getD, ext-getD}
 use lib.Dec.{eqb}
 use Rattle.spec.specs.Lists.{In, holds, range, keep, every}
 use Rattle.spec.specs.Types.{Solid, top, size, subs, properRanks}
-use Rattle.spec.specs.Demand.{Sound, Proper}
+use Rattle.spec.specs.Demand.{Sound}
 use Rattle.spec.specs.Solid.{between, diamond}
 use Rattle.spec.specs.Flags.{Flag, elementAt, other, change, IsFlag, DifferAt, Changed, EveryChange}
 use Rattle.spec.proofs.Distinct.{Once, Split, split}

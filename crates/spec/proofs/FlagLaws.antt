@@ -7,7 +7,7 @@ use lib.ListN.{length}
 use Rattle.spec.specs.Types.{Solid, size, subs}
 use Rattle.spec.specs.Demand.{Sound}
 use Rattle.spec.specs.Solid.{diamond}
-use Rattle.spec.specs.FlagLaws.{FlagsOf, FlagLaws, EveryFlagLaw}
+use Rattle.spec.specs.FlagLaws.{FlagsOf, EveryFlagLaw}
 use Rattle.spec.proofs.Accepted.{every-passed}
 use Rattle.spec.proofs.FlagList.{every-flag-once, every-first}
 use Rattle.spec.proofs.FlagChange.{every-change}

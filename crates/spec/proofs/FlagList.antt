@@ -1,17 +1,17 @@
 -- `flags` lists the maximal chains of a solid, each once, in order.
 -- Assumes nothing.
 use mathlib.Core.Path.{_≡_, refl, sym, _∙_, ap, subst}
-use mathlib.Core.Logic.{_≢_, _↔_, _⊎_, inl, inr}
+use mathlib.Core.Logic.{_⊎_, inl, inr}
 use Prim.Native.Nat.{ℕ, zero, suc, _+_, _-_, _≤_, _<_}
 use mathlib.Core.List.{List, [], _∷_, _++_, map}
 use native.Mathlib.Omega.{arith}
 use native.Mathlib.Decide.{ℕ-discrete, decLt}
 use lib.ListN.{length, getD, take, length-append, length-map, List·getD-append, List·getD-eq-default}
-use lib.Seq.{getD-at, getD-append-add, take-suc, take-all, take-length, length-take-le, getD-take}
+use lib.Seq.{getD-at, getD-append-add, take-suc, take-all, length-take-le, getD-take}
 use Rattle.spec.specs.Lists.{In, join}
 use Rattle.spec.specs.Types.{Solid, top, size, subs}
 use Rattle.spec.specs.Demand.{RisingAbove, Rising, Sound}
-use Rattle.spec.specs.Flags.{Flag, elementAt, firstTo, firstFlag, flagsTo, flags, IsFlag, Before, Listed, EveryFlagOnce, EveryFirst}
+use Rattle.spec.specs.Flags.{Flag, elementAt, firstTo, firstFlag, flagsTo, flags, Before, EveryFlagOnce, EveryFirst}
 use Rattle.spec.proofs.Lists.{in-getD, map-in, in-map, getD-map}
 use Rattle.spec.proofs.Carry.{above}
 

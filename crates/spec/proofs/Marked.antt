@@ -1,21 +1,20 @@
 -- A confirmed row carries elements as demand 3's symmetries do.
 -- Assumes nothing.
 use mathlib.Core.Path.{_≡_, refl, sym, _∙_, ap, subst}
-use mathlib.Core.Logic.{_≢_, _↔_, _⊎_, inl, inr}
-use Prim.Native.Nat.{ℕ, zero, suc, pred, _+_, _-_, _≤_, _<_}
+use mathlib.Core.Logic.{inl, inr}
+use Prim.Native.Nat.{ℕ, zero, suc, pred, _<_}
 use mathlib.Core.Bool.{Bool, true, false, not, _&&_, false≢true}
-use mathlib.Core.Option.{Option, some}
 use mathlib.Core.List.{List, [], _∷_, map}
 use native.Mathlib.Omega.{arith}
 use native.Mathlib.Nat.{not-suc-le-zero}
 use lib.ListN.{length, getD}
 use lib.Dec.{T, eqb, ltb, ltb→lt}
 use Rattle.spec.specs.Lists.{In, holds, place, eqList, range, keep, every}
-use Rattle.spec.specs.Types.{Solid, top, size, subs, properRanks, isProper, Classes, State, typeOf, start, Step, play, result}
-use Rattle.spec.specs.Demand.{Sound, Proper, AllProper, Carries}
+use Rattle.spec.specs.Types.{Solid, top, size, subs, properRanks, isProper, Classes}
+use Rattle.spec.specs.Demand.{Sound, Proper, Carries}
 use Rattle.spec.specs.Mark.{noRepeats, inOrder, reach, vertices, vertexSets, image, goes, carriesElement, marked}
-use Rattle.spec.proofs.Distinct.{Test, Once, Split, split, in?, place-at, place-inj}
-use Rattle.spec.proofs.Lists.{in-getD, in-place, map-in, in-map, in-range, of-range, getD-table, length-table}
+use Rattle.spec.proofs.Distinct.{Test, Once, Split, split, in?, place-inj}
+use Rattle.spec.proofs.Lists.{in-getD, map-in, in-map, in-range, of-range, getD-table, length-table}
 use Rattle.spec.proofs.Counts.{numbers, lists, keep-in, in-keep, holds-in, in-holds}
 use Rattle.spec.proofs.Steps.{proper?}
 use Rattle.spec.proofs.Result.{proper-rank}

@@ -1,16 +1,16 @@
 -- The laws of `renumber`: who shares a number, and that the numbers hang on nothing else. How many numbers there are.
 -- Assumes nothing.
-use mathlib.Core.Path.{_≡_, refl, sym, _∙_, ap, ap₂, subst}
-use mathlib.Core.Logic.{_≢_, _⊎_, inl, inr}
-use Prim.Native.Nat.{ℕ, zero, suc, _+_, _≤_, _<_, zero-le}
-use mathlib.Core.Bool.{Bool, true, false, false≢true}
+use mathlib.Core.Path.{_≡_, refl, sym, _∙_, ap, subst}
+use mathlib.Core.Logic.{inl, inr}
+use Prim.Native.Nat.{ℕ, suc, _≤_, _<_}
+use mathlib.Core.Bool.{Bool}
 use mathlib.Core.List.{List, [], _∷_, map}
 use native.Mathlib.Omega.{arith}
 use lib.ListN.{length, getD, length-map}
 use lib.Seq.{ext-getD}
-use Rattle.spec.specs.Lists.{In, without, distinct, place, renumber, count}
-use Rattle.spec.proofs.Distinct.{Test, Once, Split, split, without-yes, without-no, in-without, out-without, length-without, pigeons, in-distinct, of-distinct, once-distinct, place-yes, place-no, place-at, place-inj, count-yes, count-no, count-without-same, count-without-other}
-use Rattle.spec.proofs.Lists.{in-getD, in-place, map-in, in-map, map-same, map-map, getD-map, Injective}
+use Rattle.spec.specs.Lists.{In, without, distinct, place, renumber}
+use Rattle.spec.proofs.Distinct.{Test, Split, split, without-yes, without-no, in-without, length-without, pigeons, in-distinct, of-distinct, once-distinct, place-yes, place-no, place-at, place-inj}
+use Rattle.spec.proofs.Lists.{in-getD, map-in, in-map, map-same, map-map, getD-map, Injective}
 
 -- ts parts no two places that us does not part. (a and b are what is read past the end)
 abbrev pub Coarser : {A B : Type 0} → A → B → List A → List B → Type 0

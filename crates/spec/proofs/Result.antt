@@ -1,10 +1,10 @@
 -- The result is a steady state, and parts what any list of steps parts. A steady state that steps reach is the result.
 -- Assumes nothing.
-use mathlib.Core.Path.{_≡_, refl, sym, _∙_, ap, ap₂, subst}
-use mathlib.Core.Logic.{_≢_, _⊎_, inl, inr}
-use Prim.Native.Nat.{ℕ, zero, suc, pred, _+_, _-_, _≤_, _<_, zero-le}
+use mathlib.Core.Path.{_≡_, refl, sym, _∙_, ap, subst}
+use mathlib.Core.Logic.{_⊎_, inl, inr}
+use Prim.Native.Nat.{ℕ, zero, suc, _+_, _-_, _<_}
 use mathlib.Core.Bool.{Bool, true, false}
-use mathlib.Core.Option.{Option, none, some, Option·none-ne-some, Option·some-injective}
+use mathlib.Core.Option.{some, Option·none-ne-some, Option·some-injective}
 use mathlib.Core.List.{List, [], _∷_, map, _++_, reverse, reverseAux}
 use native.Mathlib.Nat.{not-suc-le-zero}
 use native.Mathlib.Decide.{ℕ-discrete}
@@ -12,14 +12,14 @@ use native.Mathlib.Omega.{arith}
 use lib.ListN.{length, getD}
 use lib.Seq.{ext-getD}
 use lib.Dec.{eqb}
-use Rattle.spec.specs.Lists.{In, distinct, renumber, count, range, keep, holds, sum}
-use Rattle.spec.specs.Types.{Solid, top, size, subs, sups, properRanks, elements, Classes, State, typesAt, typeOf, typeCount, start, Step, up, down, at, next, neighbours, key, step, play, sweepSteps, sweep, settle, result}
+use Rattle.spec.specs.Lists.{In, distinct, range, holds}
+use Rattle.spec.specs.Types.{Solid, top, size, subs, sups, properRanks, elements, Classes, State, typesAt, typeOf, typeCount, start, Step, up, down, at, next, neighbours, step, play, sweepSteps, sweep, settle, result}
 use Rattle.spec.specs.Demand.{Sound, Proper, AllProper, Steady}
 use Rattle.spec.proofs.Distinct.{in-distinct}
 use Rattle.spec.proofs.Lists.{in-getD, map-same, map-map, map-in, in-map, getD-map, in-range, of-range}
 use Rattle.spec.proofs.Renumber.{Coarser, renumber-pattern, factor, glue, fewer, as-many}
 use Rattle.spec.proofs.Counts.{numbers, regroup, in-keep, sum-eq, in-left, in-right, in-reverse}
-use Rattle.spec.proofs.Steps.{look, key-counts, key-same, proper?, proper-in, Good, Below, start-good, step-here, step-else, step-good, step-key, key-step, step-parts}
+use Rattle.spec.proofs.Steps.{look, key-counts, key-same, proper?, Good, Below, start-good, step-else, step-good, step-key, key-step, step-parts}
 
 -- ---- neighbours are there
 
@@ -48,8 +48,8 @@ module _ (s : Solid) (w : Sound s) (cls : Classes) (S T : State) (gS : Good s cl
       ∙ getD-map glued 0 0 (typesAt T (next x)) f (rw (gT .sizes (next x)) n))
       ∙ sym (map-map (λ f. typeOf T (next x) f) glued (neighbours s x e))
 
-  look-elementTypes : (e t : ℕ) → In t (look (typesAt T (next x)) (neighbours s x e)) → In t (distinct eqb (typesAt T (next x)))
-  look-elementTypes e t h =
+  look-distinct : (e t : ℕ) → In t (look (typesAt T (next x)) (neighbours s x e)) → In t (distinct eqb (typesAt T (next x)))
+  look-distinct e t h =
       let r = in-map (λ f. typeOf T (next x) f) t (neighbours s x e) h in
       in-distinct eqb numbers t (typesAt T (next x))
       (rw (r .2) (in-getD 0 (typesAt T (next x)) (r .0) (rw (gT .sizes (next x)) (near-low s w x p e (r .0) (r .1)))))
@@ -69,7 +69,7 @@ module _ (s : Solid) (w : Sound s) (cls : Classes) (S T : State) (gS : Good s cl
               key-step s cls S gS x p e f he′ hf′
               (key-same (typesAt S (next x)) (typeOf S (at x) e) (typeOf S (at x) f) (neighbours s x e) (neighbours s x f) (b (at x) e f he hf t)
               (λ k. rw (look-glued e, look-glued f)
-              (regroup eqb numbers eqb numbers glued (distinct eqb (typesAt T (next x))) (look (typesAt T (next x)) (neighbours s x e)) (look (typesAt T (next x)) (neighbours s x f)) (look-elementTypes e) (look-elementTypes f) c k)))
+              (regroup eqb numbers eqb numbers glued (distinct eqb (typesAt T (next x))) (look (typesAt T (next x)) (neighbours s x e)) (look (typesAt T (next x)) (neighbours s x f)) (look-distinct e) (look-distinct f) c k)))
 
 -- ---- what every step keeps, every list of steps keeps
 

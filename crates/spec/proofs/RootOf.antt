@@ -13,7 +13,7 @@ use lib.Ieee.Back.{whole-unique}
 use lib.Ieee.Fits.{up-pos, and-l}
 use lib.Ieee.Positive.{positive}
 use Rattle.spec.specs.Float.{zeroF, finite, root}
-use Rattle.spec.specs.Root.{RootOf, isSignMinus, minusZero, NotNegative, RootFacts}
+use Rattle.spec.specs.Root.{EveryRoot, RootUnique, isSignMinus, minusZero, RootFacts, EveryRootFacts}
 use Rattle.spec.proofs.RootIs.{root-is}
 use Rattle.spec.proofs.RootOnly.{root-only}
 
@@ -22,7 +22,7 @@ use Rattle.spec.proofs.RootOnly.{root-only}
 over-zero : (m : ℕ) (e : ℤ) → T (positive (fin false (suc m) e))
 over-zero m e = lt→ltb 0 (suc m) (zero-lt-suc m)
 
-pub root-of : (x : Float) → T (fits binary64 x) → RootOf x (root x)
+pub root-of : EveryRoot
 unfolding root
 root-of nan h = refl
 root-of (inf true) h = refl
@@ -31,7 +31,7 @@ root-of (fin s zero e) h = refl
 root-of (fin true (suc m) e) h = refl
 root-of (fin false (suc m) e) h = root-is (fin false (suc m) e) h (over-zero m e)
 
-pub root-unique : (x r : Float) → T (fits binary64 x) → RootOf x r → r ≡ root x
+pub root-unique : RootUnique
 unfolding root
 root-unique nan r h p = p
 root-unique (inf true) r h p = p
@@ -87,7 +87,7 @@ of-positive x r p q h = record { isFinite = whole r q; sign = inl (plus r q); va
     none (fin false zero e) k z = k
     none (fin false (suc m) e) k z = not-zero false m e z
 
-pub root-facts : (x : Float) → finite x ≡ true → NotNegative x → T (fits binary64 x) → RootFacts x (root x)
+pub root-facts : EveryRootFacts
 unfolding root finite
 root-facts nan f n h = absurd (false≢true f)
 root-facts (inf s) f n h = absurd (false≢true f)

@@ -1,20 +1,20 @@
--- `renumber` as a scan computes it: one element more, and what numbers there are. For the proofs of programs.
+-- `renumber` as a scan computes it: one element more; and what numbers there are.
+-- `distinct-new`, `distinct-old`, `renumber-snoc` and `place-met` are the laws of a loop that numbers by first appearance; no theorem of this crate needs them.
 -- Assumes nothing.
-use mathlib.Core.Path.{_≡_, refl, sym, _∙_, ap, ap₂, subst}
-use mathlib.Core.Logic.{_≢_, _⊎_, inl, inr}
-use Prim.Native.Nat.{ℕ, zero, suc, _+_, _≤_, _<_}
-use mathlib.Core.Bool.{Bool, true, false}
-use mathlib.Core.List.{List, [], _∷_, map, _++_}
+use mathlib.Core.Path.{_≡_, refl, sym, _∙_, ap, ap₂}
+use mathlib.Core.Logic.{_≢_, inl, inr}
+use Prim.Native.Nat.{ℕ, zero, suc, _+_, _<_}
+use mathlib.Core.Bool.{Bool}
+use mathlib.Core.List.{List, [], _∷_, map, _++_, append-nil, map-append}
 use native.Mathlib.Omega.{arith}
-use native.Mathlib.Decide.{ℕ-discrete}
-use lib.ListN.{length, getD, length-map, length-append}
+use lib.ListN.{length, getD, length-map}
 use lib.Seq.{ext-getD}
 use lib.Dec.{eqb}
 use Rattle.spec.specs.Lists.{In, without, distinct, place, renumber, count, range, sum}
-use Rattle.spec.proofs.Distinct.{Test, Once, Split, split, without-yes, without-no, in-distinct, of-distinct, once-distinct, place-yes, place-no, place-at, place-inj, count-yes, count-no, count-without-other, out-without, in?}
+use Rattle.spec.proofs.Distinct.{Test, Once, Split, split, without-yes, without-no, in-distinct, of-distinct, once-distinct, place-yes, place-no, place-inj, count-yes, count-no, count-without-other, out-without, in?}
 use Rattle.spec.proofs.Lists.{in-getD, map-same, getD-map, length-range, getD-range}
 use Rattle.spec.proofs.Renumber.{renumber-at, distinct-map}
-use Rattle.spec.proofs.Counts.{numbers, in-right}
+use Rattle.spec.proofs.Counts.{numbers}
 
 module _ {A : Type 0} (same : A → A → Bool) (test : Test same) where
   without-append : (k : A) (l m : List A) → without same k (l ++ m) ≡ without same k l ++ without same k m
@@ -47,11 +47,7 @@ module _ {A : Type 0} (same : A → A → Bool) (test : Test same) where
       go (no n) (inr h) ih = absurd (n h)
       go (no n) (inl e) ih =
           ap (λ (r : List A). y ∷ without same y r) (distinct-new l x n)
-          ∙ ap (λ (r : List A). y ∷ r) (without-append y (distinct same l) (x ∷ []) ∙ rw (e, without-yes same test {x = y} {k = y} [] (test .pass y)) (nil (without same y (distinct same l))))
-        where
-          nil : (r : List A) → r ++ [] ≡ r
-          nil [] = refl
-          nil (z ∷ r) = ap (λ (q : List A). z ∷ q) (nil r)
+          ∙ ap (λ (r : List A). y ∷ r) (without-append y (distinct same l) (x ∷ []) ∙ rw (e, without-yes same test {x = y} {k = y} [] (test .pass y)) (append-nil (without same y (distinct same l))))
 
   -- what is not there would stand next
   pub place-out : (l : List A) (x : A) → ¬ In x l → place same x l ≡ length l
@@ -80,10 +76,6 @@ module _ {A : Type 0} (same : A → A → Bool) (test : Test same) where
       go (inl (p, e)) ih = absurd (n (inl (sym p)))
       go (inr (p, e)) ih = place-no same test (l ++ x ∷ []) e ∙ ap suc ih
 
-  map-append : (f : A → ℕ) (l m : List A) → map f (l ++ m) ≡ map f l ++ map f m
-  map-append f [] m = refl
-  map-append f (x ∷ l) m = ap (λ (r : List ℕ). f x ∷ r) (map-append f l m)
-
   -- A scan: the numbers so far stay, and the next is its place among what was met before it, which is their count if it is new
   pub renumber-snoc : (l : List A) (x : A) → renumber same (l ++ x ∷ []) ≡ renumber same l ++ place same x (distinct same l) ∷ []
   unfolding renumber
@@ -102,7 +94,7 @@ module _ {A : Type 0} (same : A → A → Bool) (test : Test same) where
   pub place-met : (d : A) (l : List A) (j : ℕ) → j < length l → place same (getD l j d) (distinct same l) ≡ getD (renumber same l) j 0
   place-met d l j h = sym (renumber-at same test d l j h)
 
-  -- ---- the numbers are 0 to n - 1, for n elementTypes
+  -- ---- the numbers are 0 to n - 1, where n elements are distinct
 
   pub place-self : (d : A) (l : List A) → Once l → (i : ℕ) → i < length l → place same (getD l i d) l ≡ i
   place-self d (x ∷ l) o zero h = place-yes same test l (test .pass x)
@@ -115,15 +107,15 @@ module _ {A : Type 0} (same : A → A → Bool) (test : Test same) where
   pub numbers-used : (d : A) (l : List A) → distinct eqb (renumber same l) ≡ range 0 (length (distinct same l))
   unfolding renumber
   numbers-used d l =
-      distinct-map same test eqb numbers (λ x. place same x elementTypes) l (λ x y hx hy. place-inj same test elementTypes (in-distinct same test x l hx) (in-distinct same test y l hy))
-      ∙ ext-getD 0 (map (λ x. place same x elementTypes) elementTypes) (range 0 (length elementTypes)) (length-map elementTypes (λ x. place same x elementTypes) ∙ sym (length-range 0 (length elementTypes)))
-      (λ i h. let h′ : i < length elementTypes = rw length-map at h in
-      getD-map (λ x. place same x elementTypes) d 0 elementTypes i h′ ∙ place-self d elementTypes (once-distinct same test l) i h′ ∙ sym (getD-range 0 (length elementTypes) 0 i h′ ∙ omega arith))
+      distinct-map same test eqb numbers (λ x. place same x kinds) l (λ x y hx hy. place-inj same test kinds (in-distinct same test x l hx) (in-distinct same test y l hy))
+      ∙ ext-getD 0 (map (λ x. place same x kinds) kinds) (range 0 (length kinds)) (length-map kinds (λ x. place same x kinds) ∙ sym (length-range 0 (length kinds)))
+      (λ i h. let h′ : i < length kinds = rw length-map at h in
+      getD-map (λ x. place same x kinds) d 0 kinds i h′ ∙ place-self d kinds (once-distinct same test l) i h′ ∙ sym (getD-range 0 (length kinds) 0 i h′ ∙ omega arith))
     where
-      elementTypes : List A
-      elementTypes = distinct same l
+      kinds : List A
+      kinds = distinct same l
 
-  -- ---- the counts of the elementTypes add up
+  -- ---- the counts of the distinct elements add up
 
   length-split : (t : A) (l : List A) → length l ≡ count same t l + length (without same t l)
   unfolding count without

@@ -1,16 +1,15 @@
 -- The sweeps always settle: E + 2 are enough, so there is always a result. (Change request L11.)
 -- Assumes nothing.
-use mathlib.Core.Path.{_≡_, refl, sym, _∙_, ap, subst}
+use mathlib.Core.Path.{_≡_, refl, sym, _∙_, subst}
 use mathlib.Core.Logic.{_≢_}
-use Prim.Native.Nat.{ℕ, zero, suc, _+_, _≤_, _<_}
+use Prim.Native.Nat.{ℕ, zero, suc, _+_, _≤_}
 use mathlib.Core.Bool.{Bool, true, false, false≢true}
-use mathlib.Core.Option.{Option, none, some, Option·none-ne-some}
-use mathlib.Core.List.{List, map}
+use mathlib.Core.Option.{none, Option·none-ne-some}
 use native.Mathlib.Decide.{ℕ-discrete}
 use native.Mathlib.Omega.{arith}
 use lib.ListN.{length}
 use lib.Dec.{eqb}
-use Rattle.spec.specs.Lists.{In, distinct, sum}
+use Rattle.spec.specs.Lists.{distinct}
 use Rattle.spec.specs.Types.{Solid, size, properRanks, elements, Classes, State, typesAt, typeCount, start, play, sweepSteps, sweep, settle, result}
 use Rattle.spec.proofs.Distinct.{pigeons, once-distinct, of-distinct}
 use Rattle.spec.proofs.Renumber.{fewer}

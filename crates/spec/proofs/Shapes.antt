@@ -1,16 +1,16 @@
 -- The sizes of what a search works out: D by D matrices, and rows of one entry a vertex. So what a call writes fits the outputs.
 -- Assumes nothing.
 use mathlib.Core.Path.{_≡_, refl, sym, _∙_, ap, subst}
-use mathlib.Core.Logic.{_⊎_, inl, inr}
-use Prim.Native.Nat.{ℕ, zero, suc, _+_, _-_, _*_, _≤_, _<_}
+use mathlib.Core.Logic.{inl, inr}
+use Prim.Native.Nat.{ℕ, zero, suc, _+_, _-_, _*_, _≤_}
 use mathlib.Core.Bool.{Bool, true, false, _&&_}
 use mathlib.Core.Option.{Option, none, some, Option·some-injective, Option·none-ne-some}
 use mathlib.Core.List.{List, [], _∷_, _++_, map}
 use native.Mathlib.Omega.{arith}
 use native.Mathlib.Nat.{suc-mul, zero-mul}
-use lib.ListN.{length, getD, set, drop, length-append, length-drop, length-map, length-set}
-use lib.Dec.{leb, ltb, eqb}
-use lib.Ieee.{Float, eq}
+use lib.ListN.{length, set, drop, length-append, length-map, length-set}
+use lib.Dec.{leb, ltb}
+use lib.Ieee.{eq}
 use Rattle.spec.specs.declared.Refusal.{Refusal}
 use Rattle.spec.specs.declared.Refusal.the-variants.{NotFull, DoubleCorner, Centred, Flat, ShortSheet, Unsettled}
 use Rattle.spec.specs.declared.Answer.the-variants.{Done, Refused}
@@ -18,14 +18,14 @@ use Rattle.spec.specs.Lists.{In, range, join, every}
 use Rattle.spec.specs.Types.{ElementType, top, size}
 use Rattle.spec.specs.Mark.{noRepeats}
 use Rattle.spec.specs.Float.{zeroF, zip, dot}
-use Rattle.spec.specs.Matrix.{Matrix, Vector, row, entry, columns, mulMat, unit, identity, Work, pivotRow, swapRows, divided, cleared, clear, column, eliminate, gaussJordan, inverse}
-use Rattle.spec.specs.Copying.{near, written}
+use Rattle.spec.specs.Matrix.{Matrix, Vector, row, entry, columns, mulMat, identity, Work, pivotRow, swapRows, clear, column, eliminate, gaussJordan, inverse}
+use Rattle.spec.specs.Copying.{near}
 use Rattle.spec.specs.Judged as Judging
 use Rattle.spec.specs.Judged.{Judged, refused, passed}
 use Rattle.spec.specs.Solid.{Concrete, preflight}
 use Rattle.spec.specs.Flags.{Flag, firstFlag, flags}
 use Rattle.spec.specs.Classes.{pointOf, typesOf}
-use Rattle.spec.specs.Search.{Setting, Member, firstFar, exchanged, walk, flagColumns, candidate, sameTypes, rowOf, examplesGo, markOf, tested, membersOf, rotationsOf, full, allFinite, setting, search}
+use Rattle.spec.specs.Search.{Setting, Member, firstFar, exchanged, walk, flagColumns, candidate, sameTypes, rowOf, examplesGo, markOf, tested, membersOf, full, allFinite, setting, search}
 use Rattle.spec.specs.Calls.{typeCells, Room, Outcome, haveRoom, fitting, keptOf, outcome, membersIn, rotationsIn}
 use Rattle.spec.proofs.Lists.{length-range, in-map}
 use Rattle.spec.proofs.Listed.{rotation-in, fitting-in}
@@ -280,11 +280,7 @@ found-cells (passed y) s m =
     let q : 0 + length l ≡ length l = omega arith in
     kept-cells m (y .1) l (cells-of m d v l (rw q at (fitting-holds m d v 0 (y .1) (none-held m d v))) (λ x i. s y refl x (fitting-in m d v 0 (y .1) x i)))
 
-pub written-length : {A : Type 0} (new old : List A) → length new ≤ length old → length (written new old) ≡ length old
-unfolding written
-written-length new old h = rw (length-append, length-drop) (omega arith)
-
-pub elementTypes-cells : (ks : List ElementType) → length (join (map typeCells ks)) ≡ 4 * length ks
+pub type-cells : (ks : List ElementType) → length (join (map typeCells ks)) ≡ 4 * length ks
 unfolding join typeCells
-elementTypes-cells [] = refl
-elementTypes-cells (k ∷ ks) = let h = elementTypes-cells ks in omega arith
+type-cells [] = refl
+type-cells (k ∷ ks) = let h = type-cells ks in omega arith

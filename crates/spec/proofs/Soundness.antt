@@ -1,18 +1,18 @@
 -- A test for `Sound`, and demand 3 on the square: that its hypotheses can be met.
 -- Assumes nothing.
-use mathlib.Core.Path.{_≡_, refl, sym, _∙_, ap, subst}
-use mathlib.Core.Logic.{_⊎_, inl, inr}
+use mathlib.Core.Path.{_≡_, refl}
+use mathlib.Core.Logic.{inl, inr}
 use Prim.Native.Nat.{ℕ, zero, suc, _-_, _<_}
 use mathlib.Core.Bool.{Bool, true, false, _&&_, _||_, false≢true}
 use mathlib.Core.List.{List, [], _∷_}
 use native.Mathlib.Omega.{arith}
 use lib.ListN.{length, getD}
 use lib.Dec.{eqb, ltb, lit<}
-use Rattle.spec.specs.Lists.{In, eqList, range, without, distinct, place, renumber, count, holds, keep, sum, every}
-use Rattle.spec.specs.Types.{Solid, top, size, subs, sups, properRanks, elements, typeCount, typeOf, startAt, start, key, keys, Step, up, down, step, play, sweepSteps, sweep, settle, result}
-use Rattle.spec.specs.Demand.{RisingAbove, Rising, Sound, AllProper}
+use Rattle.spec.specs.Lists.{In, eqList, range, every}
+use Rattle.spec.specs.Types.{Solid, top, size, subs, typeOf, start, up, down, play}
+use Rattle.spec.specs.Demand.{RisingAbove, Rising, Sound}
 use Rattle.spec.specs.Mark.{goes}
-use Rattle.spec.specs.SolidExamples.{square, prism, point, dot, alike, square-types, quarter}
+use Rattle.spec.specs.SolidExamples.{square, point, alike, square-types, quarter}
 use Rattle.spec.proofs.Counts.{numbers, lists}
 use Rattle.spec.proofs.Marked.{both, lt-test, every-both, every-in}
 use Rattle.spec.proofs.Demand3.{demand3}
@@ -102,20 +102,12 @@ pub square-sound : Sound square
 unfolding sound low bottom rising risingAbove every subs eqList range
 square-sound = is-sound square refl
 
-pub prism-sound : Sound prism
-unfolding sound low bottom rising risingAbove every subs eqList range
-prism-sound = is-sound prism refl
-
--- the two smallest: R = 0 and R = 1
+-- the smallest: R = 0
 pub point-sound : Sound point
 unfolding sound low bottom rising risingAbove every subs eqList range
 point-sound = is-sound point refl
 
-pub dot-sound : Sound dot
-unfolding sound low bottom rising risingAbove every subs eqList range
-dot-sound = is-sound dot refl
-
--- on the square, after down at 1 and up at 2, the quarter turn carries each edge to one of its type
+-- demand 3's hypotheses can be met: on the square, after down at 1 and up at 2, the quarter turn carries each edge to one of its type
 pub square-turn : (e : ℕ) → e < 4
     → typeOf (play square (start square alike) (down 1 ∷ up 2 ∷ [])) 2 (goes square (1 ∷ 2 ∷ 3 ∷ 0 ∷ []) 2 e) ≡ typeOf (play square (start square alike) (down 1 ∷ up 2 ∷ [])) 2 e
 square-turn e h = demand3 square square-sound alike _ square-types (down 1 ∷ up 2 ∷ []) ((lit< tt, lit< tt), ((lit< tt, lit< tt), tt)) .confirmed (1 ∷ 2 ∷ 3 ∷ 0 ∷ []) quarter 2 e h .1

@@ -1,23 +1,22 @@
 -- Steps over states: what they keep, that they only part, and that they part no more than a steady state parts.
 -- Assumes nothing.
-use mathlib.Core.Path.{_≡_, refl, sym, _∙_, ap, ap₂, subst}
-use mathlib.Core.Logic.{_≢_, _⊎_, inl, inr}
-use Prim.Native.Nat.{ℕ, zero, suc, pred, _+_, _-_, _≤_, _<_, zero-le}
-use mathlib.Core.Bool.{Bool, true, false, _&&_, false≢true}
+use mathlib.Core.Path.{_≡_, refl, sym, _∙_, ap, ap₂}
+use mathlib.Core.Logic.{_≢_, inl, inr}
+use Prim.Native.Nat.{ℕ, zero, suc, _<_}
+use mathlib.Core.Bool.{Bool, true, false}
 use mathlib.Core.List.{List, [], _∷_, map, tail}
-use native.Mathlib.Nat.{lt-of-not-le}
 use native.Mathlib.Decide.{ℕ-discrete, decLt}
 use native.Mathlib.Omega.{arith}
-use lib.ListN.{length, getD, set, replicate, length-set, length-replicate, getD-replicate, List·getD-eq-default}
-use lib.Seq.{ext-getD, getD-set-same, getD-set-other}
-use lib.Dec.{eqb, ltb}
+use lib.ListN.{length, getD, replicate, length-set, length-replicate, List·getD-eq-default}
+use lib.Seq.{getD-set-same, getD-set-other}
+use lib.Dec.{eqb}
 use Rattle.spec.specs.Lists.{In, distinct, place, renumber, count, eqList, range}
-use Rattle.spec.specs.Types.{Solid, top, size, subs, sups, Classes, State, typesAt, typeOf, isProper, startAt, start, Step, up, down, at, next, neighbours, key, keys, step, play}
-use Rattle.spec.specs.Demand.{Sound, Proper, AllProper, Steady}
-use Rattle.spec.proofs.Distinct.{in-distinct, place-yes}
-use Rattle.spec.proofs.Lists.{in-getD, in-place, map-same, map-map, getD-map, length-table, getD-table, of-range, in-map}
-use Rattle.spec.proofs.Renumber.{Coarser, length-renumber, renumber-fine, renumber-coarse, renumber-pattern, factor, glue}
-use Rattle.spec.proofs.Counts.{numbers, lists, regroup, in-keep}
+use Rattle.spec.specs.Types.{Solid, top, size, Classes, State, typesAt, typeOf, isProper, startAt, start, Step, at, next, neighbours, key, keys, step}
+use Rattle.spec.specs.Demand.{Proper}
+use Rattle.spec.proofs.Distinct.{place-yes}
+use Rattle.spec.proofs.Lists.{map-same, length-table, getD-table}
+use Rattle.spec.proofs.Renumber.{Coarser, length-renumber, renumber-fine, renumber-coarse, renumber-pattern}
+use Rattle.spec.proofs.Counts.{numbers, lists}
 
 -- ---- keys
 
@@ -104,7 +103,7 @@ module _ (s : Solid) (cls : Classes) where
   unfolding start
   start-past r h = List·getD-eq-default (start s cls) [] (rw length-table (omega arith))
 
-  past : (r : ℕ) → ¬ (r < length s) → size s r ≡ 0
+  pub past : (r : ℕ) → ¬ (r < length s) → size s r ≡ 0
   past r h = ap length (List·getD-eq-default s [] {n = r} (omega arith))
 
   pub start-good : Good s cls (start s cls)

@@ -13,7 +13,7 @@ use Rattle.spec.specs.declared.Answer.the-variants.{Done, Refused}
 use Rattle.spec.specs.Ascii.{ascii}
 use Rattle.spec.specs.Types.{Solid, Classes, result, elementTypes}
 use Rattle.spec.specs.Mark.{marked}
-use Rattle.spec.specs.Judged.{Judged, refused, passed}
+use Rattle.spec.specs.Judged.{refused, passed}
 use Rattle.spec.specs.Sheet.{list}
 use Rattle.spec.specs.Search.{examplesGo, isRotation}
 use Rattle.spec.specs.Calls.{TypesOut, typesCall, SearchOut, searchCall, rotationsCall}
@@ -49,10 +49,10 @@ unequal =
     68 ∷ 0 ∷ 175 ∷ 252 ∷ 0 ∷ 0 ∷ 0 ∷ 0 ∷ 0 ∷ 0 ∷ 15 ∷ 252 ∷ 0 ∷ 0 ∷ 6 ∷ 10 ∷ 48 ∷ 47 ∷ 128 ∷ []
 
 -- old cells of 7, and of 2.0
-abbrev typesOld : ℕ → ℕ → TypesOut
+abbrev pub typesOld : ℕ → ℕ → TypesOut
 typesOld n m = record { elements = replicate n 7; types = replicate m 7 }
 
-abbrev searchOld : ℕ → ℕ → ℕ → SearchOut
+abbrev pub searchOld : ℕ → ℕ → ℕ → SearchOut
 searchOld f n m = record { matrices = replicate f (ofBits binary64 0x4000_0000_0000_0000); rows = replicate n 7; marks = replicate m 7 }
 
 -- what a search answers and writes, the floats as bit patterns

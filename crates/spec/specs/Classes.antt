@@ -1,6 +1,6 @@
 -- Section 3's distance classes for the elements of a solid, and section 4's types by them.
 -- Assumes nothing.
-use Prim.Native.Nat.{ℕ, zero, suc}
+use Prim.Native.Nat.{ℕ}
 use mathlib.Core.Option.{Option}
 use mathlib.Core.List.{List, [], _∷_, map}
 use lib.ListN.{getD, take, drop}

@@ -3,10 +3,10 @@
 use mathlib.Core.Path.{_≡_}
 use mathlib.Core.Logic.{_≢_, _↔_}
 use mathlib.Core.Bool.{true}
-use Prim.Native.Nat.{ℕ, zero, suc, pred, _-_, _<_}
-use mathlib.Core.Option.{Option, some}
+use Prim.Native.Nat.{ℕ, suc, pred, _-_, _<_}
+use mathlib.Core.Option.{some}
 use mathlib.Core.List.{List, [], _∷_, map}
-use lib.ListN.{length, getD}
+use lib.ListN.{getD}
 use Rattle.spec.specs.Lists.{In, range}
 use Rattle.spec.specs.Mark.{marked, goes}
 use Rattle.spec.specs.Types.{Solid, top, size, subs, Classes, State, typeOf, start, Step, at, step, play, result}

@@ -6,7 +6,6 @@ use lib.Ieee
 use lib.Count
 use Rattle.spec.specs.Lists
 use Rattle.spec.specs.Limits
-use Rattle.spec.specs.Refusal
 use Rattle.spec.specs.Float
 use Rattle.spec.specs.Matrix
 use Rattle.spec.specs.Hull

@@ -1,12 +1,10 @@
 -- Section 1: the 64-bit floats, sums of products, and the square root.
 -- Assumes nothing.
-use mathlib.Core.Path.{_≡_}
-use Prim.Native.Nat.{ℕ, zero, suc, _+_, _-_, _*_, _/_, _^_, _≤_, compare}
+use Prim.Native.Nat.{ℕ, zero, suc, _+_, _-_, _*_, _/_, _^_, compare}
 use mathlib.Core.Bool.{Bool, true, false, _&&_}
 use mathlib.Core.List.{List, [], _∷_}
-use lib.IntN.{ℤ, pos, negsuc}
 use lib.Dec.{leb}
-use lib.Ieee.{Float, nan, inf, fin, binary64, prec, low, up, down, size, nearest, units, add, sub, mul, div, lt, le, eq, fits, ofBits, toBits}
+use lib.Ieee.{Float, nan, inf, fin, binary64, prec, low, up, down, size, nearest, units, add, sub, mul, div, le, ofBits}
 use Rattle.spec.specs.Limits.{maxMagnitude}
 
 -- ---- constants

@@ -23,6 +23,7 @@ pub mod Ascii
 pub mod KitText
 pub mod Eval
 pub mod Passed
+pub mod SolidLaws
 pub mod CallLaws
 pub mod CallExamples
 pub mod FlagLaws

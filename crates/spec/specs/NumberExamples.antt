@@ -2,10 +2,8 @@
 -- Assumes nothing.
 use mathlib.Core.Path.{_≡_, refl}
 use Prim.Native.Nat.{ℕ}
-use mathlib.Core.Bool.{true, false}
-use mathlib.Core.Option.{Option, none, some}
+use mathlib.Core.Option.{none, some}
 use mathlib.Core.List.{List, [], _∷_, map}
-use lib.ListN.{length, replicate}
 use lib.Ieee.{Float, binary64, size, units, neg, add, sub, mul, div, lt, le, eq, ofBits, toBits}
 use Rattle.spec.specs.declared.Refusal.the-variants.{CutSheet, Format, OffTheBoard, Blank, ShortSheet, Open}
 use Rattle.spec.specs.declared.Answer.the-variants.{Done, Refused}
@@ -13,7 +11,7 @@ use Rattle.spec.specs.Lists.{place, holds, range, join, every, distinct,
 use Rattle.spec.specs.Limits.{maxMagnitude}
 use Rattle.spec.specs.Float.{eps, zeroF, oneF, absF, finite, inRange, zip, addOn, total, dot, rootDown, rootUnits, root, norm}
 use Rattle.spec.specs.Matrix.{Matrix, columns, mulVec, mulMat, unit, identity, scan, pivotRow, swapRows, divided, cleared, clear, column, eliminate, gaussJordan, inverse, timesOn, product, determinant}
-use Rattle.spec.specs.Hull.{Joined, joined, nothing, Hull, along, project, rest, joins, addAll, hullOf, origin, distance, nearer, smaller, listedFor, listing, classesFrom, classes, classNumbers}
+use Rattle.spec.specs.Hull.{joined, nothing, along, project, rest, joins, addAll, hullOf, origin, distance, nearer, smaller, listedFor, listing, classesFrom, classes, classNumbers}
 use Rattle.spec.specs.Hull.{add as addPoint}
 use Rattle.spec.specs.Copying.{near, found, find, spread, copiesFrom, copies, copyRow, copyTable, orders, signed, axisOrder, axisOrders, parts, points, matrices, written, judgeCopy, copyOut, copyCall}
 use Rattle.spec.specs.Judged.{_>>_, judge}

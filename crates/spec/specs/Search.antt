@@ -1,14 +1,14 @@
 -- Section 6: the search, its members, and their marks; and of the preflight answers 8, 9, 10, 15 and 11.
 -- Assumes nothing.
 use Prim.Native.Nat.{ℕ, zero, suc, _-_}
-use mathlib.Core.Bool.{Bool, true, false, not, _&&_}
+use mathlib.Core.Bool.{Bool, true, false, _&&_}
 use mathlib.Core.Option.{Option, none, some}
 use mathlib.Core.List.{List, [], _∷_, map}
 use lib.ListN.{length, getD, set}
 use lib.Dec.{leb, ltb, eqb}
 use lib.Ieee.{Float, lt}
 use Rattle.spec.specs.declared.Refusal.the-variants.{NotFull, DoubleCorner, Centred, Flat, Unsettled}
-use Rattle.spec.specs.Lists.{holds, eqList, range, join, every}
+use Rattle.spec.specs.Lists.{holds, eqList, range, every}
 use Rattle.spec.specs.Types.{Solid, top, size, properRanks, State, typeOf, elementTypesAt}
 use Rattle.spec.specs.Mark.{noRepeats, vertices, vertexSets, marked}
 use Rattle.spec.specs.Float.{eps, zeroF, finite}

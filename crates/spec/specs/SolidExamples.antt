@@ -1,14 +1,13 @@
 -- Solids as lists, evaluated: the square, the prism over a triangle, and the two smallest, with distance classes given by hand.
 -- Assumes nothing.
 use mathlib.Core.Path.{_≡_, refl}
-use Prim.Native.Nat.{ℕ, zero, suc}
-use mathlib.Core.Bool.{Bool, true, false}
-use mathlib.Core.Option.{Option, none, some}
-use mathlib.Core.List.{List, [], _∷_}
+use mathlib.Core.Bool.{true, false}
+use mathlib.Core.Option.{some}
+use mathlib.Core.List.{[], _∷_}
 use lib.ListN.{getD}
 use Rattle.spec.specs.Lists.{distinct, renumber, count, holds, eqList, range, keep, sum, without, place, join, every}
 use Rattle.spec.specs.Mark.{noRepeats, inOrder, reach, vertices, vertexSets, image, goes, carriesElement, marked}
-use Rattle.spec.specs.Types.{Solid, State, Classes, subs, sups, properRanks, elements, typeCount, startAt, start, key, keys, step, play, sweepSteps, sweep, settle, result, given, ElementType, elementTypesAt, elementTypes}
+use Rattle.spec.specs.Types.{Solid, Classes, subs, sups, properRanks, elements, typeCount, startAt, start, key, keys, step, play, sweepSteps, sweep, settle, result, elementTypesAt, elementTypes}
 use Rattle.spec.specs.Flags.{flags, flagsTo}
 
 abbrev pub alike : Classes
@@ -77,10 +76,10 @@ unfolding marked carriesElement goes image vertexSets vertices reach inOrder joi
 turned-prism = refl
 
 -- what the square's types call gives out: two types, with rank, number, example and count
-pub square-elementTypes : elementTypes square ((0 ∷ []) ∷ (0 ∷ 0 ∷ 0 ∷ 0 ∷ []) ∷ (0 ∷ 0 ∷ 0 ∷ 0 ∷ []) ∷ (0 ∷ []) ∷ [])
+pub square-element-types : elementTypes square ((0 ∷ []) ∷ (0 ∷ 0 ∷ 0 ∷ 0 ∷ []) ∷ (0 ∷ 0 ∷ 0 ∷ 0 ∷ []) ∷ (0 ∷ []) ∷ [])
     ≡ record { rank = 1; number = 0; example = 0; count = 4 } ∷ record { rank = 2; number = 0; example = 0; count = 4 } ∷ []
 unfolding elementTypes elementTypesAt join properRanks distinct without count range place
-square-elementTypes = refl
+square-element-types = refl
 
 -- R = 0 and R = 1 have no proper element, and a result
 abbrev pub point : Solid

@@ -1,17 +1,19 @@
--- Statements about section 4's numbers, after any list of steps; and about what the types call gives out.
+-- Statements about section 4: the numbers after any list of steps, what the start and each step do, and what the types call gives out.
 -- Assumes nothing.
 use mathlib.Core.Path.{_≡_}
-use mathlib.Core.Logic.{_≢_}
+use mathlib.Core.Logic.{_≢_, _⊎_, _↔_}
 use Prim.Native.Nat.{ℕ, _<_}
 use mathlib.Core.Option.{some}
 use mathlib.Core.List.{List, map}
 use lib.ListN.{length}
 use lib.Dec.{eqb}
 use Rattle.spec.specs.Lists.{In, distinct, count, range, sum, join}
-use Rattle.spec.specs.Types.{Solid, size, properRanks, Classes, State, typesAt, typeOf, start, Step, play, ElementType, elementTypesAt, elementTypes}
-use Rattle.spec.specs.Demand.{AllProper}
+use Rattle.spec.specs.Types.{Solid, top, size, properRanks, Classes, State, typesAt, typeOf, start, Step, at, next, neighbours, step, play, ElementType, elementTypesAt, elementTypes}
+use Rattle.spec.specs.Demand.{Proper, AllProper}
 use Rattle.spec.specs.Solid.{Concrete}
 use Rattle.spec.specs.Classes.{typesOf}
+
+-- ---- numbers
 
 -- how many types a rank's elements have
 unfoldable pub inUse : State → ℕ → ℕ
@@ -24,6 +26,35 @@ pub record Numbered (s : Solid) (S : State) (r : ℕ) : Type 0 where
   pub low : (e : ℕ) → e < size s r → typeOf S r e < inUse S r
   -- the types by first appearance are 0, 1, 2 and so on
   pub first : distinct eqb (typesAt S r) ≡ range 0 (inUse S r)
+
+-- ---- the start, and one step
+
+-- how many neighbours of type t the step x finds at e
+unfoldable pub ofType : Solid → State → Step → ℕ → ℕ → ℕ
+ofType s S x t e = count eqb t (map (typeOf S (next x)) (neighbours s x e))
+
+-- what the step x does to the state S
+pub record Stepped (s : Solid) (S : State) (x : Step) : Type 0 where
+  -- "two elements there still share a type exactly when they shared one and, for every type of rank r−1, have as many subs of it. Step down: the
+  -- same with sups and rank r+1"
+  pub share : (e f : ℕ) → e < size s (at x) → f < size s (at x)
+      → (typeOf (step s S x) (at x) e ≡ typeOf (step s S x) (at x) f)
+      ↔ ((typeOf S (at x) e ≡ typeOf S (at x) f) × ((t : ℕ) → In t (typesAt S (next x)) → ofType s S x t e ≡ ofType s S x t f))
+  -- "Other ranks keep theirs"
+  pub others : (r : ℕ) → r ≢ at x → typesAt (step s S x) r ≡ typesAt S r
+
+pub record StepLaws (s : Solid) (cls : Classes) : Type 0 where
+  -- "Start: elements of a proper rank share a type exactly when they share a distance class"
+  pub at-start : (r e f : ℕ) → Proper s r → e < size s r → f < size s r → (typeOf (start s cls) r e ≡ typeOf (start s cls) r f) ↔ (cls r e ≡ cls r f)
+  -- after any list of steps at proper ranks, one more at a proper rank
+  pub stepped : (xs : List Step) → AllProper s xs → (x : Step) → Proper s (at x) → Stepped s (play s (start s cls) xs) x
+  -- "ranks 0 and R have type 0 only"
+  pub improper : (xs : List Step) → AllProper s xs → (r e : ℕ) → (r ≡ 0) ⊎ (r ≡ top s) → e < size s r → typeOf (play s (start s cls) xs) r e ≡ 0
+
+abbrev pub EveryStepLaw : Type 0
+EveryStepLaw = (s : Solid) (cls : Classes) → StepLaws s cls
+
+-- ---- what is given out
 
 -- "for each type its example (lowest element) and count"
 pub record Described (s : Solid) (z : State) (r : ℕ) (k : ElementType) : Type 0 where

@@ -1,12 +1,12 @@
 -- Section 7's constant table of 48: its rule, its closure under products, and the copies of (1,2,3) under it.
 -- Every one of the 48 is made of six rows, so few dots are worked out, and the rest is numbers. Assumes nothing.
 use mathlib.Core.Path.{_≡_, refl, ap, _∙_}
-use Prim.Native.Nat.{ℕ, zero, suc, _/_, _^_, _-_, _%_, _+_, _*_}
+use Prim.Native.Nat.{ℕ, _/_, _^_, _-_, _%_, _+_, _*_}
 use mathlib.Core.Bool.{true, false}
 use mathlib.Core.List.{List, [], _∷_, map}
 use lib.ListN.{length, replicate, getD}
 use lib.Dec.{eqb, ltb}
-use lib.Ieee.{Float, fin, binary64, ofBits, neg}
+use lib.Ieee.{Float, fin, ofBits, neg}
 use lib.IntN.{pos}
 use Rattle.spec.specs.declared.Refusal.the-variants.{Open}
 use Rattle.spec.specs.declared.Answer.{Answer}
@@ -14,7 +14,7 @@ use Rattle.spec.specs.declared.Answer.the-variants.{Done, Refused}
 use Rattle.spec.specs.Lists.{join, range, place, eqList, every, holds}
 use Rattle.spec.specs.Float.{zeroF, oneF, zip, dot}
 use Rattle.spec.specs.Mark.{noRepeats}
-use Rattle.spec.specs.Matrix.{Vector, Matrix, columns, mulVec, mulMat}
+use Rattle.spec.specs.Matrix.{Vector, columns, mulVec, mulMat}
 use Rattle.spec.specs.Copying.{orders, signed, axisOrder, axisOrders, find, copyCall, copyRow, copyTable, copyOut, written}
 use Rattle.spec.specs.NumberExamples.{most, all}
 

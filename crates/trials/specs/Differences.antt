@@ -4,12 +4,11 @@ use mathlib.Core.Path.{_≡_, refl}
 use Prim.Native.Nat.{ℕ}
 use mathlib.Core.List.{List, [], _∷_, map}
 use lib.ListN.{replicate}
-use lib.Ieee.{Float, binary64, ofBits}
-use Rattle.spec.specs.declared.Answer.{Answer}
+use lib.Ieee.{binary64, ofBits}
 use Rattle.spec.specs.declared.Answer.the-variants.{Done}
 use Rattle.spec.specs.Ascii.{ascii}
 use Rattle.spec.specs.Copying.{copyCall}
-use Rattle.spec.specs.Calls.{searchCall, SearchOut}
+use Rattle.spec.specs.Calls.{searchCall}
 use Rattle.spec.specs.KitText.{kitText}
 use Rattle.spec.specs.Eval.{evaluate}
 use Rattle.spec.specs.NumberExamples.{all}

@@ -3,17 +3,13 @@
 use mathlib.Core.Path.{_≡_, refl}
 use Prim.Native.Nat.{ℕ}
 use mathlib.Core.List.{List, [], _∷_, _++_, map}
-use mathlib.Core.Bool.{false}
 use lib.ListN.{replicate, take}
-use lib.IntN.{pos}
-use lib.Ieee.{Float, fin, binary64, toBits}
 use Rattle.spec.specs.declared.Refusal.the-variants.{Bench, ShortSheet}
-use Rattle.spec.specs.declared.Answer.{Answer}
 use Rattle.spec.specs.declared.Answer.the-variants.{Done, Refused}
 use Rattle.spec.specs.Ascii.{ascii}
-use Rattle.spec.specs.Calls.{TypesOut, typesCall, SearchOut, searchCall, rotationsCall}
+use Rattle.spec.specs.Calls.{typesCall, searchCall, rotationsCall}
 use Rattle.spec.specs.KitText.{kitText}
-use Rattle.spec.specs.CallExamples.{dyad, lopsided, tiny, close}
+use Rattle.spec.specs.CallExamples.{dyad, lopsided, tiny, close, typesOld, searchOld, shown}
 use Rattle.spec.specs.Eval.{evaluate}
 
 -- ---- sheets
@@ -178,16 +174,7 @@ pub solid : kitText tetrahedron ≡ ascii "types 3\n1 0 0 4\n2 0 0 6\n3 0 0 4\nm
 unfolding evaluate
 solid = refl
 
--- ---- the calls, with old cells of 7 and of 9.0
-
-abbrev pub nine : Float
-nine = fin false 9 (pos 0)
-
-abbrev pub typesOld : ℕ → ℕ → TypesOut
-typesOld n m = record { elements = replicate n 7; types = replicate m 7 }
-
-abbrev pub searchOld : ℕ → ℕ → ℕ → SearchOut
-searchOld f n m = record { matrices = replicate f nine; rows = replicate n 7; marks = replicate m 7 }
+-- ---- the calls, with old cells of 7 and of 2.0
 
 -- the doubled square's types, in a workspace that just suffices: E = 8, I = 8; cells past the answer keep their values
 pub types-given : typesCall doubled 320 128 (typesOld 9 13)
@@ -218,11 +205,7 @@ pub short-types : typesCall doubled 320 128 (typesOld 9 11) ≡ (Refused ShortSh
 unfolding evaluate
 short-types = refl
 
--- what a search answers and writes, the floats as bit patterns
-abbrev pub shown : Answer × SearchOut → Answer × List ℕ × List ℕ × List ℕ
-shown x = (x .0, map (toBits binary64) (x .1 .matrices), x .1 .rows, x .1 .marks)
-
--- the square's eight members, row by row; one cell more than needed in each output (0x4022.. is 9.0)
+-- the square's eight members, row by row; one cell more than needed in each output (0x4000.. is 2.0)
 pub square-members : shown (searchCall square 4096 2048 (searchOld 33 33 9))
     ≡ (
       Done 8,
@@ -234,7 +217,7 @@ pub square-members : shown (searchCall square 4096 2048 (searchOld 33 33 9))
           ∷ 0x3ff0000000000000 ∷ 0 ∷ 0 ∷ 0xbff0000000000000
           ∷ 0 ∷ 0x3ff0000000000000 ∷ 0x3ff0000000000000 ∷ 0
           ∷ 0 ∷ 0x3ff0000000000000 ∷ 0xbff0000000000000 ∷ 0
-          ∷ 0x4022000000000000 ∷ [],
+          ∷ 0x4000000000000000 ∷ [],
       0 ∷ 1 ∷ 2 ∷ 3
           ∷ 1 ∷ 0 ∷ 3 ∷ 2
           ∷ 1 ∷ 2 ∷ 3 ∷ 0
@@ -272,7 +255,7 @@ pub square-short : shown (searchCall square 4096 2048 (searchOld 11 100 100))
       Refused ShortSheet 2,
       0x3ff0000000000000 ∷ 0 ∷ 0 ∷ 0x3ff0000000000000
           ∷ 0xbff0000000000000 ∷ 0 ∷ 0 ∷ 0x3ff0000000000000
-          ∷ 0x4022000000000000 ∷ 0x4022000000000000 ∷ 0x4022000000000000 ∷ [],
+          ∷ 0x4000000000000000 ∷ 0x4000000000000000 ∷ 0x4000000000000000 ∷ [],
       (0 ∷ 1 ∷ 2 ∷ 3 ∷ 1 ∷ 0 ∷ 3 ∷ 2 ∷ []) ++ replicate 92 7,
       (1 ∷ 1 ∷ []) ++ replicate 98 7,
     )
