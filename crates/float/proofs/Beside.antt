@@ -24,7 +24,7 @@ module _ {A : Type 0} where
   set-append-add [] ys i x = rw zero-add
   set-append-add (y ∷ xs) ys i x = rw suc-add (ap (λ (z : List A). y ∷ z) (set-append-add xs ys i x))
 
-  take-replicate : (d n : ℕ) (x : A) → d ≤ n → take d (replicate n x) ≡ replicate d x
+  pub take-replicate : (d n : ℕ) (x : A) → d ≤ n → take d (replicate n x) ≡ replicate d x
   take-replicate zero n x h = refl
   take-replicate (suc d) zero x h = absurd (omega arith)
   take-replicate (suc d) (suc n) x h = ap (λ (z : List A). x ∷ z) (take-replicate d n x (omega arith))

@@ -11,7 +11,7 @@ use lib.Seq.{take-all, take-suc-set, drop-set-lt, drop-drop}
 use Rattle.spec.specs.Lists.{range}
 use Rattle.spec.specs.Float.{zip}
 
-range-snoc : {B : Type 0} (g : ℕ → B) (a n b : ℕ) → b ≡ a + n → map g (range a n) ++ (g b ∷ []) ≡ map g (range a (suc n))
+pub range-snoc : {B : Type 0} (g : ℕ → B) (a n b : ℕ) → b ≡ a + n → map g (range a n) ++ (g b ∷ []) ≡ map g (range a (suc n))
 unfolding range
 range-snoc g a zero b e = ap (λ x. g x ∷ []) (e ∙ add-zero a)
 range-snoc {B} g a (suc n) b e = ap (λ (x : List B). g a ∷ x) (range-snoc g (suc a) n b (omega arith))

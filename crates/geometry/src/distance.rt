@@ -1,0 +1,58 @@
+// How far the hull of listed points is from the origin. The points stand one after another in a slice, d coordinates each.
+ghost use mathlib.Core.Path.{_≡_};
+ghost use mathlib.Core.List.{map};
+ghost use Prim.Native.Nat.{ℕ, _+_, _*_, _≤_, _<_};
+ghost use lib.ListN.{length, take, drop, getD};
+ghost use Rattle.spec.specs.Limits.{maxDimension};
+ghost use Rattle.spec.specs.Hull.{hullOf, distance};
+ghost use Rattle.geometry.specs.Reading.{pointAt};
+use crate::hull::Hull;
+use crate::hull::Joined;
+use float::vector;
+
+// The coordinates of point v, as a part of the slice.
+fn point(points: &[f64], d: usize, v: usize) -> &[f64]
+    requires { ⌜ (v + 1) * d ≤ length (now points) ⌝ }
+    ensures { λ r. ⌜ now r ≡ take d (drop (v * d) (now (points .entry))) ⌝ }
+{
+    let at = v * d;
+    let end = at + d;
+    &points[at..end]
+}
+
+// The number at i.
+fn number(list: &[u16], i: usize) -> usize
+    requires { ⌜ i < length (now list) ⌝ }
+    ensures { λ r. ⌜ r ≡ getD (now (list .entry)) i 0 ⌝ }
+{
+    list[i] as usize
+}
+
+// The distance of the hull of the points with the first n numbers of the list, taken in that order. "Stop at D vectors": k counts those that joined.
+pub fn distance_of(points: &[f64], d: usize, list: &[u16], n: usize) -> f64
+    requires { ⌜ (d ≤ maxDimension) × (0 < n) × (n ≤ length (now list)) × ((j : ℕ) → j < n → (getD (now list) j 0 + 1) * d ≤ length (now points)) ⌝ }
+    ensures { λ r. ⌜ r ≡ distance d (hullOf d (map (pointAt d (now (points .entry))) (take n (now (list .entry))))) ⌝ }
+{
+    let first = number(list, 0);
+    let mut hull = Hull::empty(vector::load(point(points, d, first)));
+    let mut k: usize = 0;
+    let mut i: usize = 1;
+    while i < n {
+        if k == d {
+            return hull.distance(d);
+        }
+        let v = number(list, i);
+        let added = hull.add(vector::load(point(points, d, v)), d);
+        let next = added.hull;
+        hull = next;
+        let joined = added.joined;
+        match joined {
+            Joined::Length(_) => {
+                k += 1;
+            }
+            Joined::Nothing => {}
+        }
+        i += 1;
+    }
+    hull.distance(d)
+}
