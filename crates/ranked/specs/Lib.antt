@@ -1,3 +1,5 @@
 pub mod Words
 pub mod Reading
 pub mod Marks
+pub mod Derive
+pub mod Store

@@ -14,4 +14,5 @@ pub struct Shape {
 pub mod check;
 pub mod lists;
 pub mod points;
+pub mod store;
 pub mod vertices;

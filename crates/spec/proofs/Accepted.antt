@@ -486,6 +486,20 @@ whole-sheet b p = go (sheet b 0) refl
     go (refused why) q e = absurd (never why p e)
     go (passed x) q e = rw (← same (x .0) p e) (sheet-read b x q)
 
+-- the solid of a sheet that was read, whatever workspaces are lent
+module _ (b : List ℕ) (p : Parsed) (e : readSheet b ≡ passed p) where
+  pub read-rank : top (solidOf p) ≡ p .rank
+  read-rank = rank-of p (whole-sheet b p e)
+
+  pub read-sound : Sound (solidOf p)
+  read-sound = sound-of p (whole-sheet b p e)
+
+  pub read-sizes : (r : ℕ) → r ≤ top (solidOf p) → (0 < size (solidOf p) r) × (size (solidOf p) r ≤ maxCount)
+  read-sizes = sizes-of p (whole-sheet b p e)
+
+  pub read-filled : (r f : ℕ) → f < size (solidOf p) (suc r) → 0 < length (subs (solidOf p) (suc r) f)
+  read-filled = filled-of p (whole-sheet b p e)
+
 never-unsettled : (c : Concrete) → typesOf c ≢ none
 unfolding typesOf
 never-unsettled c = settled (c .abs) (byTable (classTable c))

@@ -175,7 +175,7 @@ module _ (b : List ℕ) where
 
 -- ---- a sheet that was read
 
-sheet-of : (b : List ℕ) (p : Parsed) → readSheet b ≡ passed p → (j : ℕ) × (sheet b 0 ≡ passed (p, j))
+pub sheet-of : (b : List ℕ) (p : Parsed) → readSheet b ≡ passed p → (j : ℕ) × (sheet b 0 ≡ passed (p, j))
 unfolding readSheet
 sheet-of b p = go (sheet b 0) refl
   where

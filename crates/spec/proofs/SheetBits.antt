@@ -63,11 +63,11 @@ module _ (b : List ℕ) where
 
   -- ---- a field and its bits
 
-  bit-small : (i : ℕ) → bit b i < 2
+  pub bit-small : (i : ℕ) → bit b i < 2
   unfolding bit
   bit-small i = mod-lt _ (omega arith)
 
-  field-small : (w i : ℕ) → field b i w < 2 ^ w
+  pub field-small : (w i : ℕ) → field b i w < 2 ^ w
   unfolding field
   field-small zero i = omega arith
   field-small (suc w) i = let h = field-small w i in omega (arith, bit-small (i + w), pow-suc 2 w)
@@ -81,7 +81,7 @@ module _ (b : List ℕ) where
       let r : (2 * field b i w + bit b (i + w)) % 2 ≡ bit b (i + w) = omega arith in
       rw (q, r) (holds-join (bitsOf w (field b i w)) (bit b (i + w) ∷ []) i (i + w) (i + suc w) (field-holds w i (omega arith)) (omega arith, refl, omega arith))
 
-  holds-field : (w n i j : ℕ) → n < 2 ^ w → Holds i (bitsOf w n) j → (field b i w ≡ n) × (i + w ≡ j)
+  pub holds-field : (w n i j : ℕ) → n < 2 ^ w → Holds i (bitsOf w n) j → (field b i w ≡ n) × (i + w ≡ j)
   unfolding field bitsOf Holds
   holds-field zero n i j s h = (omega arith, omega arith)
   holds-field (suc w) n i j s h =
