@@ -1,0 +1,115 @@
+-- Distances taken one after another: the laws of the list and the classes over plain lists, and of the cells that hold them.
+-- Assumes nothing.
+use mathlib.Core.Path.{_≡_, refl, sym, ap, ap₂, _∙_}
+use mathlib.Core.List.{List, [], _∷_, _++_, append-assoc, append-nil}
+use Prim.Native.Nat.{ℕ, suc, _+_, _-_, _<_}
+use native.Mathlib.Numerals.{add-one}
+use native.Mathlib.Nat.{add-zero}
+use native.Mathlib.Omega.{arith}
+use lib.ListN.{length, take, drop, set, length-append, length-drop, length-set, drop-of-length-le}
+use lib.Seq.{take-all, take-at, drop-at, take-set-le, drop-set-add, take-suc-set, drop-drop, length-take-le}
+use lib.Ieee.{Float}
+use borrow.Rule.Slice.PartMut.{midOf, postOf, putMid}
+use Rattle.spec.specs.Hull.{listing, classesFrom}
+use Rattle.geometry.specs.declared.classes.Listing.{Listing}
+use Rattle.geometry.specs.Classes.{Takes}
+use Rattle.distances.specs.Listed.{listAfter, Grown}
+
+-- ---- plain lists
+
+pub after-append : (l xs ys : List Float) → listAfter l (xs ++ ys) ≡ listAfter (listAfter l xs) ys
+unfolding listAfter
+after-append l [] ys = refl
+after-append l (x ∷ xs) ys = after-append (listing l x .1) xs ys
+
+pub classes-append : (l xs ys : List Float) → classesFrom l (xs ++ ys) ≡ classesFrom l xs ++ classesFrom (listAfter l xs) ys
+unfolding classesFrom listAfter
+classes-append l [] ys = refl
+classes-append l (x ∷ xs) ys = ap (λ (c : List Float). listing l x .0 ∷ c) (classes-append (listing l x .1) xs ys)
+
+-- ---- cells
+
+-- nothing was taken yet
+pub grown-none : (vd cell k : ℕ) (old : List Float) (n : ℕ) → Grown vd cell k old old n n []
+unfolding listAfter classesFrom
+grown-none vd cell k old n = record {
+  same = refl;
+  long = refl;
+  few = omega arith;
+  list = refl;
+  cells = rw add-zero (sym (append-nil (take k (drop cell old))));
+}
+
+-- xs, and then ys
+pub grown-more : {vd cell k h : ℕ} {a b c : List Float} {n m p : ℕ} {xs ys : List Float}
+    → Grown vd cell k a b n m xs → h ≡ k + length xs → Grown vd cell h b c m p ys → Grown vd cell k a c n p (xs ++ ys)
+grown-more {vd} {cell} {k} {h} {a} {b} {c} {n} {m} {p} {xs} {ys} f e g =
+    let l = take n (drop vd a) in
+    let s : k + length (xs ++ ys) ≡ h + length ys = omega (arith, length-append xs ys) in
+    record {
+      same = g .same ∙ f .same;
+      long = g .long ∙ f .long;
+      few = omega (arith, length-append xs ys, f .few, g .few);
+      list = g .list ∙ ap (λ (z : List Float). listAfter z ys) (f .list) ∙ sym (after-append l xs ys);
+      cells =
+          ap (λ (i : ℕ). take i (drop cell c)) s
+          ∙ g .cells
+          ∙ ap₂ (λ (u v : List Float). u ++ classesFrom v ys) (ap (λ (i : ℕ). take i (drop cell b)) e ∙ f .cells) (f .list)
+          ∙ append-assoc (take k (drop cell a)) (classesFrom l xs) (classesFrom (listAfter l xs) ys)
+          ∙ ap (λ (z : List Float). take k (drop cell a) ++ z) (sym (classes-append l xs ys));
+    }
+
+-- one distance: the list stands in the part from vd on, and the class is written behind it
+module _ (old after : List Float) (vd n cell k : ℕ) (x : Float) (t : Listing) (took : Takes (drop vd old) after n x t) (many : length after ≡ length (drop vd old))
+    (apart : vd + n < cell) (inside : cell + k < length old) where
+  low : length (take vd old) ≡ vd
+  low = length-take-le vd old (omega arith)
+
+  mid-drop : drop vd (take vd old ++ after) ≡ after
+  mid-drop = drop-at (take vd old) after vd low
+
+  mid-length : length (take vd old ++ after) ≡ length old
+  mid-length = omega (arith, length-append (take vd old) after, low, many, length-drop vd old)
+
+  -- the classes' cells are as they were
+  beyond : drop cell (take vd old ++ after) ≡ drop cell old
+  beyond =
+      let i = cell - vd - t .count in
+      let e : (vd + t .count) + i ≡ cell = omega (arith, took .room) in
+      let step : (l : List Float) → drop cell l ≡ drop i (drop (t .count) (drop vd l)) =
+      (λ l. rw (drop-drop (t .count) vd l, drop-drop i (vd + t .count) l, e)) in
+      step (take vd old ++ after)
+      ∙ ap (λ (l : List Float). drop i (drop (t .count) l)) mid-drop
+      ∙ ap (drop i) (took .rest)
+      ∙ sym (step old)
+
+  pub grown-one : Grown vd cell k old (set (take vd old ++ after) (cell + k) (t .value)) n (t .count) (x ∷ [])
+  unfolding listAfter classesFrom
+  grown-one =
+      let j = cell + k - vd in
+      let e : cell + k ≡ vd + j = omega arith in
+      record {
+        same = take-set-le vd (take vd old ++ after) (cell + k) (t .value) (omega arith) ∙ take-at (take vd old) after vd low;
+        long = length-set (take vd old ++ after) (cell + k) (t .value) ∙ mid-length;
+        few = took .room;
+        list =
+            ap (λ (i : ℕ). take (t .count) (drop vd (set (take vd old ++ after) i (t .value)))) e
+            ∙ ap (take (t .count)) (drop-set-add vd (take vd old ++ after) j (t .value) ∙ ap (λ (l : List Float). set l j (t .value)) mid-drop)
+            ∙ take-set-le (t .count) after j (t .value) (omega (arith, took .room))
+            ∙ ap (λ (q : Float × List Float). q .1) (took .is);
+        cells =
+            ap (λ (i : ℕ). take i (drop cell (set (take vd old ++ after) (cell + k) (t .value)))) (add-one k)
+            ∙ ap (take (suc k)) (drop-set-add cell (take vd old ++ after) k (t .value) ∙ ap (λ (l : List Float). set l k (t .value)) beyond)
+            ∙ take-suc-set (drop cell old) k (t .value) (omega (arith, length-drop cell old))
+            ∙ ap (λ (v : Float). take k (drop cell old) ++ (v ∷ [])) (ap (λ (q : Float × List Float). q .0) (took .is));
+      }
+
+-- the same, as the part comes back: what is lent is the part to the end, and nothing stands behind it
+pub grown-part : (old after : List Float) (vd n cell k : ℕ) (x : Float) (t : Listing) → Takes (midOf vd (length old - vd) old) after n x t
+    → length after ≡ length (midOf vd (length old - vd) old) → vd + n < cell → cell + k < length old
+    → Grown vd cell k old (set (putMid vd (length old - vd) old after) (cell + k) (t .value)) n (t .count) (x ∷ [])
+grown-part old after vd n cell k x t took many apart inside =
+    let a : midOf vd (length old - vd) old ≡ drop vd old = take-all (length old - vd) (drop vd old) (omega (arith, length-drop vd old)) in
+    let b : postOf vd (length old - vd) old ≡ [] = drop-of-length-le (drop vd old) {i = length old - vd} (omega (arith, length-drop vd old)) in
+    let c : after ++ postOf vd (length old - vd) old ≡ after = ap (λ (l : List Float). after ++ l) b ∙ append-nil after in
+    rw c (grown-one old after vd n cell k x t (rw a at took) (rw a at many) apart inside)

@@ -1,0 +1,4 @@
+pub mod Grown
+pub mod Elements
+pub mod Ranks
+pub mod Room

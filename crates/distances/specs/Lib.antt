@@ -1,0 +1,2 @@
+pub mod Solids
+pub mod Listed

@@ -1,0 +1,50 @@
+-- Distances that join a list one after another, and the cells that the list and the classes stand in.
+-- Assumes nothing.
+use mathlib.Core.Path.{_≡_}
+use mathlib.Core.List.{List, [], _∷_, _++_, map}
+use Prim.Native.Nat.{ℕ, _+_, _≤_, _<_}
+use lib.ListN.{length, take, drop}
+use lib.Ieee.{Float}
+use Rattle.spec.specs.Lists.{range}
+use Rattle.spec.specs.Types.{size}
+use Rattle.spec.specs.Hull.{listing, classesFrom, classes}
+use Rattle.spec.specs.Classes.{distanceOf, distances}
+use Rattle.spec.specs.Solid.{Concrete}
+use Rattle.ranked.specs.declared.Shape.{Shape}
+use Rattle.ranked.specs.Words.{Held}
+use Rattle.distances.specs.Solids.{solidOn, coordinates, proper, before}
+
+-- the list after distances, from a list
+unfoldable pub listAfter : List Float → List Float → List Float
+listAfter l [] = l
+listAfter l (x ∷ xs) = listAfter (listing l x .1) xs
+
+-- the distances of the elements of rank r
+unfoldable pub rankDistances : Concrete → ℕ → List Float
+rankDistances c r = map (distanceOf c r) (range 0 (size (c .abs) r))
+
+-- Distances xs were taken: the list stands from cell vd on and had n values, now m; the classes stand from `cell` on, and k stood there before. The cells below vd
+-- are as they were
+pub record Grown (vd cell k : ℕ) (old new : List Float) (n m : ℕ) (xs : List Float) : Type 0 where
+  pub same : take vd new ≡ take vd old
+  pub long : length new ≡ length old
+  pub few : m ≤ n + length xs
+  pub list : take m (drop vd new) ≡ listAfter (take n (drop vd old)) xs
+  pub cells : take (k + length xs) (drop cell new) ≡ take k (drop cell old) ++ classesFrom (take n (drop vd old)) xs
+
+-- what taking rank r's distances needs: r is proper, no more values are listed than elements were taken, and there is room for the list and the classes
+pub record Ready (sh : Shape) (w : List ℕ) (floats : List Float) (vd n r : ℕ) : Type 0 where
+  pub held : Held sh w
+  pub low : 1 ≤ r
+  pub high : r < sh .rank
+  pub vertices : vd ≡ coordinates sh w
+  pub few : n ≤ before sh r
+  pub room : vd + proper sh + proper sh ≤ length floats
+
+-- the whole: n values are listed, and each proper element has its class
+pub record Classed (sh : Shape) (w : List ℕ) (old new : List Float) (n : ℕ) : Type 0 where
+  pub same : take (coordinates sh w) new ≡ take (coordinates sh w) old
+  pub long : length new ≡ length old
+  pub few : n ≤ proper sh
+  pub list : take n (drop (coordinates sh w) new) ≡ listAfter [] (distances (solidOn sh w (take (coordinates sh w) old) (sh .dimension)))
+  pub cells : take (proper sh) (drop (coordinates sh w + proper sh) new) ≡ classes (distances (solidOn sh w (take (coordinates sh w) old) (sh .dimension)))

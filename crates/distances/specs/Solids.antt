@@ -1,0 +1,30 @@
+-- The solid that stands in lent words and lent floats, and how many of its elements are proper.
+-- Assumes nothing.
+use Prim.Native.Nat.{ℕ, _-_, _*_}
+use mathlib.Core.List.{List}
+use lib.Ieee.{Float}
+use Rattle.spec.specs.Types.{size}
+use Rattle.spec.specs.Copying.{parts}
+use Rattle.spec.specs.Solid.{Concrete}
+use Rattle.ranked.specs.declared.Shape.{Shape}
+use Rattle.ranked.specs.Words.{firstAt, solidIn}
+
+-- how many vertices there are: none where the least is the top
+abbrev pub vertexCount : Shape → List ℕ → ℕ
+vertexCount sh w = size (solidIn sh w) 1
+
+-- the solid in d dimensions whose vertices' coordinates stand one after another in fl
+abbrev pub solidOn : Shape → List ℕ → List Float → ℕ → Concrete
+solidOn sh w fl d = record { dimension = d; points = parts (vertexCount sh w) d fl; abs = solidIn sh w }
+
+-- how many floats the coordinates take
+abbrev pub coordinates : Shape → List ℕ → ℕ
+coordinates sh w = vertexCount sh w * sh .dimension
+
+-- "E counts proper elements": those from rank 1 on, below the top
+abbrev pub proper : Shape → ℕ
+proper sh = firstAt sh (sh .rank) - firstAt sh 1
+
+-- how many proper elements lie below rank r
+abbrev pub before : Shape → ℕ → ℕ
+before sh r = firstAt sh r - firstAt sh 1
