@@ -1,0 +1,9 @@
+pub mod Keys
+pub mod Parts
+pub mod Sorts
+pub mod Written
+pub mod Compared
+pub mod Noted
+pub mod Scanned
+pub mod Copied
+pub mod States

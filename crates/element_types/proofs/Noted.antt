@@ -1,0 +1,133 @@
+-- One element numbered: what its key, its number and its key's place leave of the keys that were there.
+-- Assumes nothing.
+use mathlib.Core.Path.{_≡_, sym, _∙_, ap, ap₂}
+use mathlib.Core.Logic.{_≢_, inl, inr}
+use mathlib.Core.List.{List, [], _∷_}
+use Prim.Native.Nat.{ℕ, suc, _+_, _-_, _≤_, _<_, zero-le}
+use native.Mathlib.Omega.{arith}
+use borrow.Author.Tests.{lt-ltb, le-ltb}
+use lib.ListN.{length, getD, set, take, drop}
+use lib.Seq.{getD-set-other, drop-set-lt}
+use Rattle.spec.specs.Lists.{place, eqList, range}
+use Rattle.spec.proofs.Lists.{map-same, of-range}
+use Rattle.spec.proofs.Distinct.{Split, split, place-yes, place-no}
+use Rattle.spec.proofs.Counts.{lists}
+use Rattle.ranked.specs.Words.{listAt}
+use Rattle.element_types.specs.Runs.{keyAt, repKeys, Keyed, writtenAt}
+use Rattle.element_types.specs.Numbers.{numberOf, noted, Open}
+use Rattle.element_types.proofs.Parts.{getD-kept, take-kept, run-front}
+use Rattle.element_types.proofs.Compared.{length-keys}
+use Rattle.element_types.proofs.Written.{length-written, written-low, written-count}
+
+-- ---- what is read below a, where nothing changed
+
+run-kept : (u v : List ℕ) (a s n : ℕ) → take a u ≡ take a v → length u ≡ length v → a ≤ length v → s + n ≤ a → take n (drop s u) ≡ take n (drop s v)
+run-kept u v a s n e g b h = sym (run-front u s n (omega arith)) ∙ ap (drop s) (take-kept u v a (s + n) e h) ∙ run-front v s n (omega arith)
+
+module _ (u v : List ℕ) (a : ℕ) (e : take a u ≡ take a v) (g : length u ≡ length v) (b : a ≤ length v) where
+  pub key-kept : (p : ℕ) → p + 2 + getD v p 0 ≤ a → keyAt u p ≡ keyAt v p
+  unfolding keyAt
+  key-kept p h =
+      ap (λ (n : ℕ). take (n + 1) (drop (p + 1) u)) (getD-kept u v a p e (omega arith))
+      ∙ run-kept u v a (p + 1) (getD v p 0 + 1) e g b (omega arith)
+
+  -- the keys that stand where the words from reps say
+  pub keys-kept : (reps m : ℕ) → reps + m ≤ a → ((j : ℕ) → j < m → getD v (reps + j) 0 + 2 + getD v (getD v (reps + j) 0) 0 ≤ a)
+      → repKeys u reps m ≡ repKeys v reps m
+  unfolding repKeys
+  keys-kept reps m h k =
+      map-same (λ j. keyAt u (getD u (reps + j) 0)) (λ j. keyAt v (getD v (reps + j) 0)) (range 0 m)
+      (λ j i. let r = of-range 0 m j i in
+      ap (keyAt u) (getD-kept u v a (reps + j) e (omega arith)) ∙ key-kept (getD v (reps + j) 0) (k j (omega arith)))
+
+-- ---- a word stored before the keys
+
+pub key-set : (v : List ℕ) (c x p : ℕ) → c < p → keyAt (set v c x) p ≡ keyAt v p
+unfolding keyAt
+key-set v c x p h = ap₂ (λ (n : ℕ) (l : List ℕ). take (n + 1) l) (getD-set-other v c p x 0 (λ e. omega arith)) (drop-set-lt (p + 1) v c x (omega arith))
+
+pub keys-set : (v : List ℕ) (c x reps m : ℕ) → ((j : ℕ) → j < m → reps + j ≢ c) → ((j : ℕ) → j < m → c < getD v (reps + j) 0)
+    → repKeys (set v c x) reps m ≡ repKeys v reps m
+unfolding repKeys
+keys-set v c x reps m h k =
+    map-same (λ j. keyAt (set v c x) (getD (set v c x) (reps + j) 0)) (λ j. keyAt v (getD v (reps + j) 0)) (range 0 m)
+    (λ j i. let r = of-range 0 m j i in
+    ap (keyAt (set v c x)) (getD-set-other v c (reps + j) x 0 (h j (omega arith))) ∙ key-set v c x (getD v (reps + j) 0) (k j (omega arith)))
+
+-- ---- one element
+
+-- a key that is there already, and one that is new
+pub noted-low : (u : List ℕ) (cell reps m q : ℕ) → numberOf u reps m q < m → noted u cell reps m q ≡ set u cell (numberOf u reps m q)
+unfolding noted
+noted-low u cell reps m q h = rw (noted, lt-ltb (numberOf u reps m q) m h)
+
+pub noted-high : (u : List ℕ) (cell reps m q : ℕ) → m ≤ numberOf u reps m q → noted u cell reps m q ≡ set (set u cell (numberOf u reps m q)) (reps + m) q
+unfolding noted
+noted-high u cell reps m q h = rw (noted, le-ltb (numberOf u reps m q) m h)
+
+pub place-le : (x : List ℕ) (l : List (List ℕ)) → place eqList x l ≤ length l
+unfolding place
+place-le x [] = zero-le
+place-le x (y ∷ l) = go (split eqList lists y x) (place-le x l)
+  where
+    go : Split eqList lists y x → place eqList x l ≤ length l → place eqList x (y ∷ l) ≤ suc (length l)
+    go (inl (_, e)) ih = rw (place-yes eqList lists l e) zero-le
+    go (inr (_, e)) ih = rw (place-no eqList lists l e) (omega arith)
+
+module _ (w : List ℕ) (low i base at cell reps m q : ℕ) (o : Open w low i base at cell reps m q) where
+  abbrev u : List ℕ
+  u = writtenAt w low i base at q
+
+  long : length u ≡ length w
+  long = length-written w low i base at q (o .key)
+
+  fits : q + 2 + length (listAt (take low w) i) ≤ length w
+  fits = o .key .room
+
+  kept : take q u ≡ take q w
+  kept = written-low w low i base at q (o .key)
+
+  -- what finding the key asks
+  pub places-in : reps + m ≤ length u
+  places-in = omega (arith, long, fits, o .places)
+
+  pub key-in : Keyed u q
+  key-in = rw (written-count w low i base at q (o .key), long) fits
+
+  pub keys-in : (j : ℕ) → j < m → Keyed u (getD u (reps + j) 0)
+  keys-in j h =
+      let k = o .keys j h in
+      let a : getD u (reps + j) 0 ≡ getD w (reps + j) 0 = getD-kept u w q (reps + j) kept (omega (arith, o .places)) in
+      rw a (rw (getD-kept u w q (getD w (reps + j) 0) kept (omega arith)) (omega (arith, k, long, fits)))
+
+  pub number-le : numberOf u reps m q ≤ m
+  unfolding numberOf
+  number-le = omega (arith, length-keys u reps m q, place-le (keyAt u q) (repKeys u reps m))
+
+  -- as the code has it: v is what writing the key left, and p what finding it gave
+  module _ (v : List ℕ) (e : v ≡ u) where
+    pub find-asks : (reps + m ≤ length v) × (((j : ℕ) → j < m → Keyed v (getD v (reps + j) 0)) × Keyed v q)
+    find-asks = rw e (places-in, (keys-in, key-in))
+
+    pub cells-in : (cell < length v) × (reps + m < length v) × (length v ≡ length w) × (m < q)
+    cells-in =
+        let g : length v ≡ length w = ap length e ∙ long in
+        (omega (arith, fits, o .places, o .number), omega (arith, fits, o .places), g, omega (arith, o .places))
+
+    module _ (p : ℕ) (f : p ≡ place eqList (keyAt v q) (repKeys v reps m)) where
+      number-is : p ≡ numberOf u reps m q
+      unfolding numberOf
+      number-is = f ∙ ap (λ (x : List ℕ). place eqList (keyAt x q) (repKeys x reps m)) e
+
+      pub number-small : p < q
+      number-small = omega (arith, number-is, number-le, o .places)
+
+      pub noted-old : p < m → (p ≡ numberOf u reps m q) × (set v cell p ≡ noted u cell reps m q)
+      noted-old h =
+          let n : numberOf u reps m q < m = rw number-is at h in
+          (number-is, ap₂ (λ (x : List ℕ) (k : ℕ). set x cell k) e number-is ∙ sym (noted-low u cell reps m q n))
+
+      pub noted-new : m ≤ p → (p ≡ numberOf u reps m q) × (set (set v cell p) (reps + m) q ≡ noted u cell reps m q)
+      noted-new h =
+          let n : m ≤ numberOf u reps m q = rw number-is at h in
+          (number-is, ap₂ (λ (x : List ℕ) (k : ℕ). set (set x cell k) (reps + m) q) e number-is ∙ sym (noted-high u cell reps m q n))

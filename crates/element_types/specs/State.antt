@@ -1,0 +1,33 @@
+-- Section 4's state as it stands in lent words, behind the solid's lists: "a type number for each element".
+-- Assumes nothing.
+use mathlib.Core.List.{List, map}
+use Prim.Native.Nat.{ℕ, suc, _+_, _*_, _^_, _≤_, _<_}
+use lib.ListN.{length, take, drop}
+use Rattle.spec.specs.Lists.{range, sum}
+use Rattle.spec.specs.Types.{Solid, size, State, Step, at, neighbours}
+use Rattle.ranked.specs.declared.Shape.{Shape}
+use Rattle.ranked.specs.Words.{firstAt, sizeAt, total, solidIn, Held}
+
+-- the types of a rank's elements: the type of element g of all, first[r] + e, stands at word low + g
+unfoldable pub typesIn : Shape → ℕ → List ℕ → ℕ → List ℕ
+typesIn sh low w r = take (sizeAt sh r) (drop (low + firstAt sh r) w)
+
+unfoldable pub stateIn : Shape → ℕ → List ℕ → State
+stateIn sh low w = map (typesIn sh low w) (range 0 (suc (sh .rank)))
+
+-- how many neighbours the elements of a step's rank have, counted for each element
+unfoldable pub entries : Solid → Step → ℕ
+entries s x = sum (map (λ e. length (neighbours s x e)) (range 0 (size s (at x))))
+
+-- how many words a step uses: the lists, the types, and for each element of its rank a number, a place and a key of two words and its neighbours' types
+unfoldable pub needed : Shape → ℕ → List ℕ → Step → ℕ
+needed sh low w x = low + total sh + 4 * sizeAt sh (at x) + entries (solidIn sh (take low w)) x
+
+-- a step at a proper rank of the solid that the first `low` words hold
+pub record Steppable (sh : Shape) (low : ℕ) (w : List ℕ) (x : Step) : Type 0 where
+  pub held : Held sh (take low w)
+  pub above : 1 ≤ at x
+  pub under : at x < sh .rank
+  pub room : needed sh low w x ≤ length w
+  -- a word can hold the number of any of them
+  pub small : needed sh low w x < 2 ^ 32

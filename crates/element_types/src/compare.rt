@@ -1,0 +1,52 @@
+// Keys that stand in lent words, compared.
+use ranked::lists::get;
+ghost use mathlib.Core.Path.{_≡_};
+ghost use Prim.Native.Nat.{ℕ, _+_, _≤_, _<_};
+ghost use lib.ListN.{length, getD, take, drop};
+ghost use Rattle.spec.specs.Lists.{eqList, place};
+ghost use Rattle.element_types.specs.Runs.{keyAt, repKeys, Keyed};
+
+// Do n words from a and n words from b hold the same?
+fn same_run(w: &[u32], a: usize, b: usize, n: usize) -> bool
+    requires { ⌜ (a + n ≤ length (now w)) × (b + n ≤ length (now w)) ⌝ }
+    ensures { λ r. ⌜ r ≡ eqList (take n (drop a (now (w .entry)))) (take n (drop b (now (w .entry)))) ⌝ }
+{
+    let mut k: usize = 0;
+    while k < n {
+        if get(w, a + k) != get(w, b + k) {
+            return false;
+        }
+        k += 1;
+    }
+    true
+}
+
+// Are the keys at words p and q the same?
+pub fn same_key(w: &[u32], p: usize, q: usize) -> bool
+    requires { ⌜ Keyed (now w) p × Keyed (now w) q ⌝ }
+    ensures { λ r. ⌜ r ≡ eqList (keyAt (now (w .entry)) p) (keyAt (now (w .entry)) q) ⌝ }
+{
+    let n = get(w, p);
+    if get(w, q) != n {
+        return false;
+    }
+    same_run(w, p + 1, q + 1, n + 1)
+}
+
+// Which of m keys, that stand where the words from `reps` say, is the first that is the key at word q? m if none is.
+pub fn find_key(w: &[u32], reps: usize, m: usize, q: usize) -> usize
+    requires { ⌜ reps + m ≤ length (now w) ⌝ }
+    requires { ⌜ ((j : ℕ) → j < m → Keyed (now w) (getD (now w) (reps + j) 0)) ⌝ }
+    requires { ⌜ Keyed (now w) q ⌝ }
+    ensures { λ r. ⌜ r ≡ place eqList (keyAt (now (w .entry)) q) (repKeys (now (w .entry)) reps m) ⌝ }
+{
+    let mut j: usize = 0;
+    while j < m {
+        let p = get(w, reps + j);
+        if same_key(w, p, q) {
+            return j;
+        }
+        j += 1;
+    }
+    m
+}
