@@ -3,3 +3,4 @@ pub mod Reading
 pub mod Marks
 pub mod Derive
 pub mod Store
+pub mod Preflight

@@ -133,6 +133,11 @@ lowOf sh I = 4 * total sh + 2 * subEntries sh I
 pub record Kept (p : Parsed) (sh : Shape) (ws : List ℕ) (fs : List Float) : Type 0 where
   pub rank : sh .rank ≡ p .rank
   pub dimension : sh .dimension ≡ p .dimension
+  -- the least, the top and four proper ranks
+  pub small : total sh ≤ 4 * maxCount + 2
+  -- what is read of the words and the floats is there
+  pub words-in : lowOf sh (entries (solidOf p)) ≤ length ws
+  pub floats-in : size (solidOf p) 1 * p .dimension ≤ length fs
   pub held : Held sh (take (lowOf sh (entries (solidOf p))) ws)
   pub solid : solidIn sh (take (lowOf sh (entries (solidOf p))) ws) ≡ solidOf p
   pub points : take (size (solidOf p) 1 * p .dimension) fs ≡ join (p .points)

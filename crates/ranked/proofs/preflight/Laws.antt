@@ -1,0 +1,192 @@
+-- The preflight step by step: what each refusal leaves of it, what the steps need of the header, and the whole answer.
+-- Assumes nothing.
+use mathlib.Core.Path.{_≡_, refl, sym, _∙_, ap}
+use Prim.Native.Nat.{ℕ, _+_, _-_, _*_, _^_, _≤_, _<_}
+use mathlib.Core.Bool.{Bool, true, false, _&&_}
+use mathlib.Core.List.{List}
+use native.Mathlib.Omega.{arith}
+use lib.ListN.{length, take, replicate}
+use lib.Seq.{length-take-le, take-append-seam}
+use lib.Dec.{leb}
+use lib.Ieee.{Float}
+use Rattle.spec.specs.declared.Refusal.{Refusal}
+use Rattle.spec.specs.declared.Refusal.the-variants.{Loose, Mitre, Bench}
+use Rattle.spec.specs.Limits.{maxRank}
+use Rattle.spec.specs.Types.{Solid}
+use Rattle.spec.specs.Judged.{Judged, refused, passed, judge, _>>=_, _>>_}
+use Rattle.spec.specs.Sheet.{Parsed, readSheet}
+use Rattle.spec.specs.Solid.{solidOf, entries, roomy, bound, diamond, Concrete, preflight}
+use Rattle.spec.proofs.Accepted.{never, same, read-rank}
+use Rattle.sheet.specs.declared.Header.{Header}
+use Rattle.sheet.specs.declared.Verdict.{Verdict}
+use Rattle.sheet.specs.declared.Verdict.the-variants.{Accepted, Refused}
+use Rattle.sheet.specs.Judge.{proper, padded, headerOf}
+use Rattle.sheet.proofs.Laws.{elements-is, entries-is, header-small}
+use Rattle.ranked.specs.declared.Shape.{Shape}
+use Rattle.ranked.specs.declared.preflight.Ready.{Ready}
+use Rattle.ranked.specs.Words.{total, solidIn, Held}
+use Rattle.ranked.specs.Store.{parsedOf, lowOf, Kept}
+use Rattle.ranked.specs.Preflight.{verdictOf, checksOf, Placed, Settled, Preflighted}
+use Rattle.ranked.proofs.store.Reading.{allowed}
+
+-- ---- 5 and 6
+
+module _ (s : Solid) where
+  pub loose : bound s ≡ false → Refused Loose ≡ checksOf s
+  unfolding checksOf
+  loose e = rw (e, checksOf)
+
+  pub mitred : bound s ≡ true → diamond s ≡ false → Refused Mitre ≡ checksOf s
+  unfolding checksOf
+  mitred e f = rw (e, f, checksOf)
+
+  pub fine : bound s ≡ true → diamond s ≡ true → Accepted ≡ checksOf s
+  unfolding checksOf
+  fine e f = rw (e, f, checksOf)
+
+-- ---- the steps after the sheet is read
+
+-- 7, 5 and 6 by their tests
+after : Concrete → Bool → Bool → Bool → Judged Concrete
+after c x y z = judge Bench x >> (judge Loose y >> (judge Mitre z >> passed c))
+
+after-bench : (c : Concrete) (y z : Bool) → after c false y z ≡ refused Bench
+unfolding after judge _>>_
+after-bench c y z = refl
+
+after-checks : (c : Concrete) (s : Solid) (y z : Bool) → bound s ≡ y → diamond s ≡ z → verdictOf (after c true y z) ≡ checksOf s
+unfolding after judge _>>_ verdictOf
+after-checks c s false z e f = loose s e
+after-checks c s true false e f = mitred s e f
+after-checks c s true true e f = fine s e f
+
+after-passed : (c d : Concrete) (x y z : Bool) → after c x y z ≡ passed d → c ≡ d
+unfolding after judge _>>_
+after-passed c d false y z e = absurd (never Bench d e)
+after-passed c d true false z e = absurd (never Loose d e)
+after-passed c d true true false e = absurd (never Mitre d e)
+after-passed c d true true true e = same c d e
+
+-- ---- the whole
+
+-- the solid that a sheet says
+abbrev said : Parsed → Concrete
+said p = record { dimension = p .dimension; points = p .points; abs = solidOf p }
+
+module _ (b : List ℕ) (n m : ℕ) where
+  stopped : (why : Refusal) → readSheet b ≡ refused why → preflight b n m ≡ refused why
+  unfolding preflight _>>=_
+  stopped why e = rw e
+
+  module _ (p : Parsed) (e : readSheet b ≡ passed p) where
+    went-on : preflight b n m ≡ after (said p) (roomy (solidOf p) n m) (bound (solidOf p)) (diamond (solidOf p))
+    unfolding preflight _>>=_ after
+    went-on = rw e
+
+    pub cramped : roomy (solidOf p) n m ≡ false → preflight b n m ≡ refused Bench
+    cramped q = went-on ∙ rw q (after-bench (said p) (bound (solidOf p)) (diamond (solidOf p)))
+
+    judged : roomy (solidOf p) n m ≡ true → verdictOf (preflight b n m) ≡ checksOf (solidOf p)
+    judged q = rw (went-on, q) (after-checks (said p) (solidOf p) (bound (solidOf p)) (diamond (solidOf p)) refl refl)
+
+    accepted : (c : Concrete) → preflight b n m ≡ passed c → said p ≡ c
+    accepted c q = after-passed (said p) c (roomy (solidOf p) n m) (bound (solidOf p)) (diamond (solidOf p)) (sym went-on ∙ q)
+
+-- ---- what a read sheet's header says
+
+module _ (b : List ℕ) (p : Parsed) (e : readSheet b ≡ passed p) where
+  pub parsed-is : p ≡ parsedOf b
+  unfolding parsedOf
+  parsed-is = rw (e, parsedOf)
+
+  module _ (h : Header) (eh : h ≡ headerOf p) where
+    pub header-fits : (h .elements < 2 ^ 32) × (h .entries < 2 ^ 32)
+    header-fits = rw eh (let s = header-small b p e in (omega (arith, s .elements), omega (arith, s .entries)))
+
+    pub room-is : (n m : ℕ) → leb (16 * (h .elements + h .entries + 4)) n && leb (8 * (h .elements + 8)) m ≡ roomy (solidOf p) n m
+    unfolding roomy
+    room-is n m = rw (eh, ← elements-is b p e, ← entries-is b p e)
+
+    pub header-said : (h .rank ≡ p .rank) × (h .dimension ≡ p .dimension) × (take (h .rank - 1) (h .counts) ≡ p .counts)
+    unfolding headerOf padded
+    header-said =
+        rw eh (refl, refl, rw (← allowed b p e .counted) (take-append-seam (p .counts) (replicate (proper - length (p .counts)) 0)))
+
+    -- ---- the stored solid
+
+    module _ {sh : Shape} {ws : List ℕ} {fs : List Float} (k : Kept p sh ws fs) where
+      pub low-asked : (sh .rank ≤ maxRank) × (total sh < 2 ^ 32) × (h .entries < 2 ^ 32)
+      low-asked = (k .held .tall, omega (arith, k .small), header-fits .1)
+
+      module _ (low : ℕ) (el : low ≡ lowOf sh (h .entries)) where
+        low-is : low ≡ lowOf sh (entries (solidOf p))
+        low-is = el ∙ ap (lowOf sh) (ap (λ (z : Header). z .entries) eh ∙ sym (entries-is b p e))
+
+        pub low-in : low ≤ length ws
+        low-in = rw low-is (k .words-in)
+
+        pub low-length : low ≡ length (take low ws)
+        low-length = sym (length-take-le low ws low-in)
+
+        pub held-low : Held sh (take low ws)
+        held-low = rw low-is (k .held)
+
+        pub settled : (v : Verdict) → v ≡ checksOf (solidIn sh (take low ws)) → Settled p (record { verdict = v; shape = sh; low = low }) ws fs
+        settled v ev = record {
+          verdict = ev ∙ ap checksOf (rw low-is (k .solid));
+          kept = k;
+          low = low-is;
+        }
+
+-- ---- the whole answer
+
+module _ (b : List ℕ) (n m : ℕ) (r : Ready) (ws : List ℕ) (fs : List Float) (same-words : length ws ≡ n) (same-floats : length fs ≡ m) where
+  -- a refusal
+  refusal : (why : Refusal) → preflight b n m ≡ refused why → r .verdict ≡ Refused why → Preflighted b n m r ws fs
+  unfolding verdictOf
+  refusal why e v = record {
+    verdict = v ∙ rw e;
+    lengths = (same-words, same-floats);
+    placed = λ c q. absurd (never why c (sym e ∙ q));
+  }
+
+  -- 1 to 4
+  pub unread : {why : Refusal} → readSheet b ≡ refused why → r .verdict ≡ Refused why → Preflighted b n m r ws fs
+  unread {why} e v = refusal why (stopped b n m why e) v
+
+  module _ (p : Parsed) (e : readSheet b ≡ passed p) (h : Header) (eh : h ≡ headerOf p) (t : Bool)
+      (et : t ≡ (leb (16 * (h .elements + h .entries + 4)) n && leb (8 * (h .elements + 8)) m)) where
+    room : t ≡ roomy (solidOf p) n m
+    room = et ∙ room-is b p e h eh n m
+
+    -- 7
+    pub cramped-in : t ≡ false → r .verdict ≡ Refused Bench → Preflighted b n m r ws fs
+    cramped-in q v = refusal Bench (cramped b n m p e (sym room ∙ q)) v
+
+    -- 5 and 6, or none
+    pub settled-in : t ≡ true → Settled (parsedOf b) r ws fs → Preflighted b n m r ws fs
+    settled-in q z = from (rw (← parsed-is b p e) at z)
+      where
+        place : Settled p r ws fs → Placed (said p) (r .shape) (r .low) ws fs
+        place z = record {
+          rank = z .kept .rank ∙ sym (read-rank b p e);
+          dimension = z .kept .dimension;
+          words-in = rw (z .low) (z .kept .words-in);
+          held = rw (z .low) (z .kept .held);
+          solid = rw (z .low) (z .kept .solid);
+          floats-in = z .kept .floats-in;
+          points = z .kept .points;
+        }
+
+        from : Settled p r ws fs → Preflighted b n m r ws fs
+        from z = record {
+          verdict = z .verdict ∙ sym (judged b n m p e (sym room ∙ q));
+          lengths = (same-words, same-floats);
+          placed = λ c k. rw (← accepted b n m p e c k) (place z);
+        }
+
+-- what storing asks
+pub asked : (b : List ℕ) (n m : ℕ) (p : Parsed) (e : readSheet b ≡ passed p) (h : Header) (eh : h ≡ headerOf p) (t : Bool)
+    → t ≡ (leb (16 * (h .elements + h .entries + 4)) n && leb (8 * (h .elements + 8)) m) → t ≡ true
+    → (readSheet b ≡ passed (parsedOf b)) × ((h ≡ headerOf (parsedOf b)) × (roomy (solidOf (parsedOf b)) n m ≡ true))
+asked b n m p e h eh t et q = rw (← parsed-is b p e) (e, (eh, sym (room-is b p e h eh n m) ∙ sym et ∙ q))

@@ -1,0 +1,19 @@
+-- `ranked::preflight::checked` meets its contract: 5, and then 6. Assumes nothing.
+use mathlib.Core.Path.{sym, _∙_}
+use borrow.Author.Needs.{needs}
+use borrow.Author.Tests.{not-true, not-false}
+use Rattle.ranked.proofs.preflight.Laws.{loose, mitred, fine}
+use Rattle.ranked.proofs.preflight.checked.Statement.{statement}
+use Rattle.ranked.proofs.preflight.checked.Tie as tie
+
+pub checked-spec : {M : Type 1} → statement M
+checked-spec = tie.close (tie.spec
+    -- is-bound-requires, returns
+    (λ c κs. c .before .pre)
+    (λ c. loose _ (sym (c .before .is-bound .ensures) ∙ not-true _ (c .if1 .taken)))
+    -- is-diamond-requires, returns-2, returns-3
+    (λ c κs. c .before .before .before .pre)
+    (λ c. let o = c .before .before in
+    mitred _ (sym (o .before .is-bound .ensures) ∙ not-false _ (o .if1 .left)) (sym (c .before .is-diamond .ensures) ∙ not-true _ (c .if2 .taken)))
+    (λ c. let o = c .before .before in
+    fine _ (sym (o .before .is-bound .ensures) ∙ not-false _ (o .if1 .left)) (sym (c .before .is-diamond .ensures) ∙ not-false _ (c .if2 .left))))

@@ -1,0 +1,16 @@
+-- `ranked::preflight::is_roomy` meets its contract. Assumes nothing.
+use borrow.Author.Needs.{needs}
+use borrow.Author.Tests.{le-leb, lt-leb}
+use Rattle.ranked.proofs.preflight.is_roomy.Statement.{statement}
+use Rattle.ranked.proofs.preflight.is_roomy.Tie as tie
+
+pub is-roomy-spec : {M : Type 1} → statement M
+is-roomy-spec = tie.close (tie.spec
+    (λ c. search needs)
+    (λ c. search needs)
+    (λ c. search needs)
+    (λ c. search needs)
+    (λ c. search needs)
+    -- returns, returns-2
+    (λ c. rw (le-leb _ _ (c .if1 .taken)))
+    (λ c. rw (lt-leb _ _ (c .if1 .left))))

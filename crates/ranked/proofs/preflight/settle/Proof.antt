@@ -1,0 +1,34 @@
+-- `ranked::preflight::settle` meets its contract: its steps are those of `Laws`. Assumes nothing.
+use borrow.Author.Needs.{needs}
+use native.Mathlib.Omega.{arith}
+use Rattle.ranked.proofs.preflight.Laws.{header-said, low-asked, low-in, low-length, held-low, settled}
+use Rattle.ranked.proofs.preflight.settle.Statement.{statement}
+use Rattle.ranked.proofs.preflight.settle.Tie as tie
+
+pub settle-spec : {M : Type 1} → statement M
+settle-spec = tie.close (tie.spec
+    -- store-requires, low-of-requires
+    (λ c κs. let s = c .before .before .before .before .before .before in
+    (s .pre .0, (header-said (s .args .sheet .now) _ (s .pre .0) (s .args .header) (s .pre .1 .0), s .pre .1 .1)))
+    (λ c κs. let t = c .before .before .before .before in
+    let s = t .before .before .before .before .before .before .before in
+    (low-asked (s .args .sheet .now) _ (s .pre .0) (s .args .header) (s .pre .1 .0) (t .store .ensures), t .store .ensures .held .some))
+    -- slice-reshare-prefix-checked, slice-aggregate-checked, checked-requires
+    (λ c. let t = c .before .before .before .before .before in
+    let s = t .before .before .before .before .before .before .before in
+    omega (arith, low-in (s .args .sheet .now) _ (s .pre .0) (s .args .header) (s .pre .1 .0) (t .store .ensures) _ (c .low-of .ensures)))
+    (λ c. let l = c .before in
+    let t = l .before .before .before .before .before in
+    let s = t .before .before .before .before .before .before .before in
+    low-length (s .args .sheet .now) _ (s .pre .0) (s .args .header) (s .pre .1 .0) (t .store .ensures) _ (l .low-of .ensures))
+    (λ c κs. let l = c .before in
+    let t = l .before .before .before .before .before in
+    let s = t .before .before .before .before .before .before .before in
+    held-low (s .args .sheet .now) _ (s .pre .0) (s .args .header) (s .pre .1 .0) (t .store .ensures) _ (l .low-of .ensures))
+    -- same-length, same-length-2, returns
+    (λ c. search needs)
+    (λ c. search needs)
+    (λ c. let l = c .before .before in
+    let t = l .before .before .before .before .before in
+    let s = t .before .before .before .before .before .before .before in
+    settled (s .args .sheet .now) _ (s .pre .0) (s .args .header) (s .pre .1 .0) (t .store .ensures) _ (l .low-of .ensures) _ (c .checked .ensures)))
