@@ -8,3 +8,5 @@ pub mod PivotScan
 pub mod Beside
 pub mod Columns
 pub mod Inverses
+pub mod Parts
+pub mod Nearness

@@ -2,6 +2,7 @@
 pub mod bits;
 pub mod elimination;
 pub mod matrix;
+pub mod points;
 pub mod root;
 pub mod tolerance;
 pub mod vector;

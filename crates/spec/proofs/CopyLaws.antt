@@ -16,7 +16,7 @@ use Rattle.spec.specs.CallLaws.{EveryFind}
 
 -- ---- finding
 
-found-near : (ps : List Vector) (q : Vector) → found ps q ≡ true → (find ps q < length ps) × (near (getD ps (find ps q) []) q ≡ true)
+pub found-near : (ps : List Vector) (q : Vector) → found ps q ≡ true → (find ps q < length ps) × (near (getD ps (find ps q) []) q ≡ true)
 unfolding found find holds place
 found-near [] q h = absurd (false≢true h)
 found-near (p ∷ ps) q h = go (near p q) refl h (found-near ps q)
@@ -27,7 +27,7 @@ found-near (p ∷ ps) q h = go (near p q) refl h (found-near ps q)
     go true e t ih = (zero-lt-suc (length ps), e)
     go false e t ih = let r = ih t in (suc-le-suc (r .0), r .1)
 
-not-lower : (ps : List Vector) (q : Vector) (i : ℕ) → i < find ps q → near (getD ps i []) q ≡ false
+pub not-lower : (ps : List Vector) (q : Vector) (i : ℕ) → i < find ps q → near (getD ps i []) q ≡ false
 unfolding find place
 not-lower [] q i h = absurd (not-suc-le-zero h)
 not-lower (p ∷ ps) q i h = go (near p q) refl i h (not-lower ps q)
@@ -38,7 +38,7 @@ not-lower (p ∷ ps) q i h = go (near p q) refl i h (not-lower ps q)
     go false e zero h ih = e
     go false e (suc i) h ih = ih i (le-of-suc-le-suc h)
 
-not-found : (ps : List Vector) (q : Vector) → found ps q ≡ false → find ps q ≡ length ps
+pub not-found : (ps : List Vector) (q : Vector) → found ps q ≡ false → find ps q ≡ length ps
 unfolding found find holds place
 not-found [] q h = refl
 not-found (p ∷ ps) q h = go (near p q) h (not-found ps q)
@@ -90,7 +90,7 @@ wide-take d zero ls h = tt
 wide-take d (suc n) [] h = tt
 wide-take d (suc n) (l ∷ ls) h = (h .0, wide-take d n ls (h .1))
 
-wide-join : {A : Type 0} (d : ℕ) (ls : List (List A)) → Wide d ls → length (join ls) ≡ length ls * d
+pub wide-join : {A : Type 0} (d : ℕ) (ls : List (List A)) → Wide d ls → length (join ls) ≡ length ls * d
 unfolding join
 wide-join d [] h = sym (zero-mul d)
 wide-join d (l ∷ ls) h =
@@ -119,7 +119,7 @@ spread-wide d (m ∷ ms) p cs w h = go (found cs (mulVec m p)) (spread-wide d ms
     go true f g = f
     go false f g = g
 
-copies-wide : (d : ℕ) (ms : List Matrix) (ps cs : List Vector) → Wide d ms → Wide d cs → Wide d (copiesFrom ms ps cs)
+pub copies-wide : (d : ℕ) (ms : List Matrix) (ps cs : List Vector) → Wide d ms → Wide d cs → Wide d (copiesFrom ms ps cs)
 unfolding copiesFrom
 copies-wide d ms [] cs w h = h
 copies-wide d ms (p ∷ ps) cs w h = go (found cs p) (copies-wide d ms ps cs w h) (copies-wide d ms ps (spread ms p cs) w (spread-wide d ms p cs w h))

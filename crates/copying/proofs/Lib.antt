@@ -1,0 +1,9 @@
+pub mod Squares
+pub mod Scan
+pub mod Growth
+pub mod Tails
+pub mod Tables
+pub mod Judgements
+pub mod Outcome
+pub mod Flat
+pub mod PCases

@@ -1,0 +1,69 @@
+-- What the parts of the call hand back, in terms of document 01's definitions.
+-- Assumes nothing.
+use mathlib.Core.Path.{_≡_}
+use Prim.Native.Nat.{ℕ, _+_, _≤_, _<_}
+use mathlib.Core.Bool.{Bool, true, false}
+use mathlib.Core.List.{List, [], _∷_, _++_}
+use lib.ListN.{length, take, drop}
+use lib.Dec.{eqb}
+use lib.Ieee.{Float}
+use Rattle.copying.specs.declared.judging.Judgement.{Judgement}
+use Rattle.copying.specs.declared.judging.Judgement.the-variants.{Passed, Refused}
+use Rattle.copying.specs.declared.joining.Added.{Added}
+use Rattle.copying.specs.declared.joining.Added.the-variants.{Found, Joined, Full}
+use Rattle.copying.specs.declared.joining.Room.{Room}
+use Rattle.copying.specs.declared.joining.Room.the-variants as room
+use Rattle.spec.specs.Judged.{Judged, refused, passed}
+use Rattle.spec.specs.Lists.{join, holds}
+use Rattle.spec.specs.Matrix.{Vector, Matrix}
+use Rattle.spec.specs.Copying.{found, spread, parts, written}
+
+-- the judgement that an answer of the code stands for
+abbrev pub judgementOf : Judgement → Judged (Unit {0})
+judgementOf Passed = passed tt
+judgementOf (Refused why) = refused why
+
+-- the copies with one image more, unless it is found among them
+unfoldable pub withImage : List Vector → Vector → List Vector
+withImage cs q = elim (found cs q) [ true ↦ cs | false ↦ cs ++ q ∷ [] ]
+
+-- the copies with the images of one point more, unless it is found among them
+unfoldable pub withPoint : List Matrix → List Vector → Vector → List Vector
+withPoint ms cs p = elim (found cs p) [ true ↦ cs | false ↦ spread ms p cs ]
+
+-- the count of copies after one image, where there were n
+abbrev pub afterwards : ℕ → Added → Room
+afterwards n Found = room.Fits n
+afterwards n Joined = room.Fits (n + 1)
+afterwards n Full = room.Full
+
+-- A buffer holds all, n points of d floats, from its first cell on; there are at most limit, and the cells past them are as they were.
+pub record Fitting (d limit : ℕ) (all : List Vector) (before after : List Float) (n : ℕ) : Type 0 where
+  pub room : n ≤ limit
+  pub read : parts n d after ≡ all
+  pub is : after ≡ written (join all) before
+
+-- there are more than limit, and a buffer holds the first limit
+pub record Overfull (limit : ℕ) (all : List Vector) (before after : List Float) : Type 0 where
+  pub more : limit < length all
+  pub is : after ≡ written (join (take limit all)) before
+
+-- what a buffer holds by the answer, where all are the copies and at most limit are kept
+abbrev pub Kept : (d limit : ℕ) (all : List Vector) (before after : List Float) → Room → Type 0
+Kept d limit all before after (room.Fits n) = Fitting d limit all before after n
+Kept d limit all before after room.Full = Overfull limit all before after
+
+-- new are a buffer's first cells, and none of them is x
+pub record Closed (x : ℕ) (new before after : List ℕ) : Type 0 where
+  pub none : holds eqb x new ≡ false
+  pub is : after ≡ written new before
+
+-- one of new is x; of a buffer only as many cells have changed as they are
+pub record Opened (x : ℕ) (new before after : List ℕ) : Type 0 where
+  pub some : holds eqb x new ≡ true
+  pub past : drop (length new) after ≡ drop (length new) before
+
+-- what a table holds by the answer, where new are its cells and x is the number of an image that is not found
+abbrev pub Tabled : (x : ℕ) (new before after : List ℕ) → Bool → Type 0
+Tabled x new before after true = Closed x new before after
+Tabled x new before after false = Opened x new before after

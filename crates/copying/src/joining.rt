@@ -1,0 +1,135 @@
+// The copies: "A point not found among the copies is multiplied by every matrix in order; each image not found joins." They stand one
+// after another in a lent buffer, d floats each; limit is how many there may be.
+ghost use mathlib.Core.Path.{_≡_};
+ghost use Prim.Native.Nat.{_+_, _*_, _≤_};
+ghost use lib.ListN.{length, take, drop};
+ghost use Rattle.spec.specs.Limits.{maxDimension};
+ghost use Rattle.spec.specs.Copying.{parts, spread as spreadOf, copies as copiesOf, points as pointsOf, matrices, written};
+ghost use Rattle.float.specs.Reading.{corner};
+ghost use Rattle.copying.specs.Post.{Kept, afterwards, withImage, withPoint};
+use float::DIMENSION;
+use float::matrix;
+use float::points;
+
+// What became of an image.
+pub enum Added {
+    Found,
+    Joined,
+    Full,
+}
+
+// How many copies there are, or that there is no room for them all.
+pub enum Room {
+    Fits(usize),
+    Full,
+}
+
+// Matrix j of those that stand row by row in the slice.
+pub fn matrix_at(turns: &[f64], d: usize, j: usize) -> [[f64; DIMENSION]; DIMENSION]
+    requires { ⌜ (d ≤ maxDimension) × (j * (d * d) + d * d ≤ length (now turns)) ⌝ }
+    ensures { λ r. ⌜ corner d r ≡ parts d d (take (d * d) (drop (j * (d * d)) (now (turns .entry)))) ⌝ }
+{
+    let mut m = [[0.0; DIMENSION]; DIMENSION];
+    let mut i: usize = 0;
+    while i < d {
+        m[i] = points::loaded(turns, d, j * d + i);
+        i += 1;
+    }
+    m
+}
+
+// The first d floats of q, from the first cell on.
+fn put(out: &mut [f64], q: [f64; DIMENSION], d: usize)
+    requires { ⌜ (d ≤ maxDimension) × (d ≤ length (now out)) ⌝ }
+    ensures { λ _. ⌜ now (out .exit) ≡ written (take d q) (now (out .entry)) ⌝ }
+{
+    let mut i: usize = 0;
+    while i < d {
+        out[i] = q[i];
+        i += 1;
+    }
+}
+
+// One image: it joins after the n copies, unless it is found among them or there is no room.
+fn add(out: &mut [f64], d: usize, n: usize, limit: usize, q: [f64; DIMENSION]) -> Added
+    requires { ⌜ (d ≤ maxDimension) × (n ≤ limit) × (limit * d ≤ length (now out)) ⌝ }
+    ensures { λ r. ⌜ Kept d limit (withImage (parts n d (now (out .entry))) (take d q)) (now (out .entry)) (now (out .exit)) (afterwards n r) ⌝ }
+{
+    if points::find(out, d, n, q) < n {
+        return Added::Found;
+    }
+    if n < limit {
+        let end = n * d;
+        put(&mut out[end..], q, d);
+        return Added::Joined;
+    }
+    Added::Full
+}
+
+// The images of p under every matrix in order.
+fn spread(
+    out: &mut [f64],
+    d: usize,
+    n: usize,
+    limit: usize,
+    turns: &[f64],
+    p: [f64; DIMENSION],
+) -> Room
+    requires { ⌜ (1 ≤ d) × (d ≤ maxDimension) × (n ≤ limit) × (limit * d ≤ length (now out)) ⌝ }
+    ensures { λ r. ⌜ Kept d limit (spreadOf (matrices d (now (turns .entry))) (take d p) (parts n d (now (out .entry)))) (now (out .entry)) (now (out .exit)) r ⌝ }
+{
+    let count = turns.len() / (d * d);
+    let mut held = n;
+    let mut j: usize = 0;
+    while j < count {
+        let q = matrix::image(matrix_at(turns, d, j), p, d);
+        match add(out, d, held, limit, q) {
+            Added::Found => {}
+            Added::Joined => {
+                held += 1;
+            }
+            Added::Full => {
+                return Room::Full;
+            }
+        }
+        j += 1;
+    }
+    Room::Fits(held)
+}
+
+// One point: nothing, where it is found among the n copies.
+fn point_copied(
+    out: &mut [f64],
+    d: usize,
+    n: usize,
+    limit: usize,
+    turns: &[f64],
+    p: [f64; DIMENSION],
+) -> Room
+    requires { ⌜ (1 ≤ d) × (d ≤ maxDimension) × (n ≤ limit) × (limit * d ≤ length (now out)) ⌝ }
+    ensures { λ r. ⌜ Kept d limit (withPoint (matrices d (now (turns .entry))) (parts n d (now (out .entry))) (take d p)) (now (out .entry)) (now (out .exit)) r ⌝ }
+{
+    if points::find(out, d, n, p) < n {
+        return Room::Fits(n);
+    }
+    spread(out, d, n, limit, turns, p)
+}
+
+// All copies. Copies only join at the end, so those that fit are the first.
+pub fn copies(from: &[f64], turns: &[f64], d: usize, limit: usize, out: &mut [f64]) -> Room
+    requires { ⌜ (1 ≤ d) × (d ≤ maxDimension) × (limit * d ≤ length (now out)) ⌝ }
+    ensures { λ r. ⌜ Kept d limit (copiesOf (matrices d (now (turns .entry))) (pointsOf d (now (from .entry)))) (now (out .entry)) (now (out .exit)) r ⌝ }
+{
+    let count = from.len() / d;
+    let mut n: usize = 0;
+    let mut k: usize = 0;
+    while k < count {
+        let p = points::loaded(from, d, k);
+        let Room::Fits(more) = point_copied(out, d, n, limit, turns, p) else {
+            return Room::Full;
+        };
+        n = more;
+        k += 1;
+    }
+    Room::Fits(n)
+}

@@ -1,0 +1,59 @@
+// "copying goes 2, 1, 3, 12": the refusals that the points and the matrices can meet by themselves.
+ghost use mathlib.Core.Path.{_≡_};
+ghost use Rattle.spec.specs.Lists.{every};
+ghost use Rattle.spec.specs.Float.{inRange};
+ghost use Rattle.spec.specs.Copying.{judgeCopy};
+ghost use Rattle.copying.specs.Post.{judgementOf};
+use float::DIMENSION;
+use float::points;
+use spec::Refusal;
+
+pub enum Judgement {
+    Passed,
+    Refused(Refusal),
+}
+
+// Whether every float is finite and not too large.
+fn all_in_range(s: &[f64]) -> bool
+    ensures { λ r. ⌜ r ≡ every inRange (now (s .entry)) ⌝ }
+{
+    let mut i: usize = 0;
+    while i < s.len() {
+        if points::in_range(s[i]) {
+            i += 1;
+        } else {
+            return false;
+        }
+    }
+    true
+}
+
+pub fn judged(d: usize, from: &[f64], turns: &[f64]) -> Judgement
+    ensures { λ r. ⌜ judgementOf r ≡ judgeCopy d (now (from .entry)) (now (turns .entry)) ⌝ }
+{
+    if d < 1 {
+        return Judgement::Refused(Refusal::Format);
+    }
+    if DIMENSION < d {
+        return Judgement::Refused(Refusal::Format);
+    }
+    if from.len() % d != 0 {
+        return Judgement::Refused(Refusal::CutSheet);
+    }
+    if turns.len() % (d * d) != 0 {
+        return Judgement::Refused(Refusal::CutSheet);
+    }
+    if !all_in_range(from) {
+        return Judgement::Refused(Refusal::OffTheBoard);
+    }
+    if !all_in_range(turns) {
+        return Judgement::Refused(Refusal::OffTheBoard);
+    }
+    if from.len() == 0 {
+        return Judgement::Refused(Refusal::Blank);
+    }
+    if turns.len() == 0 {
+        return Judgement::Refused(Refusal::Blank);
+    }
+    Judgement::Passed
+}

@@ -1,0 +1,72 @@
+// Section 7 of document 01: copying points under matrices, and the constant table of 48.
+ghost use mathlib.Core.Path.{_≡_};
+ghost use Prim.Native.Nat.{_/_, _≤_, min};
+ghost use lib.ListN.{length};
+ghost use Rattle.spec.specs.Limits.{maxCount};
+ghost use Rattle.spec.specs.Judged.{passed};
+ghost use Rattle.spec.specs.Copying.{copies as copiesOf, points as pointsOf, matrices, judgeCopy, copyOut, copyCall};
+use spec::Answer;
+use spec::Refusal;
+
+pub mod axes;
+mod joining;
+mod judging;
+mod rows;
+
+use joining::Room;
+use judging::Judgement;
+
+// "copies over 2,048" are refused.
+const MOST: usize = 2048;
+
+// How many points of d floats there is room for, and at most MOST.
+fn room(floats: usize, d: usize) -> usize
+    requires { ⌜ 1 ≤ d ⌝ }
+    ensures { λ r. ⌜ r ≡ min maxCount (floats / d) ⌝ }
+{
+    let n = floats / d;
+    if n < MOST {
+        return n;
+    }
+    MOST
+}
+
+// The copies, and then their table, for points and matrices that passed. How many cells the table has can exceed a word, so that is compared
+// by division.
+fn copied(d: usize, from: &[f64], turns: &[f64], out: &mut [f64], table: &mut [u16]) -> Answer
+    requires { ⌜ judgeCopy d (now from) (now turns) ≡ passed tt ⌝ }
+    ensures { λ r. ⌜ (r, now (out .exit), now (table .exit))
+        ≡ copyOut (min maxCount (length (now (out .entry)) / d)) (matrices d (now (turns .entry)))
+        (copiesOf (matrices d (now (turns .entry))) (pointsOf d (now (from .entry)))) (now (out .entry)) (now (table .entry)) ⌝ }
+{
+    let limit = room(out.len(), d);
+    let Room::Fits(n) = joining::copies(from, turns, d, limit, out) else {
+        return Answer::Refused(Refusal::ShortSheet, limit);
+    };
+    let count = turns.len() / (d * d);
+    if table.len() / count < n {
+        return Answer::Refused(Refusal::ShortSheet, n);
+    }
+    if rows::write(out, d, n, turns, table) {
+        return Answer::Done(n);
+    }
+    rows::fill(table, count * n);
+    Answer::Refused(Refusal::Open, n)
+}
+
+// Points and matrices in, row by row; the copies and their table out.
+pub fn copy(
+    dimension: usize,
+    points: &[f64],
+    turns: &[f64],
+    copies: &mut [f64],
+    table: &mut [u16],
+) -> Answer
+    ensures { λ r. ⌜ (r, now (copies .exit), now (table .exit))
+        ≡ copyCall dimension (now (points .entry)) (now (turns .entry)) (now (copies .entry)) (now (table .entry)) ⌝ }
+{
+    match judging::judged(dimension, points, turns) {
+        Judgement::Refused(why) => Answer::Refused(why, 0),
+        Judgement::Passed => copied(dimension, points, turns, copies, table),
+    }
+}

@@ -1,0 +1,70 @@
+// The table: "a table row per matrix gives each copy's image", by its number; 65,535 in every cell where one is not among the copies.
+ghost use mathlib.Core.Path.{_≡_};
+ghost use Prim.Native.Nat.{_*_, _/_, _≤_};
+ghost use lib.ListN.{length, replicate};
+ghost use Rattle.spec.specs.Limits.{maxDimension, maxCount};
+ghost use Rattle.spec.specs.Copying.{parts, matrices, copyRow, copyTable, written};
+ghost use Rattle.float.specs.Reading.{corner};
+ghost use Rattle.copying.specs.Post.{Tabled};
+use crate::joining;
+use float::DIMENSION;
+use float::matrix;
+use float::points;
+
+// The number in every cell of a table with an image that is not among the copies.
+const NONE: u16 = 65535;
+
+// The row of matrix m over the n copies; whether every image is among them.
+fn row(
+    copies: &[f64],
+    d: usize,
+    n: usize,
+    m: [[f64; DIMENSION]; DIMENSION],
+    out: &mut [u16],
+) -> bool
+    requires { ⌜ (d ≤ maxDimension) × (n ≤ maxCount) × (n * d ≤ length (now copies)) × (n ≤ length (now out)) ⌝ }
+    ensures { λ r. ⌜ Tabled n (copyRow (parts n d (now (copies .entry))) (corner d m)) (now (out .entry)) (now (out .exit)) r ⌝ }
+{
+    let mut k: usize = 0;
+    while k < n {
+        let q = matrix::image(m, points::loaded(copies, d, k), d);
+        let at = points::find(copies, d, n, q);
+        if at == n {
+            return false;
+        }
+        out[k] = at as u16;
+        k += 1;
+    }
+    true
+}
+
+// Row after row; whether every image is among the copies.
+pub fn write(copies: &[f64], d: usize, n: usize, turns: &[f64], out: &mut [u16]) -> bool
+    requires { ⌜ (1 ≤ d) × (d ≤ maxDimension) × (n ≤ maxCount) × (n * d ≤ length (now copies)) × (length (now turns) / (d * d) * n ≤ length (now out)) ⌝ }
+    ensures { λ r. ⌜ Tabled n (copyTable (matrices d (now (turns .entry))) (parts n d (now (copies .entry)))) (now (out .entry)) (now (out .exit)) r ⌝ }
+{
+    let count = turns.len() / (d * d);
+    let mut j: usize = 0;
+    while j < count {
+        let at = j * n;
+        let m = joining::matrix_at(turns, d, j);
+        if row(copies, d, n, m, &mut out[at..]) {
+            j += 1;
+        } else {
+            return false;
+        }
+    }
+    true
+}
+
+// NONE in the first cells.
+pub fn fill(out: &mut [u16], cells: usize)
+    requires { ⌜ cells ≤ length (now out) ⌝ }
+    ensures { λ _. ⌜ now (out .exit) ≡ written (replicate cells 65535) (now (out .entry)) ⌝ }
+{
+    let mut i: usize = 0;
+    while i < cells {
+        out[i] = NONE;
+        i += 1;
+    }
+}

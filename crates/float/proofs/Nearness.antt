@@ -1,0 +1,92 @@
+-- Loops that compare a point with another, axis by axis, and with the points of a list, one by one: what is left to do gives what the whole gives.
+-- Assumes nothing.
+use mathlib.Core.Path.{_≡_, refl, sym, ap, _∙_}
+use mathlib.Core.Bool.{Bool, true, false}
+use mathlib.Core.List.{List, []}
+use Prim.Native.Nat.{ℕ, zero, suc, _+_, _*_, _≤_, _<_}
+use native.Mathlib.Nat.{add-zero}
+use native.Mathlib.Numerals.{add-one}
+use native.Mathlib.Omega.{arith}
+use lib.ListN.{length, getD, take, drop}
+use lib.Seq.{drop-cons, drop-length, getD-take, length-take-le}
+use lib.Ieee.{Float, nan, inf, fin, ofBits, le}
+use Rattle.spec.specs.Limits.{maxMagnitude}
+use Rattle.spec.specs.Lists.{place}
+use Rattle.spec.specs.Float.{eps, absF, minus, finite, inRange}
+use Rattle.spec.specs.Matrix.{Vector}
+use Rattle.spec.specs.Copying.{near, find, parts}
+use Rattle.float.proofs.Parts.{part-at, part-long}
+
+-- what is not finite is not at most the largest magnitude
+pub in-range-is : (x : Float) → le (absF x) maxMagnitude ≡ inRange x
+unfolding inRange finite absF le maxMagnitude ofBits
+in-range-is nan = refl
+in-range-is (inf s) = refl
+in-range-is (fin s m e) = refl
+
+-- ---- one point
+
+-- the axes before i are near
+pub record NearTo (p q : Vector) (i : ℕ) : Type 0 where
+  pub is : near (drop i p) (drop i (take (length p) q)) ≡ near p (take (length p) q)
+
+module _ {p q : Vector} where
+  pub near-none : NearTo p q 0
+  near-none = record { is = refl }
+
+  module _ {i : ℕ} (x : Float) (h : i < length p) (k : length p ≤ length q) (e : x ≡ absF (minus (getD p i nan) (getD q i nan))) (s : NearTo p q i) where
+    turn : near (drop i p) (drop i (take (length p) q))
+        ≡ elim (le x eps) as (λ _. Bool) [ true ↦ near (drop (suc i) p) (drop (suc i) (take (length p) q)) | false ↦ false ]
+    unfolding near
+    turn =
+        let n : i < length (take (length p) q) = rw (length-take-le (length p) q k) h in
+        rw (drop-cons p i nan h, drop-cons (take (length p) q) i nan n, getD-take (length p) q i nan h, e)
+
+    pub near-on : le x eps ≡ true → NearTo p q (i + 1)
+    near-on t = rw add-one (record { is = sym (rw t at turn) ∙ s .is })
+
+    pub near-not : le x eps ≡ false → false ≡ near p (take (length p) q)
+    near-not t = sym (rw t at turn) ∙ s .is
+
+  pub near-end : {i : ℕ} → i ≤ length p → length p ≤ i → NearTo p q i → true ≡ near p (take (length p) q)
+  unfolding near
+  near-end {i} g h s =
+      let k : i ≡ length p = omega arith in
+      rw (k, drop-length) at (s .is)
+
+-- ---- the lowest of a list
+
+-- none before k is near
+pub record FoundFrom (ps : List Vector) (q : Vector) (k : ℕ) : Type 0 where
+  pub is : k + find (drop k ps) q ≡ find ps q
+
+module _ {ps : List Vector} {q : Vector} where
+  pub found-none : FoundFrom ps q 0
+  found-none = record { is = omega arith }
+
+  module _ {k : ℕ} (h : k < length ps) (s : FoundFrom ps q k) where
+    at : find (drop k ps) q ≡ elim (near (getD ps k []) q) as (λ _. ℕ) [ true ↦ zero | false ↦ suc (find (drop (suc k) ps) q) ]
+    unfolding find place
+    at = rw (drop-cons ps k [] h)
+
+    pub found-here : near (getD ps k []) q ≡ true → k ≡ find ps q
+    found-here t = sym (add-zero k) ∙ sym (ap (λ (j : ℕ). k + j) (rw t at at)) ∙ s .is
+
+    pub found-on : near (getD ps k []) q ≡ false → FoundFrom ps q (k + 1)
+    found-on t = rw add-one (record { is = let e : find (drop k ps) q ≡ suc (find (drop (suc k) ps) q) = rw t at at in omega (arith, s .is) })
+
+  pub found-end : {k : ℕ} → k ≤ length ps → length ps ≤ k → FoundFrom ps q k → length ps ≡ find ps q
+  unfolding find place
+  found-end {k} g h s =
+      let e : k ≡ length ps = omega arith in
+      sym (add-zero (length ps)) ∙ (rw (e, drop-length) at (s .is))
+
+-- ---- the parts of a slice
+
+-- what a comparison with part k of n tells of point k
+pub near-part : (n d : ℕ) (l q : Vector) (k : ℕ) (p : Vector) → k < n → n * d ≤ length l → p ≡ take d (drop (k * d) l) →
+    near p (take (length p) q) ≡ near (getD (parts n d l) k []) (take d q)
+near-part n d l q k p h f e =
+    let long : length p ≡ d = ap length e ∙ part-long n d l k h f in
+    let same : p ≡ getD (parts n d l) k [] = e ∙ sym (part-at n d l k h) in
+    ap (λ (w : ℕ). near p (take w q)) long ∙ ap (λ (v : Vector). near v (take d q)) same

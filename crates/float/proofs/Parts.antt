@@ -1,0 +1,77 @@
+-- The parts of a list: how many there are, each of them, and what is one more.
+-- Assumes nothing.
+use mathlib.Core.Path.{_≡_, refl, sym, ap, ap₂, _∙_}
+use mathlib.Core.List.{List, [], _∷_, _++_, map}
+use Prim.Native.Nat.{ℕ, zero, suc, _+_, _*_, _≤_, _<_}
+use native.Mathlib.Nat.{zero-add, suc-add, zero-mul, suc-mul, add-comm, mul-le-mul-right}
+use native.Mathlib.Omega.{arith}
+use lib.ListN.{length, getD, take, drop, length-drop}
+use lib.Seq.{ext-getD, take-add, take-nil, take-take, take-at, drop-nil, drop-drop, length-take-le}
+use Rattle.spec.specs.Lists.{join, range}
+use Rattle.spec.specs.Copying.{parts}
+use Rattle.spec.proofs.Lists.{getD-table, length-table}
+
+module _ {A : Type 0} where
+  pub length-parts : (n d : ℕ) (l : List A) → length (parts n d l) ≡ n
+  unfolding parts
+  length-parts zero d l = refl
+  length-parts (suc n) d l = ap suc (length-parts n d (drop d l))
+
+  -- n parts in, k further on
+  further : (n d : ℕ) (l : List A) → drop (n * d) (drop d l) ≡ drop (suc n * d) l
+  further n d l = rw (drop-drop (n * d) d l, suc-mul n d, add-comm (n * d) d)
+
+  pub part-at : (n d : ℕ) (l : List A) (k : ℕ) → k < n → getD (parts n d l) k [] ≡ take d (drop (k * d) l)
+  unfolding parts
+  part-at zero d l k h = absurd (omega arith)
+  part-at (suc n) d l zero h = rw zero-mul
+  part-at (suc n) d l (suc k) h = part-at n d (drop d l) k (omega arith) ∙ ap (take d) (further k d l)
+
+  -- one part more
+  pub parts-more : (n d : ℕ) (l : List A) → parts (suc n) d l ≡ parts n d l ++ (take d (drop (n * d) l) ∷ [])
+  unfolding parts
+  parts-more zero d l = rw zero-mul
+  parts-more (suc n) d l =
+      ap (λ (x : List (List A)). take d l ∷ x) (parts-more n d (drop d l) ∙ ap (λ (x : List A). parts n d (drop d l) ++ (take d x ∷ [])) (further n d l))
+
+  -- one after another they are what they were cut from
+  pub join-parts : (n d : ℕ) (l : List A) → join (parts n d l) ≡ take (n * d) l
+  unfolding parts join
+  join-parts zero d l = rw zero-mul
+  join-parts (suc n) d l = rw (suc-mul n d, add-comm (n * d) d, take-add d (n * d) l) (ap (λ (x : List A). take d l ++ x) (join-parts n d (drop d l)))
+
+  drop-take : (d n : ℕ) (l : List A) → drop d (take (d + n) l) ≡ take n (drop d l)
+  drop-take zero n l = rw zero-add
+  drop-take (suc d) n [] = ap (drop (suc d)) (take-nil (suc d + n)) ∙ drop-nil (suc d) ∙ sym (take-nil n)
+  drop-take (suc d) n (x ∷ l) = rw suc-add (drop-take d n l)
+
+  -- only the cells that are cut count
+  pub parts-take : (n d : ℕ) (l : List A) → parts n d (take (n * d) l) ≡ parts n d l
+  unfolding parts
+  parts-take zero d l = refl
+  parts-take (suc n) d l =
+      let e : suc n * d ≡ d + n * d = suc-mul n d ∙ add-comm (n * d) d in
+      ap₂ (λ (x : List A) (y : List (List A)). x ∷ y)
+      (ap (λ (k : ℕ). take d (take k l)) e ∙ take-take d (d + n * d) l (omega arith))
+      (ap (λ (k : ℕ). parts n d (drop d (take k l))) e ∙ ap (parts n d) (drop-take d (n * d) l) ∙ parts-take n d (drop d l))
+
+  -- the parts, by their numbers
+  pub parts-table : (n d : ℕ) (l : List A) → map (λ i. take d (drop (i * d) l)) (range 0 n) ≡ parts n d l
+  parts-table n d l =
+      let t = length-table (λ i. take d (drop (i * d) l)) n in
+      ext-getD [] _ _ (t ∙ sym (length-parts n d l)) (λ i h. getD-table _ [] n i (rw t at h) ∙ sym (part-at n d l i (rw t at h)))
+
+  pub parts-same : (n d : ℕ) (l m : List A) → take (n * d) l ≡ take (n * d) m → parts n d l ≡ parts n d m
+  parts-same n d l m e = sym (parts-take n d l) ∙ ap (parts n d) e ∙ parts-take n d m
+
+-- the end of part k
+pub part-end : (n d k : ℕ) → k < n → k * d + d ≤ n * d
+part-end n d k h = rw suc-mul at (mul-le-mul-right d h)
+
+-- each part is d long
+pub part-long : {A : Type 0} (n d : ℕ) (l : List A) (k : ℕ) → k < n → n * d ≤ length l → length (take d (drop (k * d) l)) ≡ d
+part-long n d l k h f = length-take-le d (drop (k * d) l) (omega (arith, length-drop (k * d) l, part-end n d k h))
+
+-- a list of d cells that others follow, of which it is the first
+pub first-of : {A : Type 0} (d : ℕ) (p r rest : List A) → length p ≡ d → r ≡ p ++ rest → take d r ≡ p
+first-of d p r rest h e = ap (take d) e ∙ take-at p rest d h

@@ -1,0 +1,71 @@
+// Points in a lent slice, d floats each, and finding one among them: "within EPS, EPS included, of a vertex on every axis (lowest number
+// taken)".
+ghost use mathlib.Core.Path.{_≡_};
+ghost use Prim.Native.Nat.{_+_, _*_, _≤_};
+ghost use lib.ListN.{length, take, drop};
+ghost use Rattle.spec.specs.Limits.{maxDimension};
+ghost use Rattle.spec.specs.Float.{inRange};
+ghost use Rattle.spec.specs.Copying.{near, find, parts};
+use crate::DIMENSION;
+use crate::tolerance;
+use crate::tolerance::Tolerance;
+use crate::vector;
+
+// The largest magnitude of a coordinate or a matrix entry.
+const LARGEST: f64 = 1048576.0;
+
+// Finite and not too large. What is not finite is not at most LARGEST.
+pub fn in_range(x: f64) -> bool
+    ensures { λ r. ⌜ r ≡ inRange x ⌝ }
+{
+    tolerance::magnitude(x) <= LARGEST
+}
+
+// Point v: the part of the slice that holds it.
+pub fn point(points: &[f64], d: usize, v: usize) -> &[f64]
+    requires { ⌜ v * d + d ≤ length (now points) ⌝ }
+    ensures { λ r. ⌜ now r ≡ take d (drop (v * d) (now (points .entry))) ⌝ }
+{
+    let start = v * d;
+    let end = start + d;
+    &points[start..end]
+}
+
+// Point v, in an array.
+pub fn loaded(points: &[f64], d: usize, v: usize) -> [f64; DIMENSION]
+    requires { ⌜ (d ≤ maxDimension) × (v * d + d ≤ length (now points)) ⌝ }
+    ensures { λ r. ⌜ take d r ≡ take d (drop (v * d) (now (points .entry))) ⌝ }
+{
+    vector::load(point(points, d, v))
+}
+
+// Whether q is within EPS of p on every axis.
+pub fn near(p: &[f64], q: [f64; DIMENSION]) -> bool
+    requires { ⌜ length (now p) ≤ maxDimension ⌝ }
+    ensures { λ r. ⌜ r ≡ near (now (p .entry)) (take (length (now (p .entry))) q) ⌝ }
+{
+    let mut i: usize = 0;
+    while i < p.len() {
+        if tolerance::magnitude(p[i] - q[i]) <= Tolerance::EPS {
+            i += 1;
+        } else {
+            return false;
+        }
+    }
+    true
+}
+
+// The lowest of the n points that is near q; n, where none is.
+pub fn find(points: &[f64], d: usize, n: usize, q: [f64; DIMENSION]) -> usize
+    requires { ⌜ (d ≤ maxDimension) × (n * d ≤ length (now points)) ⌝ }
+    ensures { λ r. ⌜ r ≡ find (parts n d (now (points .entry))) (take d q) ⌝ }
+{
+    let mut k: usize = 0;
+    while k < n {
+        if near(point(points, d, k), q) {
+            return k;
+        }
+        k += 1;
+    }
+    n
+}
