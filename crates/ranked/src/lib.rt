@@ -13,7 +13,6 @@ pub struct Shape {
 
 pub mod check;
 pub mod lists;
-pub mod points;
 pub mod preflight;
 pub mod store;
 pub mod vertices;
