@@ -1,0 +1,169 @@
+-- The laws that the loops over flags pass on: going down from the top, and looking for the other element.
+-- Assumes nothing.
+use mathlib.Core.Path.{_≡_, refl, sym, _∙_, ap}
+use mathlib.Core.Bool.{Bool, true, false, not}
+use mathlib.Core.List.{List, [], _∷_, _++_, append-assoc, append-nil}
+use Prim.Native.Nat.{ℕ, zero, suc, _+_, _-_, _*_, _≤_, _<_}
+use native.Mathlib.Numerals.{add-one, sub-one}
+use native.Mathlib.Omega.{arith}
+use native.Mathlib.Decide.{ℕ-discrete}
+use lib.ListN.{length, getD, set, take, drop, replicate, length-set, drop-of-length-le}
+use lib.Seq.{drop-cons, drop-set-lt, take-set-lt, getD-take, getD-set-same}
+use lib.Dec.{eqb}
+use borrow.Author.Tests.{eq-eqb, ne-eqb}
+use Rattle.spec.specs.Lists.{In, holds, keep}
+use Rattle.spec.specs.Types.{size, subs}
+use Rattle.spec.specs.Solid.{between}
+use Rattle.spec.specs.Flags.{IsFlag, elementAt, firstTo, firstFlag, other, change}
+use Rattle.spec.proofs.Lists.{in-getD}
+use Rattle.ranked.specs.declared.Shape.{Shape}
+use Rattle.ranked.specs.Words.{firstAt, sizeAt, listAt, solidIn, Held}
+use Rattle.ranked.specs.Reading.{Lies, subsWord, Each, holding}
+use Rattle.ranked.proofs.Solids.{top-is, size-is, subs-lie, sups-lie, subs-listed, sub-in}
+use Rattle.ranked.proofs.Judged.{down-is}
+
+-- ---- the first flag
+
+-- a list of subs is not empty, and its first is of the rank below
+module _ (sh : Shape) (w : List ℕ) (h : Held sh w) where
+  pub some-sub : (r e : ℕ) → 0 < r → r ≤ sh .rank → e < sizeAt sh r → 0 < length (listAt w (subsWord (firstAt sh r) e))
+  some-sub zero e a b k = absurd (omega arith)
+  some-sub (suc r) e a b k = rw (subs-listed sh w h (suc r) e b k) (h .filled r e (rw (size-is sh w (suc r) b) k))
+
+  first-in : (r e : ℕ) → suc r ≤ sh .rank → e < sizeAt sh (suc r) → getD (subs (solidIn sh w) (suc r) e) 0 0 < sizeAt sh r
+  first-in r e b k =
+      sub-in sh w h r e (getD (subs (solidIn sh w) (suc r) e) 0 0) b
+      (in-getD 0 (subs (solidIn sh w) (suc r) e) 0 (h .filled r e (rw (size-is sh w (suc r) b) k)))
+
+-- the elements above rank r are found, and e is the one at r
+pub record Down (sh : Shape) (w goal els : List ℕ) (r e : ℕ) : Type 0 where
+  pub low : r ≤ sh .rank
+  pub inside : e < sizeAt sh r
+  pub here : getD els r 0 ≡ e
+  pub long : length els ≡ 6
+  pub done : firstTo (solidIn sh w) r e ++ take (sh .rank - r) (drop (suc r) els) ≡ goal
+
+module _ (sh : Shape) (w : List ℕ) (h : Held sh w) where
+  -- nothing stands above the top
+  pub top-down : (els : List ℕ) → getD els (sh .rank) 0 ≡ 0
+      → firstTo (solidIn sh w) (sh .rank) (getD els (sh .rank) 0) ++ take (sh .rank - sh .rank) (drop (suc (sh .rank)) els) ≡ firstFlag (solidIn sh w)
+  unfolding firstFlag
+  top-down els z =
+      let none : sh .rank - sh .rank ≡ 0 = omega arith in
+      rw (none, z) (append-nil (firstTo (solidIn sh w) (sh .rank) 0) ∙ ap (λ (n : ℕ). firstTo (solidIn sh w) n 0) (sym (top-is sh w)))
+
+  pub next-down : (goal els : List ℕ) (r e : ℕ) → Down sh w goal els r e → 0 < r → (f : ℕ) → f ≡ getD (subs (solidIn sh w) r e) 0 0 → Down sh w goal (set els (r - 1) f) (r - 1) f
+  unfolding firstTo
+  next-down goal els zero e d p f q = absurd (omega arith)
+  next-down goal els (suc r) e d p f q =
+      let t = h .tall in
+      let l : r < length els = omega (arith, d .long, d .low) in
+      let l′ : suc r < length els = omega (arith, d .long, d .low) in
+      let n : sh .rank - r ≡ suc (sh .rank - suc r) = omega (arith, d .low) in
+      let step : take (sh .rank - r) (drop (suc r) (set els r f)) ≡ e ∷ take (sh .rank - suc r) (drop (suc (suc r)) els) =
+      rw (drop-set-lt (suc r) els r f (omega arith), drop-cons els (suc r) 0 l′, n, d .here) refl in
+      let e′ : suc r - 1 ≡ r = omega arith in
+      rw e′ (record {
+        low = omega (arith, d .low);
+        inside = rw q (first-in sh w h r e (d .low) (d .inside));
+        here = getD-set-same els r f 0 l;
+        long = length-set els r f ∙ d .long;
+        done =
+            ap (λ (m : List ℕ). firstTo (solidIn sh w) r f ++ m) step
+            ∙ sym (append-assoc (firstTo (solidIn sh w) r f) (e ∷ []) (take (sh .rank - suc r) (drop (suc (suc r)) els)))
+            ∙ ap (λ (x : ℕ). (firstTo (solidIn sh w) r x ++ (e ∷ [])) ++ take (sh .rank - suc r) (drop (suc (suc r)) els)) q
+            ∙ d .done;
+      })
+
+  pub last-down : (goal els : List ℕ) (r e : ℕ) → Down sh w goal els r e → r ≤ 0 → take (suc (sh .rank)) els ≡ goal
+  unfolding firstTo
+  last-down goal [] r e d p = absurd (omega (arith, d .long))
+  last-down goal (x ∷ els) (suc r) e d p = absurd (omega arith)
+  last-down goal (x ∷ els) zero e d p =
+      let q : sh .rank ≡ sh .rank - 0 = omega arith in
+      ap (λ (y : ℕ). y ∷ take (sh .rank) els) (d .here) ∙ ap (λ (n : ℕ). e ∷ take n els) q ∙ d .done
+
+-- ---- the other element
+
+module _ (e : ℕ) (p : ℕ → Bool) where
+  -- k entries in, what is left gives what the whole gives
+  abbrev pub Other : List ℕ → ℕ → Type 0
+  Other l k = other e (keep p (drop k l)) ≡ other e (keep p l)
+
+  other-skip : (x : ℕ) (l : List ℕ) → p x ≡ false → other e (keep p (x ∷ l)) ≡ other e (keep p l)
+  unfolding keep
+  other-skip x l q = rw (q, keep)
+
+  other-same : (x : ℕ) (l : List ℕ) → x ≡ e → other e (keep p (x ∷ l)) ≡ other e (keep p l)
+  unfolding keep other
+  other-same x l q = go (p x) refl
+    where
+      go : (b : Bool) → p x ≡ b → other e (keep p (x ∷ l)) ≡ other e (keep p l)
+      go true z = rw (z, keep, eq-eqb x e q, keep)
+      go false z = rw (z, keep)
+
+  other-here : (x : ℕ) (l : List ℕ) → (x ≡ e → ⊥) → p x ≡ true → other e (keep p (x ∷ l)) ≡ x
+  unfolding keep other
+  other-here x l q z = rw (z, keep, ne-eqb x e q, keep)
+
+  module _ (l : List ℕ) (k : ℕ) (more : k < length l) (inv : Other l k) where
+    pub other-kept : getD l k 0 ≡ e → Other l (k + 1)
+    other-kept q = rw add-one (sym (ap (λ (m : List ℕ). other e (keep p m)) (drop-cons l k 0 more) ∙ other-same _ _ q) ∙ inv)
+
+    pub other-no : p (getD l k 0) ≡ false → Other l (k + 1)
+    other-no q = rw add-one (sym (ap (λ (m : List ℕ). other e (keep p m)) (drop-cons l k 0 more) ∙ other-skip _ _ q) ∙ inv)
+
+    pub other-yes : (getD l k 0 ≡ e → ⊥) → p (getD l k 0) ≡ true → getD l k 0 ≡ other e (keep p l)
+    other-yes n q = sym (ap (λ (m : List ℕ). other e (keep p m)) (drop-cons l k 0 more) ∙ other-here _ _ n q) ∙ inv
+
+  pub other-end : (l : List ℕ) (k : ℕ) → length l ≤ k → Other l k → e ≡ other e (keep p l)
+  unfolding keep other
+  other-end l k h inv = rw (drop-of-length-le l h) at inv
+
+-- ---- a change
+
+module _ (sh : Shape) (w : List ℕ) (h : Held sh w) (els : List ℕ) (r : ℕ) (low : 0 < r) (high : r < sh .rank) (up : getD els (suc r) 0 < sizeAt sh (suc r)) where
+  -- the list of the element above, and of each of its subs
+  pub above-lies : Lies w (subsWord (firstAt sh (suc r)) (getD els (suc r) 0))
+  above-lies = subs-lie sh w h (suc r) (getD els (suc r) 0) high up
+
+  pub at-lies : 4 * firstAt sh r + 2 < length w
+  at-lies = omega (arith, sups-lie sh w h r 0 (omega arith) (omega (arith, h .some r (omega arith))) .head)
+
+  pub each-lies : Each w (subsWord (firstAt sh (suc r)) (getD els (suc r) 0)) (4 * (firstAt sh r + 0))
+  each-lies y m =
+      let q : 4 * (firstAt sh r + 0) + 4 * y ≡ subsWord (firstAt sh r) y = omega arith in
+      rw q (subs-lie sh w h r y (omega arith) (sub-in sh w h r (getD els (suc r) 0) y high (rw (subs-listed sh w h (suc r) (getD els (suc r) 0) high up) at m)))
+
+between-is : (sh : Shape) (w : List ℕ) → Held sh w → (g r x : ℕ) → 0 < r → r < sh .rank → g < sizeAt sh (suc r)
+    → holding w (subsWord (firstAt sh (suc r)) g) (4 * (firstAt sh r + 0)) x ≡ between (solidIn sh w) r g x
+between-is sh w h g zero x a b k = absurd (omega arith)
+between-is sh w h g (suc q) x a b k = let z : 4 * (firstAt sh (suc q) + 0) ≡ 4 * firstAt sh (suc q) = omega arith in rw z (down-is sh w h q b g k x)
+
+pub changed : (sh : Shape) (w : List ℕ) → Held sh w → (els : List ℕ) (r : ℕ) → 0 < r → r < sh .rank → getD els (suc r) 0 < sizeAt sh (suc r)
+    → (e : ℕ) → e ≡ other (getD els r 0) (holding w (subsWord (firstAt sh (suc r)) (getD els (suc r) 0)) (4 * (firstAt sh r + 0)) (getD els (r - 1) 0))
+    → take (suc (sh .rank)) (set els r e) ≡ change (solidIn sh w) r (take (suc (sh .rank)) els)
+unfolding change
+changed sh w h els r a b k e q =
+    let n = suc (sh .rank) in
+    rw (
+      take-set-lt n els r e (omega arith),
+      getD-take n els r 0 (omega arith),
+      getD-take n els (suc r) 0 (omega arith),
+      ← sub-one r,
+      getD-take n els (r - 1) 0 (omega arith),
+      ← between-is sh w h (getD els (suc r) 0) r (getD els (r - 1) 0) a b k,
+      q,
+    ) refl
+
+-- ---- the elements of a flag are the solid's: what a caller of a change has to show
+
+pub flag-in : (sh : Shape) (w : List ℕ) → Held sh w → (els : List ℕ) → IsFlag (solidIn sh w) (take (suc (sh .rank)) els)
+    → (r : ℕ) → r ≤ sh .rank → getD els r 0 < sizeAt sh r
+flag-in sh w h els f r low = rw (← getD-take (suc (sh .rank)) els r 0 (omega arith)) (go (ℕ-discrete r (sh .rank)))
+  where
+    go : Dec (r ≡ sh .rank) → elementAt (take (suc (sh .rank)) els) r < sizeAt sh r
+    go (yes q) =
+        let z : elementAt (take (suc (sh .rank)) els) r ≡ 0 = ap (elementAt (take (suc (sh .rank)) els)) (q ∙ sym (top-is sh w)) ∙ f .peak in
+        omega (arith, z, h .some r low)
+    go (no q) = sub-in sh w h r _ _ (omega arith) (f .chain r (omega (arith, top-is sh w)))

@@ -1,0 +1,112 @@
+// Section 5 of document 01: flags of a solid that lies in lent words (abs/flag.rs): the first, and a change at a rank.
+ghost use mathlib.Core.Path.{_≡_};
+ghost use mathlib.Core.List.{_++_};
+ghost use Prim.Native.Nat.{suc, _+_, _-_, _*_, _≤_, _<_};
+ghost use lib.ListN.{length, getD, take, drop};
+ghost use lib.Dec.{eqb};
+ghost use Rattle.spec.specs.Lists.{place};
+ghost use Rattle.spec.specs.Types.{subs};
+ghost use Rattle.spec.specs.Flags.{firstTo, firstFlag, other, change};
+ghost use Rattle.ranked.specs.Words.{sizeAt, listAt, solidIn, Held};
+ghost use Rattle.ranked.specs.Reading.{Lies, Each, holding};
+ghost use Rattle.flag.specs.Reading.{flagIn};
+use ranked::Shape;
+use ranked::lists;
+
+// "A flag has one element a rank": by rank, from 0 to the solid's R. The cells past R are 0 where a flag is made here, and are not read.
+pub struct Flag {
+    pub elements: [usize; 6],
+}
+
+// The first sub of element e of rank r.
+fn first_sub(w: &[u32], sh: Shape, r: usize, e: usize) -> usize
+    requires { ⌜ Held sh (now w) ⌝ }
+    requires { ⌜ (0 < r) × (r ≤ sh .rank) × (e < sizeAt sh r) ⌝ }
+    ensures { λ f. ⌜ f ≡ getD (subs (solidIn sh (now (w .entry))) r e) 0 0 ⌝ }
+{
+    let first = sh.first;
+    lists::entry_at(w, lists::subs_at(first[r], e), 0)
+}
+
+// The first entry y of the list at word i, but for e, that has x in its list at word base + 4 * y; e where there is none.
+fn other_at(w: &[u32], i: usize, base: usize, x: usize, e: usize) -> usize
+    requires { ⌜ Lies (now w) i ⌝ }
+    requires { ⌜ Each (now w) i base ⌝ }
+    ensures { λ res. ⌜ res ≡ other e (holding (now (w .entry)) i base x) ⌝ }
+{
+    let n = lists::count_at(w, i);
+    let mut k: usize = 0;
+    while k < n {
+        let y = lists::entry_at(w, i, k);
+        k += 1;
+        if y != e {
+            if lists::holds_at(w, base + 4 * y, x) {
+                return y;
+            }
+        }
+    }
+    e
+}
+
+// The elements, with first subs below rank `from`: from the element there down.
+fn down(w: &[u32], sh: Shape, start: [usize; 6], from: usize) -> [usize; 6]
+    requires { ⌜ Held sh (now w) ⌝ }
+    requires { ⌜ (from ≤ sh .rank) × (getD start from 0 < sizeAt sh from) ⌝ }
+    ensures { λ res. ⌜ take (suc (sh .rank)) res ≡ firstTo (solidIn sh (now (w .entry))) from (getD start from 0) ++ take (sh .rank - from) (drop (suc from) start) ⌝ }
+{
+    let mut elements = start;
+    let mut e = start[from];
+    let mut r = from;
+    while 0 < r {
+        e = first_sub(w, sh, r, e);
+        r -= 1;
+        elements[r] = e;
+    }
+    elements
+}
+
+// How many entries of the list at word i stand before x.
+fn place_at(w: &[u32], i: usize, x: usize) -> usize
+    requires { ⌜ Lies (now w) i ⌝ }
+    ensures { λ res. ⌜ res ≡ place eqb x (listAt (now (w .entry)) i) ⌝ }
+{
+    let n = lists::count_at(w, i);
+    let mut k: usize = 0;
+    while k < n {
+        if lists::entry_at(w, i, k) == x {
+            return k;
+        }
+        k += 1;
+    }
+    k
+}
+
+impl Flag {
+    // "`first_flag` takes the first sub at each rank, from the top down."
+    pub fn first(w: &[u32], sh: Shape) -> Flag
+        requires { ⌜ Held sh (now w) ⌝ }
+        ensures { λ res. ⌜ flagIn (sh .rank) res ≡ firstFlag (solidIn sh (now (w .entry))) ⌝ }
+    {
+        let elements = [0usize; 6];
+        let rank = sh.rank;
+        Flag {
+            elements: down(w, sh, elements, rank),
+        }
+    }
+
+    // "A change at r gives the other of the two elements between its neighbours."
+    pub fn change(self, w: &[u32], sh: Shape, r: usize) -> Flag
+        requires { ⌜ Held sh (now w) ⌝ }
+        requires { ⌜ (0 < r) × (r < sh .rank) ⌝ }
+        requires { ⌜ getD (self .elements) (suc r) 0 < sizeAt sh (suc r) ⌝ }
+        ensures { λ res. ⌜ flagIn (sh .rank) res ≡ change (solidIn sh (now (w .entry))) r (flagIn (sh .rank) self) ⌝ }
+    {
+        let first = sh.first;
+        let mut elements = self.elements;
+        let above = lists::subs_at(first[r + 1], elements[r + 1]);
+        let base = lists::subs_at(first[r], 0);
+        let e = other_at(w, above, base, elements[r - 1], elements[r]);
+        elements[r] = e;
+        Flag { elements: elements }
+    }
+}
