@@ -7,3 +7,6 @@ pub mod Noted
 pub mod Scanned
 pub mod Copied
 pub mod States
+pub mod Room
+pub mod Sweeps
+pub mod Tallied

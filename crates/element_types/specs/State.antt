@@ -1,10 +1,11 @@
 -- Section 4's state as it stands in lent words, behind the solid's lists: "a type number for each element".
 -- Assumes nothing.
-use mathlib.Core.List.{List, map}
-use Prim.Native.Nat.{ℕ, suc, _+_, _*_, _^_, _≤_, _<_}
+use mathlib.Core.List.{List, map, reverse}
+use Prim.Native.Nat.{ℕ, suc, _+_, _-_, _*_, _^_, _≤_, _<_}
 use lib.ListN.{length, take, drop}
 use Rattle.spec.specs.Lists.{range, sum}
-use Rattle.spec.specs.Types.{Solid, size, State, Step, at, neighbours}
+use Rattle.spec.specs.Types.{Solid, size, State, Step, up, down, at, neighbours}
+use Rattle.spec.specs.TypeLaws.{Numbered}
 use Rattle.ranked.specs.declared.Shape.{Shape}
 use Rattle.ranked.specs.Words.{firstAt, sizeAt, total, solidIn, Held}
 
@@ -31,3 +32,22 @@ pub record Steppable (sh : Shape) (low : ℕ) (w : List ℕ) (x : Step) : Type 0
   pub room : needed sh low w x ≤ length w
   -- a word can hold the number of any of them
   pub small : needed sh low w x < 2 ^ 32
+
+-- any step at a proper rank can be done
+pub record Sweepable (sh : Shape) (low : ℕ) (w : List ℕ) : Type 0 where
+  pub held : Held sh (take low w)
+  pub room : (x : Step) → 1 ≤ at x → at x < sh .rank → needed sh low w x ≤ length w
+  pub small : (x : Step) → 1 ≤ at x → at x < sh .rank → needed sh low w x < 2 ^ 32
+
+-- the ups of a sweep at ranks r to R − 1, and the downs at ranks r − 1 to 1
+unfoldable pub ups : ℕ → ℕ → List Step
+ups r R = map up (range r (R - r))
+
+unfoldable pub downs : ℕ → List Step
+downs r = map down (reverse (range 1 (r - 1)))
+
+-- the types of each proper rank are numbered "from 0 in each rank by first appearance"
+pub record Countable (sh : Shape) (low : ℕ) (w : List ℕ) : Type 0 where
+  pub held : Held sh (take low w)
+  pub room : low + total sh ≤ length w
+  pub numbered : (r : ℕ) → 1 ≤ r → r < sh .rank → Numbered (solidIn sh (take low w)) (stateIn sh low w) r

@@ -1,0 +1,107 @@
+-- The steps of a sweep, one after another.
+-- Assumes nothing.
+use mathlib.Core.Path.{_≡_, refl, sym, _∙_, ap}
+use mathlib.Core.List.{List, [], _∷_, _++_, map, reverse, reverse-append}
+use Prim.Native.Nat.{ℕ, zero, suc, _+_, _-_, _≤_, _<_}
+use native.Mathlib.Numerals.{add-one}
+use native.Mathlib.Omega.{arith}
+use lib.ListN.{length, take}
+use Rattle.spec.specs.Lists.{range}
+use Rattle.spec.specs.Types.{Solid, properRanks, State, Step, up, down, at, step, play, sweepSteps, sweep}
+use Rattle.ranked.specs.declared.Shape.{Shape}
+use Rattle.ranked.specs.Words.{solidIn}
+use Rattle.ranked.proofs.Solids.{top-is}
+use Rattle.element_types.specs.State.{stateIn, needed, Steppable, Sweepable, ups, downs}
+
+-- ---- lists of steps
+
+play-append : (s : Solid) (S : State) (xs ys : List Step) → play s S (xs ++ ys) ≡ play s (play s S xs) ys
+unfolding play
+play-append s S [] ys = refl
+play-append s S (x ∷ xs) ys = play-append s (step s S x) xs ys
+
+range-snoc : (n a : ℕ) → range a (suc n) ≡ range a n ++ (a + n) ∷ []
+unfolding range
+range-snoc zero a = let e : a + 0 ≡ a = omega arith in rw e refl
+range-snoc (suc n) a = let e : a + suc n ≡ suc a + n = omega arith in rw e (ap (λ (l : List ℕ). a ∷ l) (range-snoc n (suc a)))
+
+pub ups-next : (r R : ℕ) → r < R → ups r R ≡ up r ∷ ups (r + 1) R
+unfolding ups range
+ups-next r R h = let e : R - r ≡ suc (R - suc r) = omega arith in rw (e, add-one r) refl
+
+pub ups-end : (r R : ℕ) → R ≤ r → ups r R ≡ []
+unfolding ups range
+ups-end r R h = let e : R - r ≡ 0 = omega arith in rw e refl
+
+pub downs-next : (r : ℕ) → 1 < r → downs r ≡ down (r - 1) ∷ downs (r - 1)
+unfolding downs
+downs-next zero h = absurd (omega arith)
+downs-next (suc zero) h = absurd (omega arith)
+downs-next (suc (suc q)) h =
+    let a : suc (suc q) - 1 ≡ suc q = omega arith in
+    let b : suc q - 1 ≡ q = omega arith in
+    let c : 1 + q ≡ suc q = omega arith in
+    rw (a, b) (ap (λ (l : List ℕ). map down (reverse l)) (rw c at (range-snoc q 1)) ∙ ap (map down) (reverse-append (range 1 q) (suc q ∷ [])))
+
+pub downs-end : (r : ℕ) → r ≤ 1 → downs r ≡ []
+unfolding downs range
+downs-end r h = let e : r - 1 ≡ 0 = omega arith in rw e refl
+
+-- "up at 1 to R−1, then down at R−1 to 1"
+steps-are : (sh : Shape) (l : List ℕ) → sweepSteps (solidIn sh l) ≡ ups 1 (sh .rank) ++ downs (sh .rank)
+unfolding sweepSteps properRanks ups downs
+steps-are sh l = ap (λ (n : ℕ). map up (range 1 (n - 1)) ++ map down (reverse (range 1 (n - 1)))) (top-is sh l)
+
+-- ---- in the words
+
+-- v's lists are w's, and what steps xs make of v's state, steps ys make of w's
+pub record Swept (sh : Shape) (low : ℕ) (w v : List ℕ) (xs ys : List Step) : Type 0 where
+  pub long : length v ≡ length w
+  pub kept : take low v ≡ take low w
+  pub state : play (solidIn sh (take low w)) (stateIn sh low v) xs ≡ play (solidIn sh (take low w)) (stateIn sh low w) ys
+
+pub swept-first : (sh : Shape) (low : ℕ) (w : List ℕ) (xs : List Step) → Swept sh low w w xs xs
+swept-first sh low w xs = record { long = refl; kept = refl; state = refl }
+
+-- the lists and the length are all that a step asks of the words
+pub sweepable-kept : (sh : Shape) (low : ℕ) (w v : List ℕ) → length v ≡ length w → take low v ≡ take low w → Sweepable sh low w → Sweepable sh low v
+unfolding needed
+sweepable-kept sh low w v e k a = record {
+  held = rw k (a .held);
+  room = λ x b c. rw (k, e) (a .room x b c);
+  small = λ x b c. rw k (a .small x b c);
+}
+
+pub steppable : (sh : Shape) (low : ℕ) (w : List ℕ) → Sweepable sh low w → (x : Step) → 1 ≤ at x → at x < sh .rank → Steppable sh low w x
+steppable sh low w a x b c = record { held = a .held; above = b; under = c; room = a .room x b c; small = a .small x b c }
+
+module _ (sh : Shape) (low : ℕ) (w v : List ℕ) (xs ys : List Step) (i : Swept sh low w v xs ys) where
+  -- any step can be done
+  pub swept-ready : Sweepable sh low w → (x : Step) → 1 ≤ at x → at x < sh .rank → Steppable sh low v x
+  swept-ready a = steppable sh low v (sweepable-kept sh low w v (i .long) (i .kept) a)
+
+  -- the first of those left leaves the others
+  pub swept-next : (x : Step) (zs : List Step) → xs ≡ x ∷ zs → (u : List ℕ) → length u ≡ length v → take low u ≡ take low v
+      → stateIn sh low u ≡ step (solidIn sh (take low v)) (stateIn sh low v) x → Swept sh low w u zs ys
+  unfolding play
+  swept-next x zs e u long kept state = record {
+    long = long ∙ i .long;
+    kept = kept ∙ i .kept;
+    state = ap (λ (S : State). play (solidIn sh (take low w)) S zs) (rw (i .kept) at state) ∙ (rw e at (i .state));
+  }
+
+  pub swept-end : xs ≡ [] → (take low v ≡ take low w) × (stateIn sh low v ≡ play (solidIn sh (take low w)) (stateIn sh low w) ys)
+  unfolding play
+  swept-end e = (i .kept, rw e at (i .state))
+
+-- ups and then downs
+pub both : (sh : Shape) (low : ℕ) (w v : List ℕ) → take low v ≡ take low w → stateIn sh low v ≡ play (solidIn sh (take low w)) (stateIn sh low w) (ups 1 (sh .rank))
+    → (u : List ℕ) → take low u ≡ take low v → stateIn sh low u ≡ play (solidIn sh (take low v)) (stateIn sh low v) (downs (sh .rank))
+    → (take low u ≡ take low w) × (stateIn sh low u ≡ sweep (solidIn sh (take low w)) (stateIn sh low w))
+unfolding sweep
+both sh low w v k e u k′ e′ = (
+  k′ ∙ k,
+  (rw k at e′) ∙ ap (λ (S : State). play (solidIn sh (take low w)) S (downs (sh .rank))) e
+      ∙ sym (play-append (solidIn sh (take low w)) (stateIn sh low w) (ups 1 (sh .rank)) (downs (sh .rank)))
+      ∙ ap (play (solidIn sh (take low w)) (stateIn sh low w)) (sym (steps-are sh (take low w))),
+)

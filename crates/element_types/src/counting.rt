@@ -1,0 +1,46 @@
+// "the number of types", over the proper ranks.
+use ranked::Shape;
+use ranked::lists::get;
+ghost use mathlib.Core.Path.{_≡_};
+ghost use Prim.Native.Nat.{_+_, _≤_};
+ghost use lib.ListN.{length, take, drop};
+ghost use lib.Dec.{eqb};
+ghost use Rattle.spec.specs.Lists.{distinct, range};
+ghost use Rattle.spec.specs.Types.{typeCount};
+ghost use Rattle.ranked.specs.Words.{solidIn};
+ghost use Rattle.element_types.specs.State.{stateIn, Countable};
+
+// How many types the n elements have whose types stand from word `from`, numbered from 0 by first appearance: one more than the greatest number.
+fn types_in(words: &[u32], from: usize, n: usize) -> usize
+    requires { ⌜ from + n ≤ length (now words) ⌝ }
+    requires { ⌜ distinct eqb (take n (drop from (now words))) ≡ range 0 (length (distinct eqb (take n (drop from (now words))))) ⌝ }
+    ensures { λ k. ⌜ k ≡ length (distinct eqb (take n (drop from (now (words .entry))))) ⌝ }
+{
+    let mut m: usize = 0;
+    let mut e: usize = 0;
+    while e < n {
+        let t = get(words, from + e);
+        e += 1;
+        if m <= t {
+            m = t + 1;
+        }
+    }
+    m
+}
+
+pub fn type_count(words: &[u32], low: usize, sh: Shape) -> usize
+    requires { ⌜ Countable sh low (now words) ⌝ }
+    ensures { λ n. ⌜ n ≡ typeCount (solidIn sh (take low (now (words .entry)))) (stateIn sh low (now (words .entry))) ⌝ }
+{
+    let rank = sh.rank;
+    let mut n: usize = 0;
+    let mut r: usize = 1;
+    while r < rank {
+        let first = sh.first[r];
+        let next = sh.first[r + 1];
+        let k = types_in(words, low + first, next - first);
+        n += k;
+        r += 1;
+    }
+    n
+}
