@@ -4,3 +4,4 @@ pub mod Marks
 pub mod Derive
 pub mod Store
 pub mod Preflight
+pub mod Bench
