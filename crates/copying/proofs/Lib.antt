@@ -1,7 +1,6 @@
 pub mod Squares
 pub mod Scan
 pub mod Growth
-pub mod Tails
 pub mod Tables
 pub mod Judgements
 pub mod Outcome

@@ -18,7 +18,7 @@ use Rattle.spec.specs.Copying.{find, copyRow, copyTable, written}
 use Rattle.spec.proofs.Lists.{getD-map}
 use Rattle.spec.proofs.CopyLaws.{Wide, wide-join}
 use Rattle.float.proofs.Parts.{part-end}
-use Rattle.copying.proofs.Tails.{tail-is, tail-back, tail-written}
+use Rattle.float.proofs.Tails.{tail-is, tail-back, tail-written}
 use Rattle.copying.specs.Post.{Closed, Opened}
 
 -- ---- a number in a list

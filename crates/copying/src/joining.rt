@@ -24,32 +24,6 @@ pub enum Room {
     Full,
 }
 
-// Matrix j of those that stand row by row in the slice.
-pub fn matrix_at(turns: &[f64], d: usize, j: usize) -> [[f64; DIMENSION]; DIMENSION]
-    requires { ⌜ (d ≤ maxDimension) × (j * (d * d) + d * d ≤ length (now turns)) ⌝ }
-    ensures { λ r. ⌜ corner d r ≡ parts d d (take (d * d) (drop (j * (d * d)) (now (turns .entry)))) ⌝ }
-{
-    let mut m = [[0.0; DIMENSION]; DIMENSION];
-    let mut i: usize = 0;
-    while i < d {
-        m[i] = points::loaded(turns, d, j * d + i);
-        i += 1;
-    }
-    m
-}
-
-// The first d floats of q, from the first cell on.
-fn put(out: &mut [f64], q: [f64; DIMENSION], d: usize)
-    requires { ⌜ (d ≤ maxDimension) × (d ≤ length (now out)) ⌝ }
-    ensures { λ _. ⌜ now (out .exit) ≡ written (take d q) (now (out .entry)) ⌝ }
-{
-    let mut i: usize = 0;
-    while i < d {
-        out[i] = q[i];
-        i += 1;
-    }
-}
-
 // One image: it joins after the n copies, unless it is found among them or there is no room.
 fn add(out: &mut [f64], d: usize, n: usize, limit: usize, q: [f64; DIMENSION]) -> Added
     requires { ⌜ (d ≤ maxDimension) × (n ≤ limit) × (limit * d ≤ length (now out)) ⌝ }
@@ -60,7 +34,7 @@ fn add(out: &mut [f64], d: usize, n: usize, limit: usize, q: [f64; DIMENSION]) -
     }
     if n < limit {
         let end = n * d;
-        put(&mut out[end..], q, d);
+        points::put(&mut out[end..], q, d);
         return Added::Joined;
     }
     Added::Full
@@ -82,7 +56,7 @@ fn spread(
     let mut held = n;
     let mut j: usize = 0;
     while j < count {
-        let q = matrix::image(matrix_at(turns, d, j), p, d);
+        let q = matrix::image(points::matrix_at(turns, d, j), p, d);
         match add(out, d, held, limit, q) {
             Added::Found => {}
             Added::Joined => {

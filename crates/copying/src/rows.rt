@@ -6,7 +6,6 @@ ghost use Rattle.spec.specs.Limits.{maxDimension, maxCount};
 ghost use Rattle.spec.specs.Copying.{parts, matrices, copyRow, copyTable, written};
 ghost use Rattle.float.specs.Reading.{corner};
 ghost use Rattle.copying.specs.Post.{Tabled};
-use crate::joining;
 use float::DIMENSION;
 use float::matrix;
 use float::points;
@@ -47,7 +46,7 @@ pub fn write(copies: &[f64], d: usize, n: usize, turns: &[f64], out: &mut [u16])
     let mut j: usize = 0;
     while j < count {
         let at = j * n;
-        let m = joining::matrix_at(turns, d, j);
+        let m = points::matrix_at(turns, d, j);
         if row(copies, d, n, m, &mut out[at..]) {
             j += 1;
         } else {

@@ -2,3 +2,4 @@ pub mod Grown
 pub mod Elements
 pub mod Ranks
 pub mod Room
+pub mod ClassCells

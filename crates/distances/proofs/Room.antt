@@ -14,7 +14,7 @@ use Rattle.distances.specs.Solids.{vertexCount, coordinates, proper}
 use Rattle.distances.proofs.Ranks.{in-order}
 
 module _ (sh : Shape) (w : List ℕ) (h : Held sh w) where
-  sizes-sum : (a n : ℕ) → a + n ≤ suc (sh .rank) → sum (map (λ r. size (solidIn sh w) r) (range a n)) ≡ firstAt sh (a + n) - firstAt sh a
+  pub sizes-sum : (a n : ℕ) → a + n ≤ suc (sh .rank) → sum (map (λ r. size (solidIn sh w) r) (range a n)) ≡ firstAt sh (a + n) - firstAt sh a
   unfolding sum range
   sizes-sum a zero k = rw (add-zero a) (omega arith)
   sizes-sum a (suc n) k =

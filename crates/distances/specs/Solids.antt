@@ -1,9 +1,10 @@
 -- The solid that stands in lent words and lent floats, and how many of its elements are proper.
 -- Assumes nothing.
 use Prim.Native.Nat.{ℕ, _-_, _*_}
-use mathlib.Core.List.{List}
+use mathlib.Core.List.{List, map}
 use lib.Ieee.{Float}
-use Rattle.spec.specs.Types.{size}
+use Rattle.spec.specs.Lists.{range, sum}
+use Rattle.spec.specs.Types.{Solid, size}
 use Rattle.spec.specs.Copying.{parts}
 use Rattle.spec.specs.Solid.{Concrete}
 use Rattle.ranked.specs.declared.Shape.{Shape}
@@ -28,3 +29,7 @@ proper sh = firstAt sh (sh .rank) - firstAt sh 1
 -- how many proper elements lie below rank r
 abbrev pub before : Shape → ℕ → ℕ
 before sh r = firstAt sh r - firstAt sh 1
+
+-- the same, of a solid that stands nowhere
+unfoldable pub beforeIn : Solid → ℕ → ℕ
+beforeIn s r = sum (map (λ k. size s k) (range 1 (r - 1)))

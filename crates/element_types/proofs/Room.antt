@@ -158,7 +158,7 @@ module _ (sh : Shape) (l : List ℕ) (h : Held sh l) where
 
   -- ---- the limits
 
-  elements-few : E ≤ 8192
+  pub elements-few : E ≤ 8192
   unfolding elements properRanks
   elements-few =
       let p = sum-under (λ q. size s q) maxCount (range 1 (top s - 1)) (λ r m. size-few r (omega (arith, of-range 1 (top s - 1) r m, top-is sh l))) in

@@ -1,23 +1,22 @@
 -- A step to the next flag, as the loop over ranks makes it.
 -- Assumes nothing.
-use mathlib.Core.Path.{_≡_, refl, sym, _∙_, ap, subst}
+use mathlib.Core.Path.{_≡_, sym, _∙_, ap, subst}
 use mathlib.Core.Logic.{inl, inr}
-use mathlib.Core.Bool.{Bool, true, false}
 use mathlib.Core.List.{List, [], _∷_, _++_, append-assoc, append-nil}
 use Prim.Native.Nat.{ℕ, zero, suc, _+_, _-_, _≤_, _<_}
 use native.Mathlib.Numerals.{add-one}
 use native.Mathlib.Nat.{add-zero}
 use native.Mathlib.Omega.{arith}
 use native.Mathlib.Decide.{ℕ-discrete}
-use lib.ListN.{length, getD, take, drop, length-drop, drop-of-length-le}
-use lib.Seq.{take-suc, drop-cons, getD-take, getD-drop}
+use lib.ListN.{length, getD, take, drop, drop-of-length-le}
+use lib.Seq.{take-suc, drop-cons}
 use lib.Dec.{eqb}
 use borrow.Author.Tests.{eq-eqb, ne-eqb}
 use Rattle.spec.specs.Lists.{In, place}
 use Rattle.spec.specs.Types.{Solid, top, size, subs}
 use Rattle.spec.specs.Demand.{Sound}
-use Rattle.spec.specs.Flags.{Flag, IsFlag, elementAt, firstTo, flagsTo, flags}
-use Rattle.flag.proofs.Order.{Last, After, Starts, starts-to, after-up, last-up, cross-up}
+use Rattle.spec.specs.Flags.{Flag, firstTo, flagsTo}
+use Rattle.flag.proofs.Order.{Last, After, starts-to, after-up, last-up, cross-up}
 
 -- ---- where x stands in a list
 
@@ -42,6 +41,15 @@ module _ (x : ℕ) where
   pub place-end : (l : List ℕ) (k : ℕ) → length l ≤ k → Place l k → k ≡ place eqb x l
   unfolding place
   place-end l k h inv = let q : k + 0 ≡ place eqb x l = rw (drop-of-length-le l h) at inv in omega arith
+
+  pub place-in : (l : List ℕ) → place eqb x l ≤ length l
+  unfolding place
+  place-in [] = omega arith
+  place-in (y ∷ l) = go (ℕ-discrete y x) (place-in l)
+    where
+      go : Dec (y ≡ x) → place eqb x l ≤ length l → place eqb x (y ∷ l) ≤ suc (length l)
+      go (yes e) n = omega (arith, place-here y l e)
+      go (no e) n = omega (arith, place-past y l e)
 
   pub split : (l : List ℕ) → In x l → l ≡ take (place eqb x l) l ++ (x ∷ drop (suc (place eqb x l)) l)
   split [] m = absurd m

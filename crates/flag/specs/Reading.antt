@@ -1,10 +1,37 @@
 -- How a flag by value is read: one element a rank, from 0 to R.
 -- Assumes nothing.
-use Prim.Native.Nat.{ℕ, suc}
-use lib.ListN.{take}
+use mathlib.Core.Path.{_≡_}
+use mathlib.Core.Bool.{Bool, true, false}
+use mathlib.Core.List.{List, [], _++_}
+use Prim.Native.Nat.{ℕ, suc, _-_, _≤_, _<_}
+use lib.ListN.{length, getD, take, drop}
+use lib.Dec.{eqb}
+use Rattle.spec.specs.Lists.{place}
+use Rattle.spec.specs.Types.{Solid, subs}
 use Rattle.spec.specs.Flags as flags
 use Rattle.flag.specs.declared.Flag.{Flag}
 
 -- the cells past R are not read
 abbrev pub flagIn : ℕ → Flag → flags.Flag
 flagIn R f = take (suc R) (f .elements)
+
+-- what comes after F in `flags`: G if there is more, and otherwise F is the last
+pub record Follows (s : Solid) (F : flags.Flag) (more : Bool) (G : flags.Flag) : Type 0 where
+  pub next : more ≡ true → (i : ℕ) → i < length (flags.flags s) → F ≡ getD (flags.flags s) i []
+      → (suc i < length (flags.flags s)) × (G ≡ getD (flags.flags s) (suc i) [])
+  pub end : more ≡ false → (i : ℕ) → i < length (flags.flags s) → F ≡ getD (flags.flags s) i [] → suc i ≡ length (flags.flags s)
+
+-- F is flag i: what a loop over the flags knows of its flag
+pub record Nth (s : Solid) (F : flags.Flag) (i : ℕ) : Type 0 where
+  pub low : i < length (flags.flags s)
+  pub is : F ≡ getD (flags.flags s) i []
+
+-- the number, among the subs of the element above it, of the sub after the element at r
+abbrev pub nextPlace : Solid → List ℕ → ℕ → ℕ
+nextPlace s els r = suc (place eqb (getD els r 0) (subs s (suc r) (getD els (suc r) 0)))
+
+-- the element at r moves on to the next sub, and below it first subs are taken; or it is the last sub
+pub record Moved (s : Solid) (R : ℕ) (els : List ℕ) (r : ℕ) (more : Bool) (new : List ℕ) : Type 0 where
+  pub next : more ≡ true → (nextPlace s els r < length (subs s (suc r) (getD els (suc r) 0)))
+      × (take (suc R) new ≡ flags.firstTo s r (getD (subs s (suc r) (getD els (suc r) 0)) (nextPlace s els r) 0) ++ take (R - r) (drop (suc r) els))
+  pub end : more ≡ false → length (subs s (suc r) (getD els (suc r) 0)) ≤ nextPlace s els r

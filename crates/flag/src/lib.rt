@@ -1,21 +1,27 @@
-// Section 5 of document 01: flags of a solid that lies in lent words (abs/flag.rs): the first, and a change at a rank.
+// Section 5 of document 01: flags of a solid that lies in lent words (abs/flag.rs): the first, the one after a flag, and a change at a rank.
 ghost use mathlib.Core.Path.{_≡_};
 ghost use mathlib.Core.List.{_++_};
 ghost use Prim.Native.Nat.{suc, _+_, _-_, _*_, _≤_, _<_};
-ghost use lib.ListN.{length, getD, take, drop};
+ghost use lib.ListN.{getD, take, drop};
 ghost use lib.Dec.{eqb};
 ghost use Rattle.spec.specs.Lists.{place};
 ghost use Rattle.spec.specs.Types.{subs};
-ghost use Rattle.spec.specs.Flags.{firstTo, firstFlag, other, change};
+ghost use Rattle.spec.specs.Flags.{IsFlag, firstTo, firstFlag, other, change};
 ghost use Rattle.ranked.specs.Words.{sizeAt, listAt, solidIn, Held};
 ghost use Rattle.ranked.specs.Reading.{Lies, Each, holding};
-ghost use Rattle.flag.specs.Reading.{flagIn};
+ghost use Rattle.flag.specs.Reading.{flagIn, Follows, Moved};
 use ranked::Shape;
 use ranked::lists;
 
 // "A flag has one element a rank": by rank, from 0 to the solid's R. The cells past R are 0 where a flag is made here, and are not read.
 pub struct Flag {
     pub elements: [usize; 6],
+}
+
+// The flag after one, if there is more.
+pub struct Next {
+    pub more: bool,
+    pub flag: Flag,
 }
 
 // The first sub of element e of rank r.
@@ -81,6 +87,31 @@ fn place_at(w: &[u32], i: usize, x: usize) -> usize
     k
 }
 
+// The element at r moved on to the next sub of the one above, with first subs below it; no more if it is the last sub.
+fn moved_at(w: &[u32], sh: Shape, elements: [usize; 6], r: usize) -> Next
+    requires { ⌜ Held sh (now w) ⌝ }
+    requires { ⌜ (r < sh .rank) × (getD elements (suc r) 0 < sizeAt sh (suc r)) ⌝ }
+    ensures { λ res. ⌜ Moved (solidIn sh (now (w .entry))) (sh .rank) elements r (res .more) (res .flag .elements) ⌝ }
+{
+    let first = sh.first;
+    let i = lists::subs_at(first[r + 1], elements[r + 1]);
+    let n = lists::count_at(w, i);
+    let k = place_at(w, i, elements[r]);
+    if k + 1 < n {
+        let mut moved = elements;
+        moved[r] = lists::entry_at(w, i, k + 1);
+        let lower = down(w, sh, moved, r);
+        return Next {
+            more: true,
+            flag: Flag { elements: lower },
+        };
+    }
+    Next {
+        more: false,
+        flag: Flag { elements: elements },
+    }
+}
+
 impl Flag {
     // "`first_flag` takes the first sub at each rank, from the top down."
     pub fn first(w: &[u32], sh: Shape) -> Flag
@@ -108,5 +139,27 @@ impl Flag {
         let e = other_at(w, above, base, elements[r - 1], elements[r]);
         elements[r] = e;
         Flag { elements: elements }
+    }
+
+    // "The iterator gives every flag once, the sub at rank 1 moving fastest": the flag after this one.
+    pub fn next(self, w: &[u32], sh: Shape) -> Next
+        requires { ⌜ Held sh (now w) ⌝ }
+        requires { ⌜ IsFlag (solidIn sh (now w)) (flagIn (sh .rank) self) ⌝ }
+        ensures { λ res. ⌜ Follows (solidIn sh (now (w .entry))) (flagIn (sh .rank) self) (res .more) (flagIn (sh .rank) (res .flag)) ⌝ }
+    {
+        let elements = self.elements;
+        let rank = sh.rank;
+        let mut r: usize = 0;
+        while r < rank {
+            let t = moved_at(w, sh, elements, r);
+            if t.more {
+                return t;
+            }
+            r += 1;
+        }
+        Next {
+            more: false,
+            flag: Flag { elements: elements },
+        }
     }
 }

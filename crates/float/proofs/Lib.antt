@@ -10,3 +10,4 @@ pub mod Columns
 pub mod Inverses
 pub mod Parts
 pub mod Nearness
+pub mod Tails

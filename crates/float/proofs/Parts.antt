@@ -3,7 +3,7 @@
 use mathlib.Core.Path.{_≡_, refl, sym, ap, ap₂, _∙_}
 use mathlib.Core.List.{List, [], _∷_, _++_, map}
 use Prim.Native.Nat.{ℕ, zero, suc, _+_, _*_, _≤_, _<_}
-use native.Mathlib.Nat.{zero-add, suc-add, zero-mul, suc-mul, add-comm, mul-le-mul-right}
+use native.Mathlib.Nat.{zero-add, suc-add, zero-mul, suc-mul, add-comm, add-mul, mul-assoc, mul-le-mul-left, mul-le-mul-right, le-mul-of-pos-right}
 use native.Mathlib.Omega.{arith}
 use lib.ListN.{length, getD, take, drop, length-drop}
 use lib.Seq.{ext-getD, take-add, take-nil, take-take, take-at, drop-nil, drop-drop, length-take-le}
@@ -75,3 +75,15 @@ part-long n d l k h f = length-take-le d (drop (k * d) l) (omega (arith, length-
 -- a list of d cells that others follow, of which it is the first
 pub first-of : {A : Type 0} (d : ℕ) (p r rest : List A) → length p ≡ d → r ≡ p ++ rest → take d r ≡ p
 first-of d p r rest h e = ap (take d) e ∙ take-at p rest d h
+
+-- ---- matrices that stand row by row, d times d floats each
+
+-- row i of matrix j
+pub row-place : (d j i : ℕ) → (j * d + i) * d ≡ j * (d * d) + i * d
+row-place d j i = add-mul (j * d) i d ∙ ap (λ (k : ℕ). k + i * d) (mul-assoc j d d)
+
+pub row-fits : (d j i : ℕ) → i < d → (j * d + i) * d + d ≤ j * (d * d) + d * d
+row-fits d j i h = omega (arith, row-place d j i, part-end d d i h)
+
+pub first-fits : (d j i : ℕ) → i < d → j * d + i ≤ j * (d * d) + d * d
+first-fits d j i h = omega (arith, mul-le-mul-left j (le-mul-of-pos-right {m = d} d (omega arith)), le-mul-of-pos-right {m = d} d (omega arith))

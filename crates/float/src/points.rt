@@ -5,7 +5,8 @@ ghost use Prim.Native.Nat.{_+_, _*_, _≤_};
 ghost use lib.ListN.{length, take, drop};
 ghost use Rattle.spec.specs.Limits.{maxDimension};
 ghost use Rattle.spec.specs.Float.{inRange};
-ghost use Rattle.spec.specs.Copying.{near, find, parts};
+ghost use Rattle.spec.specs.Copying.{near, find, parts, written};
+ghost use Rattle.float.specs.Reading.{corner};
 use crate::DIMENSION;
 use crate::tolerance;
 use crate::tolerance::Tolerance;
@@ -39,6 +40,20 @@ pub fn loaded(points: &[f64], d: usize, v: usize) -> [f64; DIMENSION]
     vector::load(point(points, d, v))
 }
 
+// Matrix j of those that stand row by row in the slice.
+pub fn matrix_at(matrices: &[f64], d: usize, j: usize) -> [[f64; DIMENSION]; DIMENSION]
+    requires { ⌜ (d ≤ maxDimension) × (j * (d * d) + d * d ≤ length (now matrices)) ⌝ }
+    ensures { λ r. ⌜ corner d r ≡ parts d d (take (d * d) (drop (j * (d * d)) (now (matrices .entry)))) ⌝ }
+{
+    let mut m = [[0.0; DIMENSION]; DIMENSION];
+    let mut i: usize = 0;
+    while i < d {
+        m[i] = loaded(matrices, d, j * d + i);
+        i += 1;
+    }
+    m
+}
+
 // Whether q is within EPS of p on every axis.
 pub fn near(p: &[f64], q: [f64; DIMENSION]) -> bool
     requires { ⌜ length (now p) ≤ maxDimension ⌝ }
@@ -68,4 +83,16 @@ pub fn find(points: &[f64], d: usize, n: usize, q: [f64; DIMENSION]) -> usize
         k += 1;
     }
     n
+}
+
+// The first d floats of q, from the first cell on.
+pub fn put(out: &mut [f64], q: [f64; DIMENSION], d: usize)
+    requires { ⌜ (d ≤ maxDimension) × (d ≤ length (now out)) ⌝ }
+    ensures { λ _. ⌜ now (out .exit) ≡ written (take d q) (now (out .entry)) ⌝ }
+{
+    let mut i: usize = 0;
+    while i < d {
+        out[i] = q[i];
+        i += 1;
+    }
 }

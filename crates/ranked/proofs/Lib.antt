@@ -4,3 +4,5 @@ pub mod Parts
 pub mod Between
 pub mod Judged
 pub mod Walked
+pub mod Entries
+pub mod Benches

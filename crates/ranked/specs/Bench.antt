@@ -11,19 +11,16 @@ use Rattle.spec.specs.Types.{size, elements}
 use Rattle.spec.specs.Copying.{parts}
 use Rattle.spec.specs.Solid.{Concrete, entries, bound, diamond}
 use Rattle.ranked.specs.declared.Shape.{Shape}
-use Rattle.ranked.specs.Words.{total, solidIn, Held}
+use Rattle.ranked.specs.Words.{solidIn, Held}
 use Rattle.ranked.specs.Derive.{Stored}
-use Rattle.ranked.specs.Store.{subEntries, lowOf}
+use Rattle.ranked.specs.Store.{lowOf}
+unfoldable pub use Rattle.ranked.specs.Store.{baseOf}
 
 -- the solid that lies in the first `low` words, with the coordinates that the floats start with
 abbrev pub solidAt : Shape → ℕ → List ℕ → List Float → Concrete
 solidAt sh low ws fs =
     let s = solidIn sh (take low ws) in
     record { dimension = sh .dimension; points = parts (size s 1) (sh .dimension) (take (size s 1 * sh .dimension) fs); abs = s }
-
--- where the sups' entries start: after the starts and lengths, and the subs' entries
-unfoldable pub baseOf : Shape → ℕ → ℕ
-baseOf sh I = 4 * total sh + subEntries sh I
 
 pub record Bench (sh : Shape) (low : ℕ) (ws : List ℕ) (fs : List Float) : Type 0 where
   pub held : Held sh (take low ws)
@@ -38,3 +35,7 @@ pub record Bench (sh : Shape) (low : ℕ) (ws : List ℕ) (fs : List Float) : Ty
   -- not 7
   pub words : 16 * (elements (solidIn sh (take low ws)) + entries (solidIn sh (take low ws)) + 4) ≤ length ws
   pub floats : 8 * (elements (solidIn sh (take low ws)) + 8) ≤ length fs
+
+-- the words' part of a bench: with floats enough it is one
+abbrev pub Laid : Shape → ℕ → List ℕ → Type 0
+Laid sh low ws = (fs : List Float) → 8 * (elements (solidIn sh (take low ws)) + 8) ≤ length fs → Bench sh low ws fs

@@ -3,5 +3,5 @@ pub mod Reading
 pub mod Marks
 pub mod Derive
 pub mod Store
-pub mod Preflight
 pub mod Bench
+pub mod Preflight

@@ -16,7 +16,7 @@ use Rattle.spec.specs.Sheet.{Parsed, readSheet}
 use Rattle.spec.specs.Solid.{solidOf, entries}
 use Rattle.ranked.specs.declared.Shape.{Shape}
 use Rattle.ranked.specs.Words.{firstAt, sizeAt, total, listAt, solidIn, Held}
-use Rattle.ranked.specs.Derive.{running}
+use Rattle.ranked.specs.Derive.{running, Stored}
 
 -- ---- fields
 
@@ -129,6 +129,10 @@ subEntries sh I = elim (sh .rank) [ zero ↦ 0 | suc q ↦ elim q [ zero ↦ 1 |
 unfoldable pub lowOf : Shape → ℕ → ℕ
 lowOf sh I = 4 * total sh + 2 * subEntries sh I
 
+-- where the sups' entries start: after the starts and lengths, and the subs' entries
+unfoldable pub baseOf : Shape → ℕ → ℕ
+baseOf sh I = 4 * total sh + subEntries sh I
+
 -- the words ws hold the solid of the sheet p, and the floats fs start with its vertices' coordinates
 pub record Kept (p : Parsed) (sh : Shape) (ws : List ℕ) (fs : List Float) : Type 0 where
   pub rank : sh .rank ≡ p .rank
@@ -140,4 +144,7 @@ pub record Kept (p : Parsed) (sh : Shape) (ws : List ℕ) (fs : List Float) : Ty
   pub floats-in : size (solidOf p) 1 * p .dimension ≤ length fs
   pub held : Held sh (take (lowOf sh (entries (solidOf p))) ws)
   pub solid : solidIn sh (take (lowOf sh (entries (solidOf p))) ws) ≡ solidOf p
+  -- the subs stand by themselves below the sups' entries
+  pub stored : Stored sh (take (baseOf sh (entries (solidOf p))) ws)
+  pub subs-alone : solidIn sh (take (baseOf sh (entries (solidOf p))) ws) ≡ solidOf p
   pub points : take (size (solidOf p) 1 * p .dimension) fs ≡ join (p .points)

@@ -1,20 +1,20 @@
--- The exchange of facets keeps a solid sound, and its diamonds.
+-- The exchange of facets keeps a solid sound, its numbers of elements, entries and sups, and its diamonds; done twice it changes nothing.
 -- Assumes nothing.
 use mathlib.Core.Path.{_≡_, refl, sym, _∙_, ap, fun-ext}
 use mathlib.Core.Logic.{_≢_, inl, inr}
-use Prim.Native.Nat.{ℕ, suc, _-_, _≤_, _<_}
+use Prim.Native.Nat.{ℕ, zero, suc, _+_, _-_, _≤_, _<_}
 use mathlib.Core.Bool.{Bool, true}
 use mathlib.Core.List.{List, [], _∷_, map}
 use native.Mathlib.Omega.{arith}
 use native.Mathlib.Nat.{le-antisymm}
 use native.Mathlib.Decide.{ℕ-discrete}
 use lib.ListN.{length, getD, set, length-set, length-map}
-use lib.Seq.{getD-set-same, getD-set-other}
-use lib.Dec.{eqb}
-use Rattle.spec.specs.Lists.{In, holds, range, keep, every}
-use Rattle.spec.specs.Types.{Solid, top, size, subs, properRanks}
+use lib.Seq.{getD-set-same, getD-set-other, set-set, set-getD, ext-getD}
+use lib.Dec.{eqb, ltb}
+use Rattle.spec.specs.Lists.{In, holds, range, keep, sum, every}
+use Rattle.spec.specs.Types.{Solid, top, size, subs, sups, properRanks, elements}
 use Rattle.spec.specs.Demand.{Sound}
-use Rattle.spec.specs.Solid.{between, diamond}
+use Rattle.spec.specs.Solid.{entries, bound, between, diamond}
 use Rattle.spec.specs.Search.{swapWithFirst, exchangedIn}
 use Rattle.spec.specs.SolidLaws.{swap}
 use Rattle.spec.specs.Passed.{EveryExchange}
@@ -109,7 +109,7 @@ count-swap p f n h = le-antisymm (fewer p) (rw (same) at (fewer (λ x. p (swap f
 
 -- ---- the solid
 
-swap-at : (l : List (List ℕ)) (f : ℕ) → f < length l → (e : ℕ) → getD (swapWithFirst l f) e [] ≡ getD l (swap f e) []
+pub swap-at : (l : List (List ℕ)) (f : ℕ) → f < length l → (e : ℕ) → getD (swapWithFirst l f) e [] ≡ getD l (swap f e) []
 unfolding swapWithFirst
 swap-at l f h e = go (swapped f e)
   where
@@ -118,23 +118,63 @@ swap-at l f h e = go (swapped f e)
     go (second m p q) = rw q (getD-set-other (set l f (getD l 0 [])) 0 e (getD l f []) [] m ∙ ap (λ (i : ℕ). getD (set l f (getD l 0 [])) i []) p ∙ getD-set-same l f (getD l 0 []) [] h)
     go (neither m k q) = rw q (getD-set-other (set l f (getD l 0 [])) 0 e (getD l f []) [] m ∙ getD-set-other l f e (getD l 0 []) [] k)
 
-swap-length : (l : List (List ℕ)) (f : ℕ) → length (swapWithFirst l f) ≡ length l
+pub swap-length : (l : List (List ℕ)) (f : ℕ) → length (swapWithFirst l f) ≡ length l
 unfolding swapWithFirst
 swap-length l f = length-set (set l f (getD l 0 [])) 0 (getD l f []) ∙ length-set l f (getD l 0 [])
+
+pub swap-twice : (l : List (List ℕ)) (f : ℕ) → f < length l → swapWithFirst (swapWithFirst l f) f ≡ l
+swap-twice l f h =
+    let n = swap-length l f in
+    ext-getD [] (swapWithFirst (swapWithFirst l f) f) l (swap-length (swapWithFirst l f) f ∙ n) λ e k.
+    swap-at (swapWithFirst l f) f (rw n h) e ∙ swap-at l f h (swap f e) ∙ ap (λ (i : ℕ). getD l i []) (swap-back f e)
+
+-- a sum over a list, one place of which is changed
+sum-set : {A : Type 0} (g : A → ℕ) (d x : A) (l : List A) (i : ℕ) → i < length l → sum (map g (set l i x)) + g (getD l i d) ≡ sum (map g l) + g x
+unfolding sum
+sum-set g d x [] i h = absurd (omega arith)
+sum-set g d x (y ∷ l) zero h = omega arith
+sum-set g d x (y ∷ l) (suc i) h = omega (arith, sum-set g d x l i (omega arith))
+
+-- the swapped lists have as many entries
+swap-sum : (l : List (List ℕ)) (f : ℕ) → f < length l → sum (map length (swapWithFirst l f)) ≡ sum (map length l)
+unfolding swapWithFirst
+swap-sum l f h =
+    let x = getD l 0 [] in
+    let y = getD l f [] in
+    omega (arith, sum-set length [] x l f h, sum-set length [] y (set l f x) 0 (rw length-set (omega arith)), ap length (first-stays (ℕ-discrete f 0)))
+  where
+    first-stays : Dec (f ≡ 0) → getD (set l f (getD l 0 [])) 0 [] ≡ getD l 0 []
+    first-stays (yes p) = rw p (getD-set-same l 0 (getD l 0 []) [] (omega arith))
+    first-stays (no n) = getD-set-other l f 0 (getD l 0 []) [] (λ q. n (sym q))
+
+-- twice is not at all
+pub exchange-twice : (s : Solid) (f : ℕ) → f < size s (top s - 1) → exchangedIn (exchangedIn s f) f ≡ s
+unfolding exchangedIn
+exchange-twice [] f low = absurd (omega arith)
+exchange-twice (a ∷ s₀) f low =
+    let s : Solid = a ∷ s₀ in
+    let n = top s - 1 in
+    let l = swapWithFirst (getD s n []) f in
+    let k : top (set s n l) - 1 ≡ n = ap (λ (m : ℕ). m - 1 - 1) (length-set s n l) in
+    let g : getD (set s n l) n [] ≡ l = getD-set-same s n l [] (omega arith) in
+    ap (λ (m : ℕ). set (set s n l) m (swapWithFirst (getD (set s n l) m []) f)) k
+    ∙ set-set s n l (swapWithFirst (getD (set s n l) n []) f)
+    ∙ ap (λ (m : List (List ℕ)). set s n m) (ap (λ (m : List (List ℕ)). swapWithFirst m f) g ∙ swap-twice (getD s n []) f low)
+    ∙ set-getD s n []
 
 module _ (s : Solid) (tall : 2 ≤ top s) (f : ℕ) (low : f < size s (top s - 1)) where
   abbrev t : Solid
   t = exchangedIn s f
 
-  at-n : getD t (top s - 1) [] ≡ swapWithFirst (getD s (top s - 1) []) f
+  pub at-n : getD t (top s - 1) [] ≡ swapWithFirst (getD s (top s - 1) []) f
   unfolding exchangedIn
   at-n = getD-set-same s (top s - 1) (swapWithFirst (getD s (top s - 1) []) f) [] (omega arith)
 
-  at-other : (r : ℕ) → r ≢ top s - 1 → getD t r [] ≡ getD s r []
+  pub at-other : (r : ℕ) → r ≢ top s - 1 → getD t r [] ≡ getD s r []
   unfolding exchangedIn
   at-other r n = getD-set-other s (top s - 1) r (swapWithFirst (getD s (top s - 1) []) f) [] n
 
-  top-same : top t ≡ top s
+  pub top-same : top t ≡ top s
   unfolding exchangedIn
   top-same = ap (λ (n : ℕ). n - 1) (length-set s (top s - 1) (swapWithFirst (getD s (top s - 1) []) f))
 
@@ -152,6 +192,45 @@ module _ (s : Solid) (tall : 2 ≤ top s) (f : ℕ) (low : f < size s (top s - 1
   pub subs-other : (r : ℕ) → r ≢ top s - 1 → (e : ℕ) → subs t r e ≡ subs s r e
   unfolding subs
   subs-other r n e = ap (λ (l : List (List ℕ)). getD l e []) (at-other r n)
+
+  pub elements-same : elements t ≡ elements s
+  unfolding elements properRanks
+  elements-same =
+      ap (λ (g : ℕ → ℕ). sum (map g (range 1 (top t - 1)))) (fun-ext size-same) ∙ ap (λ (n : ℕ). sum (map (λ r. size s r) (range 1 (n - 1)))) top-same
+
+  pub entries-same : entries t ≡ entries s
+  unfolding entries
+  entries-same =
+      ap (λ (g : ℕ → ℕ). sum (map g (range 2 (top t - 2)))) (fun-ext (λ r. at r (ℕ-discrete r (top s - 1))))
+      ∙ ap (λ (n : ℕ). sum (map (λ r. sum (map length (getD s r []))) (range 2 (n - 2)))) top-same
+    where
+      at : (r : ℕ) → Dec (r ≡ top s - 1) → sum (map length (getD t r [])) ≡ sum (map length (getD s r []))
+      at r (yes p) = rw (p, at-n) (swap-sum (getD s (top s - 1) []) f low)
+      at r (no n) = ap (λ (l : List (List ℕ)). sum (map length l)) (at-other r n)
+
+  -- no element gains or loses a sup
+  sups-same : (r e : ℕ) → length (sups t r e) ≡ length (sups s r e)
+  unfolding sups
+  sups-same r e = go (ℕ-discrete (suc r) (top s - 1))
+    where
+      go : Dec (suc r ≡ top s - 1) → length (keep (λ g. holds eqb e (subs t (suc r) g)) (range 0 (size t (suc r)))) ≡ length (keep (λ g. holds eqb e (subs s (suc r) g)) (range 0 (size s (suc r))))
+      go (yes p) =
+          rw (size-same (suc r))
+          (ap length (keep-same (λ g. holds eqb e (subs t (suc r) g)) (λ g. holds eqb e (subs s (suc r) (swap f g))) (λ g. ap (holds eqb e) (rw p (subs-n g))) (range 0 (size s (suc r))))
+          ∙ count-swap (λ g. holds eqb e (subs s (suc r) g)) f (size s (suc r)) (rw p low))
+      go (no n) =
+          rw (size-same (suc r)) (ap length (keep-same (λ g. holds eqb e (subs t (suc r) g)) (λ g. holds eqb e (subs s (suc r) g)) (λ g. ap (holds eqb e) (subs-other (suc r) n g)) (range 0 (size s (suc r)))))
+
+  pub bound-same : bound t ≡ bound s
+  unfolding bound
+  bound-same =
+      ap (λ (g : ℕ → Bool). every g (range 1 (top t - 2))) (fun-ext rank-same)
+      ∙ ap (λ (n : ℕ). every (λ r. every (λ e. ltb 0 (length (sups s r e))) (range 0 (size s r))) (range 1 (n - 2))) top-same
+    where
+      rank-same : (r : ℕ) → every (λ e. ltb 0 (length (sups t r e))) (range 0 (size t r)) ≡ every (λ e. ltb 0 (length (sups s r e))) (range 0 (size s r))
+      rank-same r =
+          ap (λ (g : ℕ → Bool). every g (range 0 (size t r))) (fun-ext (λ e. ap (ltb 0) (sups-same r e)))
+          ∙ ap (λ (n : ℕ). every (λ e. ltb 0 (length (sups s r e))) (range 0 n)) (size-same r)
 
   -- the subs of an element are those of one of its rank before
   record Before (r e : ℕ) : Type 0 where

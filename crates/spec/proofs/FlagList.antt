@@ -66,12 +66,12 @@ module _ {A : Type 0} (R : A → A → Type 0) where
   ordered-at d (x ∷ l) o (suc i) (suc j) h k = ordered-at d l (o .1) i j (omega arith) (omega arith)
 
 module _ {A : Type 0} (g : ℕ → List A) where
-  join-in : (t : A) (x : ℕ) (l : List ℕ) → In x l → In t (g x) → In t (join (map g l))
+  pub join-in : (t : A) (x : ℕ) (l : List ℕ) → In x l → In t (g x) → In t (join (map g l))
   unfolding join
   join-in t x (y ∷ l) (inl q) m = in-left t (g y) (join (map g l)) (rw (← q) m)
   join-in t x (y ∷ l) (inr h) m = in-right t (g y) (join (map g l)) (join-in t x l h m)
 
-  in-join : (t : A) (l : List ℕ) → In t (join (map g l)) → (x : ℕ) × In x l × In t (g x)
+  pub in-join : (t : A) (l : List ℕ) → In t (join (map g l)) → (x : ℕ) × In x l × In t (g x)
   unfolding join
   in-join t (y ∷ l) m = go (in-either t (g y) (join (map g l)) m) (λ h. in-join t l h)
     where

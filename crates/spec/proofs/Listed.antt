@@ -61,18 +61,18 @@ rotation-in (y ∷ l) x h = go (isRotation y) h (λ k. rotation-in l x k)
 
 -- ---- a member's mark is that of its row
 
-Marked : Setting → Member → Type 0
+abbrev pub Marked : Setting → Member → Type 0
 Marked w x = x .mark ≡ markOf w (x .row)
 
 tested-mark : (w : Setting) (m : Matrix) (x : Member) → tested w m ≡ some x → Marked w x
-unfolding tested Marked
+unfolding tested
 tested-mark w m x = go (every (λ v. ltb v (length (w .searched .points))) (rowOf (w .searched .points) m) && examplesGo (w .searched .abs) (w .types) (rowOf (w .searched .points) m))
   where
     go : (b : Bool) → elim b as (λ z. Option Member) [ true ↦ some (record { matrix = m; row = rowOf (w .searched .points) m; mark = markOf w (rowOf (w .searched .points) m) }) | false ↦ none ] ≡ some x → x .mark ≡ markOf w (x .row)
     go true e = subst (λ (y : Member). y .mark ≡ markOf w (y .row)) (Option·some-injective _ x e) refl
     go false e = absurd (Option·none-ne-some x e)
 
-member-mark : (w : Setting) (l : List Flag) (x : Member) → In x (membersOf w l) → Marked w x
+pub member-mark : (w : Setting) (l : List Flag) (x : Member) → In x (membersOf w l) → Marked w x
 unfolding membersOf
 member-mark w (F ∷ l) x h = go (sameTypes w F) (tested w (candidate w F)) refl h (λ k. member-mark w l x k)
   where
@@ -108,7 +108,7 @@ set-by c w e =
     (ap (λ (v : Setting). v .read) (sym q), ap (λ (v : Setting). v .classes) (sym q))
 
 search-mark : (c : Concrete) (ms : List Member) → search c ≡ passed ms → (x : Member) → In x ms → x .mark ≡ 1 → marked (c .abs) (byTable (classTable c)) (x .row) ≡ true
-unfolding search Marked
+unfolding search
 search-mark c ms e x h k =
     let s = bound-to (setting c) _ ms e in
     let w = s .0 in

@@ -65,6 +65,13 @@ join-length n (l ∷ ls) f =
     regroup : n + length ls * n ≡ suc (length ls) * n
     regroup = omega (arith, suc-mul (length ls) n)
 
+-- a matrix of d rows of d
+abbrev pub Square : ℕ → Matrix → Type 0
+Square d m = (length m ≡ d) × ((r : Vector) → In r m → length r ≡ d)
+
+pub square-long : (d : ℕ) (m : Matrix) → Square d m → length (join m) ≡ d * d
+square-long d m s = join-length d m (s .1) ∙ ap (λ (k : ℕ). k * d) (s .0)
+
 -- ---- the inverse has as many rows
 
 clear-length : (c : ℕ) (p : Vector) (a : Matrix) → length (clear c p a) ≡ length a
@@ -93,7 +100,7 @@ eliminate-length (c ∷ cs) w v e = go (column c w) refl e (λ u h. eliminate-le
     go none q e f = absurd (Option·none-ne-some v e)
     go (some u) q e f = f u e ∙ column-length c w u q
 
-inverse-length : (a b : Matrix) → inverse a ≡ some b → length b ≡ length a
+pub inverse-length : (a b : Matrix) → inverse a ≡ some b → length b ≡ length a
 unfolding inverse gaussJordan identity
 inverse-length a b = go (gaussJordan a) refl
   where
@@ -113,28 +120,27 @@ unfolding walk
 walk-length c zero F = refl
 walk-length c (suc n) F = ap suc (walk-length c n _)
 
-flag-columns : (c : Concrete) (F : Flag) → length (flagColumns c F) ≡ c .dimension
+pub flag-columns : (c : Concrete) (F : Flag) → length (flagColumns c F) ≡ c .dimension
 unfolding flagColumns
 flag-columns c F = columns-length _ ∙ length-map (walk (c .abs) (c .dimension) F) (pointOf c) ∙ walk-length c (c .dimension) F
 
 -- of a setting for D dimensions and V vertices
-record Fit (d v : ℕ) (w : Setting) : Type 0 where
-  wide : w .searched .dimension ≡ d
-  many : length (w .searched .points) ≡ v
-  inverse : length (w .inv) ≡ d
+pub record Fit (d v : ℕ) (w : Setting) : Type 0 where
+  pub wide : w .searched .dimension ≡ d
+  pub many : length (w .searched .points) ≡ v
+  pub inverse : length (w .inv) ≡ d
 
 pub record Shape (d v : ℕ) (x : Member) : Type 0 where
-  pub matrix : length (join (x .matrix)) ≡ d * d
+  pub matrix : Square d (x .matrix)
   pub row : length (x .row) ≡ v
 
-candidate-shape : (d v : ℕ) (w : Setting) → Fit d v w → (F : Flag) → length (join (candidate w F)) ≡ d * d
+pub candidate-shape : (d v : ℕ) (w : Setting) → Fit d v w → (F : Flag) → Square d (candidate w F)
 unfolding candidate
 candidate-shape d v w h F =
     let a = flagColumns (w .searched) F in
-    join-length d (mulMat a (w .inv)) (λ r m. product-rows a (w .inv) r m ∙ h .inverse)
-    ∙ ap (λ (n : ℕ). n * d) (product-length a (w .inv) ∙ flag-columns (w .searched) F ∙ h .wide)
+    (product-length a (w .inv) ∙ flag-columns (w .searched) F ∙ h .wide, λ r m. product-rows a (w .inv) r m ∙ h .inverse)
 
-tested-shape : (d v : ℕ) (w : Setting) → Fit d v w → (m : Matrix) → length (join m) ≡ d * d → (x : Member) → tested w m ≡ some x → Shape d v x
+pub tested-shape : (d v : ℕ) (w : Setting) → Fit d v w → (m : Matrix) → Square d m → (x : Member) → tested w m ≡ some x → Shape d v x
 unfolding tested rowOf
 tested-shape d v w h m k x = go (every (λ u. ltb u (length (w .searched .points))) (rowOf (w .searched .points) m) && examplesGo (w .searched .abs) (w .types) (rowOf (w .searched .points) m))
     (record { matrix = k; row = length-map (w .searched .points) _ ∙ h .many })
@@ -209,15 +215,15 @@ rotations-shaped b words floats y e x m =
 
 -- ---- what fits
 
-record Holds (m : Room) (d v n : ℕ) : Type 0 where
-  matrices : n * (d * d) ≤ m .floats
-  rows : n * v ≤ m .entries
-  marks : n ≤ m .marks
+pub record Holds (m : Room) (d v n : ℕ) : Type 0 where
+  pub matrices : n * (d * d) ≤ m .floats
+  pub rows : n * v ≤ m .entries
+  pub marks : n ≤ m .marks
 
-none-held : (m : Room) (d v : ℕ) → Holds m d v 0
+pub none-held : (m : Room) (d v : ℕ) → Holds m d v 0
 none-held m d v = record { matrices = omega (arith, zero-mul (d * d)); rows = omega (arith, zero-mul v); marks = omega arith }
 
-fits-holds : (m : Room) (d v n : ℕ) → haveRoom m d v n ≡ true → Holds m d v n
+pub fits-holds : (m : Room) (d v n : ℕ) → haveRoom m d v n ≡ true → Holds m d v n
 unfolding haveRoom
 fits-holds m d v n e =
     let a = leb (n * (d * d)) (m .floats) in
@@ -247,7 +253,7 @@ pub record Cells (m : Room) (l : List Member) : Type 0 where
 cells-of : (m : Room) (d v : ℕ) (l : List Member) → Holds m d v (length l) → ((x : Member) → In x l → Shape d v x) → Cells m l
 cells-of m d v l h f = record {
   matrices =
-      let e = join-length (d * d) (map (λ x. join (x .matrix)) l) (λ k i. let r = in-map (λ (x : Member). join (x .matrix)) k l i in ap length (r .2) ∙ f (r .0) (r .1) .matrix) in
+      let e = join-length (d * d) (map (λ x. join (x .matrix)) l) (λ k i. let r = in-map (λ (x : Member). join (x .matrix)) k l i in ap length (r .2) ∙ square-long d (r .0 .matrix) (f (r .0) (r .1) .matrix)) in
       let q : length (map (λ (x : Member). join (x .matrix)) l) ≡ length l = length-map l _ in
       rw (e, q) (h .matrices);
   rows =

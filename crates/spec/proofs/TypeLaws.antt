@@ -26,7 +26,7 @@ module _ (s : Solid) (cls : Classes) (S : State) (g : Good s cls S) (r : ℕ) wh
   unfolding inUse
   by-first = ap (distinct eqb) (sym (g .canon r)) ∙ numbers-used eqb numbers 0 (typesAt S r)
 
-  numbered : Numbered s S r
+  pub numbered : Numbered s S r
   numbered = record {
     each = g .sizes r;
     low = λ e h. let m = in-distinct eqb numbers (typeOf S r e) (typesAt S r) (in-getD 0 (typesAt S r) e (rw (g .sizes r) h)) in omega (arith, of-range 0 (inUse S r) (typeOf S r e) (rw by-first at m) .1);

@@ -1,22 +1,26 @@
 -- The preflight step by step: what each refusal leaves of it, what the steps need of the header, and the whole answer.
 -- Assumes nothing.
 use mathlib.Core.Path.{_≡_, refl, sym, _∙_, ap}
+use mathlib.Core.Logic.{inl, inr}
 use Prim.Native.Nat.{ℕ, _+_, _-_, _*_, _^_, _≤_, _<_}
 use mathlib.Core.Bool.{Bool, true, false, _&&_}
-use mathlib.Core.List.{List}
+use mathlib.Core.List.{List, [], _∷_}
 use native.Mathlib.Omega.{arith}
 use lib.ListN.{length, take, replicate}
-use lib.Seq.{length-take-le, take-append-seam}
+use lib.Seq.{length-take-le, take-append-seam, take-at, drop-at}
 use lib.Dec.{leb}
 use lib.Ieee.{Float}
 use Rattle.spec.specs.declared.Refusal.{Refusal}
 use Rattle.spec.specs.declared.Refusal.the-variants.{Loose, Mitre, Bench}
 use Rattle.spec.specs.Limits.{maxRank}
-use Rattle.spec.specs.Types.{Solid}
+use Rattle.spec.specs.Lists.{In, join}
+use Rattle.spec.specs.Types.{Solid, elements}
+use Rattle.spec.specs.Copying.{parts}
 use Rattle.spec.specs.Judged.{Judged, refused, passed, judge, _>>=_, _>>_}
 use Rattle.spec.specs.Sheet.{Parsed, readSheet}
 use Rattle.spec.specs.Solid.{solidOf, entries, roomy, bound, diamond, Concrete, preflight}
-use Rattle.spec.proofs.Accepted.{never, same, read-rank}
+use Rattle.spec.specs.Passed.{Passed}
+use Rattle.spec.proofs.Accepted.{never, same, every-passed}
 use Rattle.sheet.specs.declared.Header.{Header}
 use Rattle.sheet.specs.declared.Verdict.{Verdict}
 use Rattle.sheet.specs.declared.Verdict.the-variants.{Accepted, Refused}
@@ -28,6 +32,7 @@ use Rattle.ranked.specs.Words.{total, solidIn, Held}
 use Rattle.ranked.specs.Store.{parsedOf, lowOf, Kept}
 use Rattle.ranked.specs.Preflight.{verdictOf, checksOf, Placed, Settled, Preflighted}
 use Rattle.ranked.proofs.store.Reading.{allowed}
+use Rattle.ranked.proofs.store.Whole.{room-in}
 
 -- ---- 5 and 6
 
@@ -66,6 +71,15 @@ after-passed c d false y z e = absurd (never Bench d e)
 after-passed c d true false z e = absurd (never Loose d e)
 after-passed c d true true false e = absurd (never Mitre d e)
 after-passed c d true true true e = same c d e
+
+-- ---- points one after another
+
+parts-join : {A : Type 0} (d : ℕ) (ps : List (List A)) → ((x : List A) → In x ps → length x ≡ d) → parts (length ps) d (join ps) ≡ ps
+unfolding parts join
+parts-join d [] e = refl
+parts-join d (x ∷ ps) e =
+    let l = e x (inl refl) in
+    rw (take-at x (join ps) d l, drop-at x (join ps) d l, parts-join d ps (λ y m. e y (inr m)))
 
 -- ---- the whole
 
@@ -167,22 +181,33 @@ module _ (b : List ℕ) (n m : ℕ) (r : Ready) (ws : List ℕ) (fs : List Float
     pub settled-in : t ≡ true → Settled (parsedOf b) r ws fs → Preflighted b n m r ws fs
     settled-in q z = from (rw (← parsed-is b p e) at z)
       where
-        place : Settled p r ws fs → Placed (said p) (r .shape) (r .low) ws fs
-        place z = record {
-          rank = z .kept .rank ∙ sym (read-rank b p e);
-          dimension = z .kept .dimension;
-          words-in = rw (z .low) (z .kept .words-in);
-          held = rw (z .low) (z .kept .held);
-          solid = rw (z .low) (z .kept .solid);
-          floats-in = z .kept .floats-in;
-          points = z .kept .points;
+        place : Passed b (said p) → Settled p r ws fs → Placed (said p) (r .shape) (r .low) ws fs
+        place v z = record {
+          bench = record {
+            held = rw (z .low) (z .kept .held);
+            low-is = rw here (z .low);
+            words-in = rw (z .low) (z .kept .words-in);
+            stored = rw here (z .kept .stored);
+            subs-alone = rw here (z .kept .subs-alone);
+            joined = rw here (v .joined);
+            diamonds = rw here (v .diamonds);
+            words = rw (here, same-words) (space .0);
+            floats = rw (here, same-floats) (space .1);
+          };
+          is = rw (here, z .kept .dimension, z .kept .points, ← v .points) (ap (λ (x : List (List Float)). record { dimension = p .dimension; points = x; abs = solidOf p }) (parts-join (p .dimension) (p .points) (λ x k. v .coordinates x k .0)));
         }
+          where
+            here : solidIn (r .shape) (take (r .low) ws) ≡ solidOf p
+            here = rw (z .low) (z .kept .solid)
+
+            space : (16 * (elements (solidOf p) + entries (solidOf p) + 4) ≤ n) × (8 * (elements (solidOf p) + 8) ≤ m)
+            space = room-in (solidOf p) n m (sym room ∙ q)
 
         from : Settled p r ws fs → Preflighted b n m r ws fs
         from z = record {
           verdict = z .verdict ∙ sym (judged b n m p e (sym room ∙ q));
           lengths = (same-words, same-floats);
-          placed = λ c k. rw (← accepted b n m p e c k) (place z);
+          placed = λ c k. rw (← accepted b n m p e c k) (place (rw (← accepted b n m p e c k) at (every-passed b n m c k)) z);
         }
 
 -- what storing asks

@@ -11,7 +11,7 @@ use borrow.Author.Needs.{needs}
 use Rattle.spec.specs.Limits.{maxDimension}
 use Rattle.spec.specs.Copying.{find, parts}
 use Rattle.float.proofs.Parts.{part-end}
-use Rattle.copying.proofs.Tails.{tail-is, tail-written}
+use Rattle.float.proofs.Tails.{tail-is, tail-written}
 use Rattle.copying.proofs.Growth.{found-less, found-none, image-found, image-full, image-joined}
 use Rattle.copying.proofs.joining.add.Statement.{statement}
 use Rattle.copying.proofs.joining.add.Tie as tie

@@ -15,7 +15,7 @@ use Rattle.float.specs.Reading.{corner}
 use Rattle.float.proofs.Parts.{length-parts, part-end}
 use Rattle.copying.proofs.Squares.{square, square-pos, point-end}
 use Rattle.copying.proofs.Growth.{matrix-is, length-matrices}
-use Rattle.copying.proofs.Tails.{tail-is}
+use Rattle.float.proofs.Tails.{tail-is}
 use Rattle.copying.proofs.Tables.{Filled, Piece, filled-none, filled-next, filled-open, filled-end, row-piece, closed-back, opened-back, length-row}
 use Rattle.copying.proofs.rows.write.Statement.{statement}
 use Rattle.copying.proofs.rows.write.Tie as tie

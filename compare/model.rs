@@ -1,0 +1,297 @@
+//! What the oracle does not have, from document 01's own sentences: the refusals before a search, marks, what a copying refuses and leaves.
+
+use crate::solids::Solid;
+
+pub const EPS: f64 = 1e-7;
+const LIMIT: f64 = 1_048_576.0;
+const MOST: usize = 2048;
+
+// ---- sheets
+
+struct Reader<'a> {
+    bytes: &'a [u8],
+    at: usize,
+}
+
+impl Reader<'_> {
+    fn take(&mut self, width: usize) -> Result<u64, u64> {
+        if self.at + width > self.bytes.len() * 8 {
+            return Err(1);
+        }
+        let mut n = 0;
+        for _ in 0..width {
+            n = n << 1 | u64::from(self.bytes[self.at / 8] >> (7 - self.at % 8) & 1);
+            self.at += 1;
+        }
+        Ok(n)
+    }
+}
+
+/// A sheet that passed 1 to 6, for a workspace of any size; the rank is kept apart, since it may be 0 or 1.
+pub struct Judged {
+    pub rank: usize,
+    pub dimension: usize,
+    pub solid: Option<Solid>,
+}
+
+/// "Fields are judged as they come, then 1 for the end, 7, 5, 6."
+pub fn judged(sheet: &[u8], words: usize, floats: usize) -> Result<Judged, u64> {
+    let mut bits = Reader { bytes: sheet, at: 0 };
+    let rank = bits.take(3)? as usize;
+    refuse(rank > 5, 2)?;
+    let dimension = bits.take(3)? as usize;
+    refuse(dimension > 4, 2)?;
+    let mut counts = Vec::new();
+    for _ in 1..rank {
+        let count = bits.take(12)? as usize;
+        refuse(count == 0 || count > MOST, 2)?;
+        counts.push(count);
+    }
+    let corners = if rank < 2 { rank } else { counts[0] };
+    let mut points = Vec::new();
+    for _ in 0..corners {
+        let mut p = Vec::new();
+        for _ in 0..dimension {
+            let x = f64::from_bits(bits.take(64)?);
+            refuse(!(x.abs() <= LIMIT), 3)?;
+            p.push(x);
+        }
+        points.push(p);
+    }
+    let mut lists = Vec::new();
+    for r in 2..rank {
+        let (mut elements, mut entries) = (Vec::new(), 0);
+        for _ in 0..counts[r - 1] {
+            let length = bits.take(12)? as usize;
+            entries += length;
+            refuse(entries > 8192, 2)?;
+            refuse(length == 0, 4)?;
+            let mut subs: Vec<usize> = Vec::new();
+            for _ in 0..length {
+                let s = bits.take(11)? as usize;
+                refuse(s >= counts[r - 2] || subs.last().is_some_and(|l| s <= *l), 4)?;
+                subs.push(s);
+            }
+            elements.push(subs);
+        }
+        lists.push(elements);
+    }
+    let rest = sheet.len() * 8 - bits.at;
+    refuse(rest >= 8, 1)?;
+    refuse(bits.take(rest)? != 0, 1)?;
+    let solid = if rank >= 2 { Some(Solid { dimension, points, lists }) } else { None };
+    let (elements, entries) = solid.as_ref().map_or((0, 0), |s| s.size());
+    refuse(words < 16 * (elements + entries + 4) || floats < 8 * (elements + 8), 7)?;
+    if let Some(s) = &solid {
+        refuse((1..rank - 1).any(|r| is_loose(s, r)), 5)?;
+        refuse((2..=rank).any(|r| !is_diamond(s, r)), 6)?;
+    }
+    Ok(Judged { rank, dimension, solid })
+}
+
+fn refuse(broken: bool, number: u64) -> Result<(), u64> {
+    if broken { Err(number) } else { Ok(()) }
+}
+
+fn is_loose(s: &Solid, r: usize) -> bool {
+    let mut held = vec![false; s.count(r)];
+    (0..s.count(r + 1)).flat_map(|i| s.subs(r + 1, i)).for_each(|e| held[e] = true);
+    held.contains(&false)
+}
+
+fn is_diamond(s: &Solid, r: usize) -> bool {
+    (0..s.count(r)).all(|i| {
+        let mut between = vec![0; s.count(r - 2)];
+        s.subs(r, i).iter().flat_map(|f| s.subs(r - 1, *f)).for_each(|h| between[h] += 1);
+        between.iter().all(|n| *n == 0 || *n == 2)
+    })
+}
+
+/// 9: two vertices within EPS on every axis.
+pub fn double_corner(s: &Solid) -> bool {
+    let near = |a: &[f64], b: &[f64]| a.iter().zip(b).all(|(x, y)| (x - y).abs() <= EPS);
+    (0..s.points.len()).any(|i| (0..i).any(|j| near(&s.points[i], &s.points[j])))
+}
+
+// ---- hulls and marks
+
+pub struct Hull {
+    dimension: usize,
+    offset: Option<Vec<f64>>,
+    basis: Vec<Vec<f64>>,
+}
+
+fn dot(a: &[f64], b: &[f64]) -> f64 {
+    let mut products = a.iter().zip(b).map(|(x, y)| x * y);
+    let first = products.next().unwrap_or(0.0);
+    products.fold(first, |sum, x| sum + x)
+}
+
+fn minus(a: &[f64], b: &[f64]) -> Vec<f64> {
+    a.iter().zip(b).map(|(x, y)| x - y).collect()
+}
+
+impl Hull {
+    pub fn empty(dimension: usize) -> Hull {
+        Hull { dimension, offset: None, basis: Vec::new() }
+    }
+
+    fn project(&self, p: &[f64]) -> Vec<f64> {
+        let offset = self.offset.as_ref().unwrap();
+        let d = minus(p, offset);
+        let mut q = offset.clone();
+        for b in &self.basis {
+            let along = dot(&d, b);
+            q.iter_mut().zip(b).for_each(|(x, y)| *x += y * along);
+        }
+        q
+    }
+
+    pub fn add(&mut self, p: &[f64]) {
+        if self.offset.is_none() {
+            self.offset = Some(p.to_vec());
+        } else if self.basis.len() < self.dimension {
+            let v = minus(p, &self.project(p));
+            let length = dot(&v, &v).sqrt();
+            if length > EPS {
+                self.basis.push(v.iter().map(|x| x / length).collect());
+            }
+        }
+    }
+
+    pub fn distance(&self) -> f64 {
+        let origin = vec![0.0; self.dimension];
+        let v = minus(&origin, &self.project(&origin));
+        dot(&v, &v).sqrt()
+    }
+}
+
+/// The distance class of each proper element, by rank.
+fn classes(s: &Solid) -> Vec<Vec<f64>> {
+    let mut listed: Vec<f64> = Vec::new();
+    let mut all = vec![Vec::new()];
+    for r in 1..s.rank() {
+        let mut of_rank = Vec::new();
+        for i in 0..s.count(r) {
+            let mut hull = Hull::empty(s.dimension);
+            s.vertices(r, i).iter().for_each(|v| hull.add(&s.points[*v]));
+            let d = hull.distance();
+            let near = listed.iter().copied().filter(|l| (l - d).abs() < EPS).fold(f64::INFINITY, f64::min);
+            if near.is_infinite() {
+                listed.push(d);
+            }
+            of_rank.push(if near.is_infinite() { d } else { near });
+        }
+        all.push(of_rank);
+    }
+    all
+}
+
+/// The marks of these rows, V numbers each.
+pub fn marks(s: &Solid, rows: &[usize]) -> Vec<u8> {
+    let sets: Vec<Vec<Vec<usize>>> = (0..s.rank()).map(|r| if r == 0 { vec![] } else { (0..s.count(r)).map(|i| s.vertices(r, i)).collect() }).collect();
+    let classes = classes(s);
+    let apart = sets.iter().all(|of_rank| {
+        let mut sorted = of_rank.clone();
+        sorted.sort();
+        sorted.windows(2).all(|w| w[0] != w[1])
+    });
+    rows.chunks(s.points.len()).map(|row| u8::from(apart && is_confirmed(s, &sets, &classes, row))).collect()
+}
+
+fn is_confirmed(s: &Solid, sets: &[Vec<Vec<usize>>], classes: &[Vec<f64>], row: &[usize]) -> bool {
+    let mut seen = vec![false; row.len()];
+    row.iter().for_each(|v| seen[*v] = true);
+    if seen.contains(&false) {
+        return false;
+    }
+    let mut below: Vec<usize> = vec![0];
+    for r in 1..s.rank() {
+        let mut to = Vec::new();
+        for i in 0..s.count(r) {
+            let mut image: Vec<usize> = sets[r][i].iter().map(|v| row[*v]).collect();
+            image.sort_unstable();
+            let Some(j) = sets[r].iter().position(|set| *set == image) else { return false };
+            let mut subs: Vec<usize> = s.subs(r, i).iter().map(|e| below[*e]).collect();
+            subs.sort_unstable();
+            if classes[r][i] != classes[r][j] || subs != s.subs(r, j) {
+                return false;
+            }
+            to.push(j);
+        }
+        below = to;
+    }
+    true
+}
+
+// ---- copying
+
+/// "copying goes 2, 1, 3, 12": or 0.
+pub fn refused_early(d: u64, points: &[f64], turns: &[f64]) -> u64 {
+    if !(1..=4).contains(&d) {
+        return 2;
+    }
+    let d = d as usize;
+    if points.len() % d != 0 || turns.len() % (d * d) != 0 {
+        return 1;
+    }
+    if !points.iter().chain(turns).all(|x| x.abs() <= LIMIT) {
+        return 3;
+    }
+    if points.is_empty() || turns.is_empty() {
+        return 12;
+    }
+    0
+}
+
+/// What a copying answers and writes: the refusal's number, the count, the copies' and the table's first cells.
+pub struct Copied {
+    pub refusal: u64,
+    pub count: usize,
+    pub copies: Vec<f64>,
+    pub table: Vec<u16>,
+}
+
+/// By the whole copies and their table (none where an image is not among the copies), and how long the outputs are.
+pub fn copied(d: usize, turns: usize, copies: &[f64], table: Option<&[usize]>, floats: usize, cells: usize) -> Copied {
+    let n = copies.len() / d;
+    let room = MOST.min(floats / d);
+    let all = turns * n;
+    let kept = copies[..n.min(room) * d].to_vec();
+    if n > room || all > cells {
+        return Copied { refusal: 13, count: n.min(room), copies: kept, table: vec![] };
+    }
+    match table {
+        None => Copied { refusal: 14, count: n, copies: kept, table: vec![65535; all] },
+        Some(t) => Copied { refusal: 0, count: n, copies: kept, table: t.iter().map(|k| *k as u16).collect() },
+    }
+}
+
+/// Clean: images are finite, and "differ by at most EPS" is transitive among these points on each axis.
+pub fn is_clean(d: usize, points: &[f64]) -> bool {
+    (0..d).all(|axis| {
+        let mut all: Vec<f64> = points.iter().skip(axis).step_by(d).copied().collect();
+        if !all.iter().all(|x| x.is_finite()) {
+            return false;
+        }
+        all.sort_by(|a, b| a.partial_cmp(b).unwrap());
+        let mut first = 0;
+        (1..all.len()).all(|i| {
+            if all[i] - all[i - 1] > EPS {
+                first = i;
+            }
+            all[i] - all[first] <= EPS
+        })
+    })
+}
+
+/// Images of the points under each matrix.
+pub fn images(d: usize, points: &[f64], turns: &[f64]) -> Vec<f64> {
+    let mut all = Vec::new();
+    for m in turns.chunks(d * d) {
+        for p in points.chunks(d) {
+            all.extend(m.chunks(d).map(|row| dot(row, p)));
+        }
+    }
+    all
+}

@@ -1,0 +1,5 @@
+pub mod Doubles
+pub mod Finite
+pub mod Rounds
+pub mod Rows
+pub mod Types

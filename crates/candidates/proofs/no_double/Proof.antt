@@ -1,0 +1,53 @@
+-- The loop's invariant: no point before i is near a later one. The measure is what is left of n.
+-- Assumes nothing.
+use borrow.Author.Needs.{needs}
+use native.Mathlib.Omega.{arith}
+use mathlib.Core.Path.{_≡_, refl}
+use Prim.Native.Nat.{_+_, _*_, _≤_, _-_}
+use lib.ListN.{length}
+use Rattle.spec.specs.Copying.{parts}
+use Rattle.float.proofs.Parts.{length-parts, part-end}
+use Rattle.candidates.proofs.Doubles.{Apart, apart-end, start-in, later-in, double-not, double-next}
+use Rattle.candidates.proofs.no_double.Statement.{statement}
+use Rattle.candidates.proofs.no_double.Tie as tie
+
+abbrev Inv : tie.InvT-loop
+Inv points d n i₀ i = (i ≤ n) × Apart (parts n d points) i
+
+abbrev μ : tie.MeasureT-loop
+μ points d n i₀ i = n - i
+
+-- the later points lie in the slice
+start : (c : tie.After-loaded Inv μ) → let a = c .before .before .before .before .args in (c .before .before .loop .i + 1) * a .d ≤ length (a .points .now)
+start c = let s = c .before .before .before .before in let a = s .args in start-in (a .n) (a .d) (c .before .before .loop .i) (a .points .now) (c .before .loop-test .taken) (s .pre .1)
+
+pub no-double-spec : {M : Type 1} → statement M
+no-double-spec =
+    tie.close
+    (tie.spec Inv μ
+    (λ c. (search needs, refl))
+    -- loaded-requires
+    (λ c κs. let s = c .before .before .before in let a = s .args in (s .pre .0, omega (arith, part-end (a .n) (a .d) (c .before .loop .i) (c .loop-test .taken), s .pre .1)))
+    (λ c. search needs)
+    -- mul-start, mul-later, sub-later, part-later-start, part-later-end
+    (λ c. omega (arith, start c))
+    (λ c. omega (arith, start c))
+    (λ c. omega (arith, start c))
+    (λ c. omega (arith, start c))
+    (λ c. omega (arith, start c))
+    (λ c. search needs)
+    -- find-requires, returns
+    (λ c κs. let l = c .before in let s = l .before .before .before .before in let a = s .args in
+    (s .pre .0, later-in (a .n) (a .d) (l .before .before .loop .i) (a .points .now) (l .before .loop-test .taken) (s .pre .1)))
+    (λ c. let l = c .before .before .before in let s = l .before .before .before .before in let a = s .args in
+    double-not (a .n) (a .d) (l .before .before .loop .i) (a .points .now) (l .before .loop-test .taken) (s .pre .1) (l .loaded .result) (l .loaded .ensures) (c .before .find .result) (c .before .find .ensures)
+    (l .before .before .loop .inv .1) (c .if1 .taken))
+    (λ c. search needs)
+    -- loop-again, returns-2
+    (λ c. let l = c .before .before .before in let s = l .before .before .before .before in let a = s .args in (
+      omega (arith, l .before .loop-test .taken),
+      double-next (a .n) (a .d) (l .before .before .loop .i) (a .points .now) (l .before .loop-test .taken) (s .pre .1) (l .loaded .result) (l .loaded .ensures) (c .before .find .result) (c .before .find .ensures)
+          (l .before .before .loop .inv .1) (c .if1 .left),
+    ))
+    (λ c. let s = c .before .before .before in let a = s .args in
+    apart-end (parts (a .n) (a .d) (a .points .now)) (c .before .loop .i) (omega (arith, c .loop-test .left, length-parts (a .n) (a .d) (a .points .now))) (c .before .loop .inv .1)))

@@ -1,0 +1,55 @@
+-- The loop's invariant: the cells before k hold the numbers of their images, which are found. The measure is what is left of n.
+-- Assumes nothing.
+use borrow.Author.Needs.{needs}
+use native.Mathlib.Omega.{arith}
+use mathlib.Core.Path.{_≡_, refl, sym, ap, _∙_}
+use mathlib.Core.List.{[]}
+use Prim.Native.Nat.{_-_}
+use lib.ListN.{length, getD}
+use Rattle.spec.specs.Matrix.{mulVec}
+use Rattle.spec.specs.Copying.{find, parts}
+use Rattle.float.specs.Reading.{corner}
+use Rattle.float.proofs.Parts.{length-parts, part-at, part-end}
+use Rattle.candidates.proofs.Rows.{Rowing, row-none, at-low, row-next, row-not, row-end}
+use Rattle.candidates.proofs.row_of.Statement.{statement}
+use Rattle.candidates.proofs.row_of.Tie as tie
+
+abbrev Inv : tie.InvT-loop
+Inv points d n m row₀ k₀ row k = (length row ≡ length row₀) × Rowing n (parts n d points) (corner d m) (length-parts n d points) row₀ row k
+
+abbrev μ : tie.MeasureT-loop
+μ points d n m row₀ k₀ row k = n - k
+
+-- what is found is the image of vertex k
+image-is : (c : tie.After-find Inv μ) → let a = c .before .before .before .before .before .before .before .args in
+    c .find .result ≡ find (parts (a .n) (a .d) (a .points .now)) (mulVec (corner (a .d) (a .m)) (getD (parts (a .n) (a .d) (a .points .now)) (c .before .before .before .before .loop .k) []))
+image-is c =
+    let a = c .before .before .before .before .before .before .before .args in
+    c .find .ensures
+    ∙ ap (find (parts (a .n) (a .d) (a .points .now)))
+    (c .before .image .ensures ∙ ap (mulVec (corner (a .d) (a .m))) (c .before .before .loaded .ensures ∙ sym (part-at (a .n) (a .d) (a .points .now) (c .before .before .before .before .loop .k) (c .before .before .before .loop-test .taken))))
+
+pub row-of-spec : {M : Type 1} → statement M
+row-of-spec =
+    tie.close
+    (tie.spec Inv μ
+    (λ c. (refl, row-none _ _ _ _ _))
+    (λ c κs. let s = c .before .before .before .before in
+    (s .pre .0, omega (arith, part-end (s .args .n) (s .args .d) (c .before .loop .k) (c .loop-test .taken), s .pre .2)))
+    (λ c κs. search needs)
+    (λ c κs. search needs)
+    (λ c. search needs)
+    -- returns, cast-row
+    (λ c. let w = c .before in let l = w .before .before .before .before .loop in
+    row-not _ _ _ _ _ (l .row) (l .k) (l .inv .1) (w .before .before .before .loop-test .taken) (w .find .result) (image-is w) (c .if1 .taken))
+    (λ c. let w = c .before in let l = w .before .before .before .before .loop in let s = w .before .before .before .before .before .before .before in
+    omega (arith, s .pre .1, at-low _ _ _ _ _ (l .row) (l .k) (l .inv .1) (w .before .before .before .loop-test .taken) (w .find .result) (image-is w)))
+    (λ c. search needs)
+    (λ c. search needs)
+    (λ c. search needs)
+    (λ c. search needs)
+    -- loop-again
+    (λ c. let w = c .before in let l = w .before .before .before .before .loop in let s = w .before .before .before .before .before .before .before in
+    (search needs, row-next _ _ _ _ _ (l .row) (l .k) (l .inv .1) (w .before .before .before .loop-test .taken) (w .find .result) (image-is w) (s .pre .3) (c .if1 .left)))
+    (λ c. search needs)
+    (λ c. let l = c .before .loop in row-end _ _ _ _ _ (l .row) (l .k) (l .inv .1) (c .loop-test .left)))

@@ -1,0 +1,196 @@
+// Section 6 of document 01: a flag's columns and its candidate, and the parts of the test that a candidate has to pass (conc/symmetry.rs).
+ghost use mathlib.Core.Path.{_≡_};
+ghost use mathlib.Core.Bool.{true};
+ghost use Prim.Native.Nat.{_+_, _*_, _≤_};
+ghost use lib.ListN.{length, take};
+ghost use Rattle.spec.specs.Limits.{maxDimension, maxCount};
+ghost use Rattle.spec.specs.Lists.{every};
+ghost use Rattle.spec.specs.Float.{finite};
+ghost use Rattle.spec.specs.Matrix.{mulMat};
+ghost use Rattle.spec.specs.Copying.{near, parts};
+ghost use Rattle.spec.specs.Mark.{noRepeats};
+ghost use Rattle.spec.specs.Solid.{diamond};
+ghost use Rattle.spec.specs.Flags.{IsFlag};
+ghost use Rattle.spec.specs.Search.{flagColumns, rowOf, allFinite};
+ghost use Rattle.float.specs.Reading.{corner};
+ghost use Rattle.ranked.specs.Words.{total, solidIn, Held};
+ghost use Rattle.distances.specs.Solids.{coordinates, solidOn};
+ghost use Rattle.element_types.specs.State.{stateIn};
+ghost use Rattle.flag.specs.Reading.{flagIn};
+ghost use Rattle.candidates.specs.Post.{Turned, typesAgree, Rowed};
+use flag::Flag;
+use float::DIMENSION;
+use float::matrix;
+use float::points;
+use float::tolerance;
+use ranked::Shape;
+use ranked::lists;
+
+// Neither an infinity nor a NaN.
+fn is_finite(x: f64) -> bool
+    ensures { λ r. ⌜ r ≡ finite x ⌝ }
+{
+    tolerance::magnitude(x) < 1.0 / 0.0
+}
+
+// Whether the first d entries are finite.
+fn row_finite(v: [f64; DIMENSION], d: usize) -> bool
+    requires { ⌜ d ≤ maxDimension ⌝ }
+    ensures { λ r. ⌜ r ≡ every finite (take d v) ⌝ }
+{
+    let mut i: usize = 0;
+    while i < d {
+        if is_finite(v[i]) {
+            i += 1;
+        } else {
+            return false;
+        }
+    }
+    true
+}
+
+// Whether every entry is: refusal 11's test of an inverse.
+pub fn all_finite(m: [[f64; DIMENSION]; DIMENSION], d: usize) -> bool
+    requires { ⌜ d ≤ maxDimension ⌝ }
+    ensures { λ r. ⌜ r ≡ allFinite (corner d m) ⌝ }
+{
+    let mut i: usize = 0;
+    while i < d {
+        if row_finite(m[i], d) {
+            i += 1;
+        } else {
+            return false;
+        }
+    }
+    true
+}
+
+// No vertex is within EPS of a later one on every axis: refusal 9's test.
+pub fn no_double(points: &[f64], d: usize, n: usize) -> bool
+    requires { ⌜ (d ≤ maxDimension) × (n * d ≤ length (now points)) ⌝ }
+    ensures { λ r. ⌜ r ≡ noRepeats near (parts n d (now (points .entry))) ⌝ }
+{
+    let mut i: usize = 0;
+    while i < n {
+        let q = points::loaded(points, d, i);
+        i += 1;
+        let start = i * d;
+        let later = &points[start..];
+        let left = n - i;
+        if points::find(later, d, left, q) != left {
+            return false;
+        }
+    }
+    true
+}
+
+// "Its elements have the first flag's types": the type of element first[r] + e stands at word low + first[r] + e.
+pub fn same_types(words: &[u32], low: usize, sh: Shape, flag: Flag, first: Flag) -> bool
+    requires { ⌜ Held sh (take low (now words)) ⌝ }
+    requires { ⌜ low + total sh ≤ length (now words) ⌝ }
+    requires { ⌜ IsFlag (solidIn sh (take low (now words))) (flagIn (sh .rank) flag) ⌝ }
+    requires { ⌜ IsFlag (solidIn sh (take low (now words))) (flagIn (sh .rank) first) ⌝ }
+    ensures { λ res. ⌜ res ≡ typesAgree (stateIn sh low (now (words .entry))) (sh .rank) (flagIn (sh .rank) flag) (flagIn (sh .rank) first) ⌝ }
+{
+    let starts = sh.first;
+    let rank = sh.rank;
+    let a = flag.elements;
+    let b = first.elements;
+    let mut r: usize = 0;
+    while r <= rank {
+        let at = low + starts[r];
+        if lists::get(words, at + a[r]) != lists::get(words, at + b[r]) {
+            return false;
+        }
+        r += 1;
+    }
+    true
+}
+
+// The vertex that each vertex's image is within EPS of, lowest number taken; whether there is one for each. The vertices are looked up by
+// rising number, and the first that is not found ends it: what the row holds then is free.
+pub fn row_of(
+    points: &[f64],
+    d: usize,
+    n: usize,
+    m: [[f64; DIMENSION]; DIMENSION],
+    row: &mut [u16],
+) -> bool
+    requires { ⌜ (d ≤ maxDimension) × (n ≤ maxCount) × (n * d ≤ length (now points)) × (n ≤ length (now row)) ⌝ }
+    ensures { λ r. ⌜ Rowed n (rowOf (parts n d (now (points .entry))) (corner d m)) (now (row .exit)) r ⌝ }
+{
+    let mut k: usize = 0;
+    while k < n {
+        let q = matrix::image(m, points::loaded(points, d, k), d);
+        let at = points::find(points, d, n, q);
+        if at == n {
+            return false;
+        }
+        row[k] = at as u16;
+        k += 1;
+    }
+    true
+}
+
+// A round: "change ranks 1 to R−1 in turn".
+fn turned(w: &[u32], sh: Shape, flag: Flag) -> Flag
+    requires { ⌜ Held sh (now w) ⌝ }
+    requires { ⌜ diamond (solidIn sh (now w)) ≡ true ⌝ }
+    requires { ⌜ IsFlag (solidIn sh (now w)) (flagIn (sh .rank) flag) ⌝ }
+    requires { ⌜ 1 ≤ sh .rank ⌝ }
+    ensures { λ res. ⌜ Turned (solidIn sh (now (w .entry))) (flagIn (sh .rank) flag) (flagIn (sh .rank) res) ⌝ }
+{
+    let rank = sh.rank;
+    let mut f = flag;
+    let mut r: usize = 1;
+    while r < rank {
+        let next = f.change(w, sh, r);
+        f = next;
+        r += 1;
+    }
+    f
+}
+
+// "A flag's columns: its vertex; then, D−1 times, change ranks 1 to R−1 in turn and take the vertex."
+pub fn columns(w: &[u32], sh: Shape, points: &[f64], flag: Flag) -> [[f64; DIMENSION]; DIMENSION]
+    requires { ⌜ Held sh (now w) ⌝ }
+    requires { ⌜ diamond (solidIn sh (now w)) ≡ true ⌝ }
+    requires { ⌜ IsFlag (solidIn sh (now w)) (flagIn (sh .rank) flag) ⌝ }
+    requires { ⌜ 1 ≤ sh .rank ⌝ }
+    requires { ⌜ coordinates sh (now w) ≤ length (now points) ⌝ }
+    ensures { λ res. ⌜ corner (sh .dimension) res ≡ flagColumns (solidOn sh (now (w .entry)) (now (points .entry)) (sh .dimension)) (flagIn (sh .rank) flag) ⌝ }
+{
+    let d = sh.dimension;
+    let mut rows = [[0.0; DIMENSION]; DIMENSION];
+    let mut f = flag;
+    let first = f.elements;
+    rows[0] = points::loaded(points, d, first[1]);
+    let mut i: usize = 1;
+    while i < d {
+        let next = turned(w, sh, f);
+        f = next;
+        let elements = f.elements;
+        rows[i] = points::loaded(points, d, elements[1]);
+        i += 1;
+    }
+    matrix::from_columns(rows, d)
+}
+
+// "Candidate: columns times the inverse of the first flag's."
+pub fn candidate(
+    w: &[u32],
+    sh: Shape,
+    points: &[f64],
+    flag: Flag,
+    inv: [[f64; DIMENSION]; DIMENSION],
+) -> [[f64; DIMENSION]; DIMENSION]
+    requires { ⌜ Held sh (now w) ⌝ }
+    requires { ⌜ diamond (solidIn sh (now w)) ≡ true ⌝ }
+    requires { ⌜ IsFlag (solidIn sh (now w)) (flagIn (sh .rank) flag) ⌝ }
+    requires { ⌜ 1 ≤ sh .rank ⌝ }
+    requires { ⌜ coordinates sh (now w) ≤ length (now points) ⌝ }
+    ensures { λ res. ⌜ corner (sh .dimension) res ≡ mulMat (flagColumns (solidOn sh (now (w .entry)) (now (points .entry)) (sh .dimension)) (flagIn (sh .rank) flag)) (corner (sh .dimension) inv) ⌝ }
+{
+    let d = sh.dimension;
+    matrix::product(columns(w, sh, points, flag), inv, d)
+}

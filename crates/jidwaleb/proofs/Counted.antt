@@ -1,0 +1,66 @@
+-- No answer of a copying call counts more than 2,048 copies, so that its code fits 64 bits.
+-- Assumes nothing.
+use mathlib.Core.Path.{_≡_, refl}
+use mathlib.Core.Bool.{Bool, true, false, _&&_}
+use mathlib.Core.List.{List}
+use Prim.Native.Nat.{ℕ, _*_, _/_, _^_, _≤_, _<_, min}
+use native.Mathlib.Omega.{arith}
+use lib.ListN.{length, take, replicate, length-take}
+use lib.Dec.{eqb, leb}
+use lib.Ieee.{Float}
+use Rattle.spec.specs.declared.Refusal.the-variants.{ShortSheet, Open}
+use Rattle.spec.specs.declared.Answer.{Answer}
+use Rattle.spec.specs.declared.Answer.the-variants.{Done, Refused}
+use Rattle.spec.specs.Refusal.{answerCount}
+use Rattle.spec.specs.Limits.{maxCount}
+use Rattle.spec.specs.Judged.{Judged, refused, passed}
+use Rattle.spec.specs.Lists.{holds, join}
+use Rattle.spec.specs.Matrix.{Vector, Matrix}
+use Rattle.spec.specs.Copying.{copies, points, matrices, copyTable, written, judgeCopy, copyOut, copyCall}
+use Rattle.spec.proofs.Accepted.{le-test}
+
+module _ (n : ℕ) (ms : List Matrix) (cs : List Vector) (outPoints : List Float) (outTable : List ℕ) where
+  abbrev cells : ℕ
+  cells = length ms * length cs
+
+  abbrev Within : Answer × List Float × List ℕ → Type 0
+  Within o = answerCount (o .0) ≤ n
+
+  out-count : Within (copyOut n ms cs outPoints outTable)
+  unfolding copyOut
+  out-count = go (leb (length cs) n) refl (leb cells (length outTable)) (holds eqb (length cs) (copyTable ms cs))
+    where
+      go : (a : Bool) → leb (length cs) n ≡ a → (b c : Bool) → Within (elim (a && b) [
+        | false ↦ (Refused ShortSheet (length (take n cs)), written (join (take n cs)) outPoints, outTable)
+        | true ↦ elim c [
+          | true ↦ (Refused Open (length (take n cs)), written (join (take n cs)) outPoints, written (replicate cells 65535) outTable)
+          | false ↦ (Done (length cs), written (join (take n cs)) outPoints, written (copyTable ms cs) outTable)
+        ]
+      ])
+      go false p b c = omega (arith, length-take n cs)
+      go true p false c = omega (arith, length-take n cs)
+      go true p true true = omega (arith, length-take n cs)
+      go true p true false = le-test (length cs) n p
+
+pub copy-count : (d : ℕ) (ps ts outPoints : List Float) (outTable : List ℕ) → answerCount (copyCall d ps ts outPoints outTable .0) < 2 ^ 32
+unfolding copyCall
+copy-count d ps ts outPoints outTable = go (judgeCopy d ps ts)
+  where
+    room : ℕ
+    room = min maxCount (length outPoints / d)
+
+    ms : List Matrix
+    ms = matrices d ts
+
+    cs : List Vector
+    cs = copies ms (points d ps)
+
+    Fits : Answer × List Float × List ℕ → Type 0
+    Fits o = answerCount (o .0) < 2 ^ 32
+
+    go : (j : Judged (Unit {0})) → Fits (elim j [
+      | refused why ↦ (Refused why 0, outPoints, outTable)
+      | passed u ↦ copyOut room ms cs outPoints outTable
+    ])
+    go (refused why) = omega arith
+    go (passed u) = omega (arith, out-count room ms cs outPoints outTable)

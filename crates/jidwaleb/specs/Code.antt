@@ -1,0 +1,13 @@
+-- How an answer goes over C's interface: as one number of 64 bits.
+-- Assumes nothing.
+use Prim.Native.Nat.{ℕ, _+_, _*_, _^_}
+use Rattle.spec.specs.declared.Answer.{Answer}
+use Rattle.spec.specs.Refusal.{answerNumber, answerCount}
+
+-- the refusal's number, or 0 where the call gave its result, above the count in the low 32 bits
+abbrev pub codeOf : Answer → ℕ
+codeOf a = answerNumber a * 2 ^ 32 + answerCount a
+
+-- a call's answer and its two outputs, with the answer as its code
+abbrev pub coded : {A B : Type 0} → Answer × A × B → ℕ × A × B
+coded x = (codeOf (x .0), x .1, x .2)

@@ -1,0 +1,274 @@
+-- A rank's elements, and the ranks one after another: what the cells hold says where elements go, as long as all are carried.
+-- Assumes nothing.
+use mathlib.Core.Path.{_≡_, refl, sym, _∙_, ap, ap₂}
+use mathlib.Core.Logic.{inl, inr}
+use mathlib.Core.Bool.{Bool, true, false}
+use mathlib.Core.List.{List}
+use Prim.Native.Nat.{ℕ, zero, suc, _+_, _-_, _*_, _≤_, _<_}
+use native.Mathlib.Numerals.{add-one}
+use native.Mathlib.Omega.{arith}
+use native.Mathlib.Decide.{ℕ-discrete}
+use lib.ListN.{length, getD, set, drop, length-set}
+use lib.Seq.{getD-take, getD-drop, getD-set-same, getD-set-other}
+use lib.Dec.{eqb}
+use lib.Ieee.{Float, nan}
+use Rattle.spec.specs.Lists.{eqList, range, every}
+use Rattle.spec.specs.Types.{size, properRanks, Classes}
+use Rattle.spec.specs.Demand.{Proper}
+use Rattle.spec.specs.Hull.{classes}
+use Rattle.spec.specs.Classes.{distances}
+use Rattle.spec.specs.Mark.{noRepeats, vertexSets, goes, carriesElement}
+use Rattle.spec.proofs.Distinct.{Once}
+use Rattle.spec.proofs.Counts.{lists}
+use Rattle.spec.proofs.Result.{proper-rank}
+use Rattle.spec.proofs.Marked.{every-in, no-repeats, Permutes}
+use Rattle.ranked.specs.declared.Shape.{Shape}
+use Rattle.ranked.specs.Words.{firstAt, sizeAt, total, solidIn, Held}
+use Rattle.ranked.proofs.Solids.{top-is, size-is, size-past, number-in}
+use Rattle.ranked.proofs.Turns.{Every, range-yes, range-no, range-end}
+use Rattle.geometry.specs.Classes.{sameClass}
+use Rattle.distances.specs.Solids.{coordinates, proper, before, beforeIn}
+use Rattle.distances.proofs.Ranks.{in-order}
+use Rattle.distances.proofs.ClassCells.{same-class-at, before-is}
+use Rattle.marks.specs.Rises.{risesTo, Reached, Landed}
+use Rattle.marks.specs.Rows.{setsApart, concrete, classesOn, ClassesIn, Row, Images, Rank}
+use Rattle.marks.proofs.Rises.{vertex-reached, reached}
+use Rattle.marks.proofs.Rows.{permuted}
+
+-- ---- a row
+
+module _ {sh : Shape} {w row : List ℕ} (a : Row sh w row) where
+  rows : Permutes (solidIn sh w) row
+  rows = let p = permuted row (a .permuted) in record { full = a .full; low = λ v m. rw (a .full) at (p .low v m); once = p .once }
+
+  sets : (r : ℕ) → Proper (solidIn sh w) r → Once (vertexSets (solidIn sh w) r)
+  unfolding setsApart
+  sets r p =
+      no-repeats eqList lists (vertexSets (solidIn sh w) r)
+      (every-in (λ q. noRepeats eqList (vertexSets (solidIn sh w) q)) (properRanks (solidIn sh w)) (a .apart) r (proper-rank (solidIn sh w) r p))
+
+  is-proper : (r : ℕ) → 1 ≤ r → r < sh .rank → Proper (solidIn sh w) r
+  is-proper r l k = (omega arith, omega (arith, top-is sh w))
+
+  module _ {cells : List ℕ} {r n : ℕ} (b : Rank sh w row cells r n) (e : ℕ) (h : e < n) where
+    pub in-rank : e < sizeAt sh r
+    in-rank = omega (arith, b .many)
+
+    in-solid : e < size (solidIn sh w) r
+    in-solid = rw (size-is sh w r (omega (arith, b .high))) in-rank
+
+    pub row-cell : r ≡ 1 → e < length row
+    row-cell q = let k : e < size (solidIn sh w) 1 = rw q at in-solid in omega (arith, a .full)
+
+    pub vertex-lands : r ≡ 1 → (x : ℕ) → x ≡ getD row e 0 → (cls : Classes) → Reached (solidIn sh w) cls row r e x
+    vertex-lands q x z cls =
+        let s = solidIn sh w in
+        let p : Proper s 1 = is-proper 1 (omega arith) (omega (arith, b .high)) in
+        rw (q, z) (vertex-reached s (a .held .sound) (a .held .filled) cls row rows p (sets 1 p) e (rw q at in-solid))
+
+    -- cells of the rank below
+    pub cells-low : 2 ≤ r → (f : ℕ) → f < sizeAt sh (r - 1) → getD cells (firstAt sh (r - 1) + f) 0 < sizeAt sh (r - 1)
+    cells-low two f k = let i = b .below two f k in rw (i .0) (i .1)
+
+  higher : (cells : List ℕ) (r n : ℕ) → Rank sh w row cells r n → 2 ≤ r → (e : ℕ) → e < n → (cls : Classes)
+      → Reached (solidIn sh w) cls row r e (risesTo (solidIn sh w) (λ f. getD cells (firstAt sh (r - 1) + f) 0) (r - 1) e)
+  higher cells zero n b two e h cls = absurd (omega arith)
+  higher cells (suc zero) n b two e h cls = absurd (omega arith)
+  higher cells (suc (suc q)) n b two e h cls =
+      let s = solidIn sh w in
+      let z : suc (suc q) - 1 ≡ suc q = omega arith in
+      let p = is-proper (suc q) (omega arith) (omega (arith, b .high)) in
+      let p′ = is-proper (suc (suc q)) (omega arith) (b .high) in
+      let i : Images sh w row cells (suc q) = rw z at (b .below two) in
+      let n₁ : size s (suc q) ≡ sizeAt sh (suc q) = size-is sh w (suc q) (omega (arith, b .high)) in
+      rw z (reached s (a .held .sound) (a .held .filled) cls row rows q p (λ f k. rw n₁ (i f (rw n₁ at k) .1)) p′ (sets (suc q) p) (sets (suc (suc q)) p′)
+      (λ f. getD cells (firstAt sh (suc q) + f) 0) (λ f k. i f (rw n₁ at k) .0) e (in-solid b e h))
+
+  pub element-lands : {cells : List ℕ} {r n : ℕ} → Rank sh w row cells r n → 2 ≤ r → (e : ℕ) → e < n
+      → (x : ℕ) → x ≡ risesTo (solidIn sh w) (λ f. getD cells (firstAt sh (r - 1) + f) 0) (r - 1) e → (cls : Classes) → Reached (solidIn sh w) cls row r e x
+  element-lands {cells} {r} {n} b two e h x z cls = rw z (higher cells r n b two e h cls)
+
+-- ---- classes
+
+-- the cells say who shares a class
+pub class-cells : (sh : Shape) (w : List ℕ) (fs : List Float) → Held sh w → ClassesIn sh w fs → (r e g : ℕ) → 1 ≤ r → r < sh .rank → e < sizeAt sh r → g < sizeAt sh r
+    → eqb (classesOn sh w fs r g) (classesOn sh w fs r e)
+    ≡ sameClass (getD fs (coordinates sh w + proper sh + (before sh r + g)) nan) (getD fs (coordinates sh w + proper sh + (before sh r + e)) nan)
+class-cells sh w fs h c r e g low high he hg =
+    let n = size-is sh w r (omega arith) in
+    same-class-at (concrete sh w fs) r g e low (omega (arith, top-is sh w)) (rw n hg) (rw n he) ∙ ap₂ sameClass (cell g hg) (cell e he)
+  where
+    cell : (k : ℕ) → k < sizeAt sh r
+        → getD (classes (distances (concrete sh w fs))) (beforeIn (solidIn sh w) r + k) nan ≡ getD fs (coordinates sh w + proper sh + (before sh r + k)) nan
+    cell k hk =
+        let b = before-is sh w h r low (omega arith) in
+        let o₁ = in-order sh w h 1 r low (omega arith) in
+        let o₂ = in-order sh w h (suc r) (sh .rank) high (omega arith) in
+        let o₃ = h .some r (omega arith) in
+        let i : before sh r + k < proper sh = omega arith in
+        rw (b, ← c .cells) (getD-take (proper sh) (drop (coordinates sh w + proper sh) fs) (before sh r + k) nan i ∙ getD-drop (coordinates sh w + proper sh) fs (before sh r + k) nan)
+
+-- the cell of a class lies in the floats
+module _ (sh : Shape) (w : List ℕ) (fs : List Float) (h : Held sh w) (c : ClassesIn sh w fs) (v : ℕ) (v-is : v ≡ size (solidIn sh w) 1)
+    (r e : ℕ) (low : 1 ≤ r) (high : r < sh .rank) (he : e < sizeAt sh r) where
+  pub ranks-lie : (r < 7) × (sh .rank < 7) × (firstAt sh 1 ≤ firstAt sh (sh .rank)) × (firstAt sh 1 ≤ firstAt sh r)
+  ranks-lie = (omega (arith, h .tall), omega (arith, h .tall), in-order sh w h 1 (sh .rank) (omega arith) (omega arith), in-order sh w h 1 r low (omega arith))
+
+  pub class-in : v * sh .dimension + proper sh + (before sh r + e) < length fs
+  class-in =
+      let o₁ = in-order sh w h 1 r low (omega arith) in
+      let o₂ = in-order sh w h (suc r) (sh .rank) high (omega arith) in
+      let o₃ = h .some r (omega arith) in
+      rw v-is (omega (arith, c .room))
+
+-- ---- an element
+
+module _ (sh : Shape) (w row : List ℕ) (cls : Classes) (r e n x : ℕ) (many : n ≡ sizeAt sh r) (high : r < sh .rank) (a : Reached (solidIn sh w) cls row r e x) where
+  size-of : size (solidIn sh w) r ≡ n
+  size-of = size-is sh w r (omega arith) ∙ sym many
+
+  pub nowhere : n ≤ x → Landed (solidIn sh w) cls row r e n
+  nowhere h = go a
+    where
+      go : Reached (solidIn sh w) cls row r e x → Landed (solidIn sh w) cls row r e n
+      go (inl (p, q, z)) = absurd (omega (arith, size-of))
+      go (inr (p, z)) = inr (omega (arith, size-of), z)
+
+  module _ (h : x < n) (b : Bool) (is : b ≡ eqb (cls r x) (cls r e)) where
+    pub other-class : b ≡ false → Landed (solidIn sh w) cls row r e n
+    other-class f = go a
+      where
+        go : Reached (solidIn sh w) cls row r e x → Landed (solidIn sh w) cls row r e n
+        go (inl (p, q, z)) = inr (omega (arith, size-of), z ∙ sym is ∙ f)
+        go (inr (p, z)) = inr (omega (arith, size-of), z)
+
+    pub its-class : b ≡ true → Landed (solidIn sh w) cls row r e x
+    its-class t = go a
+      where
+        go : Reached (solidIn sh w) cls row r e x → Landed (solidIn sh w) cls row r e x
+        go (inl (p, q, z)) = inl (p, q, z ∙ sym is ∙ t)
+        go (inr (p, z)) = absurd (omega (arith, size-of))
+
+-- ---- a rank's elements
+
+-- e elements of rank r are carried, and their cells are written
+pub record Turn (sh : Shape) (w row : List ℕ) (cls : Classes) (cells₀ : List ℕ) (r n base : ℕ) (cells : List ℕ) (e : ℕ) : Type 0 where
+  pub base-is : base ≡ firstAt sh r
+  pub bound : e ≤ n
+  pub long : length cells ≡ length cells₀
+  pub rank : Rank sh w row cells r n
+  pub done : (f : ℕ) → f < e → (getD cells (firstAt sh r + f) 0 ≡ goes (solidIn sh w) row r f) × (goes (solidIn sh w) row r f < sizeAt sh r)
+  pub rest : Every (carriesElement (solidIn sh w) cls row r) (range 0 (size (solidIn sh w) r)) e
+
+pub first-turn : (sh : Shape) (w row : List ℕ) (cls : Classes) (cells : List ℕ) (r n : ℕ) → Rank sh w row cells r n → Turn sh w row cls cells r n (firstAt sh r) cells 0
+first-turn sh w row cls cells r n b = record {
+  base-is = refl;
+  bound = omega arith;
+  long = refl;
+  rank = b;
+  done = λ f h. absurd (omega arith);
+  rest = refl;
+}
+
+module _ {sh : Shape} {w row : List ℕ} {cls : Classes} {cells₀ : List ℕ} {r n base : ℕ} {cells : List ℕ} {e : ℕ}
+    (t : Turn sh w row cls cells₀ r n base cells e) (h : Held sh w) where
+  many-in : n ≡ size (solidIn sh w) r
+  many-in = t .rank .many ∙ sym (size-is sh w r (omega (arith, t .rank .high)))
+
+  module _ (more : e < n) where
+    pub cell-in : base + e < length cells
+    cell-in = omega (arith, t .base-is, t .rank .room, number-in sh w h r e (omega (arith, t .rank .high)) (omega (arith, t .rank .many)))
+
+    pub turn-stop : (x : ℕ) → Landed (solidIn sh w) cls row r e x → n ≤ x → false ≡ every (carriesElement (solidIn sh w) cls row r) (range 0 (size (solidIn sh w) r))
+    turn-stop x l k = go l
+      where
+        go : Landed (solidIn sh w) cls row r e x → false ≡ every (carriesElement (solidIn sh w) cls row r) (range 0 (size (solidIn sh w) r))
+        go (inl (p, q, z)) = absurd (omega (arith, many-in))
+        go (inr (p, z)) = range-no (carriesElement (solidIn sh w) cls row r) 0 (size (solidIn sh w) r) e e (omega arith) (omega (arith, many-in)) (t .rest) z
+
+    pub turn-next : (x : ℕ) → Landed (solidIn sh w) cls row r e x → x < n → Turn sh w row cls cells₀ r n base (set cells (base + e) x) (e + 1)
+    turn-next x l k = go l
+      where
+        b : Rank sh w row cells r n
+        b = t .rank
+
+        -- the rank below stands before
+        below : 2 ≤ r → Images sh w row (set cells (base + e) x) (r - 1)
+        below two f m =
+            let z : suc (r - 1) ≡ r = omega arith in
+            let q : firstAt sh (suc (r - 1)) ≡ firstAt sh r = ap (λ (i : ℕ). firstAt sh i) z in
+            let i = b .below two f m in
+            (getD-set-other cells (base + e) (firstAt sh (r - 1) + f) x 0 (λ (d : firstAt sh (r - 1) + f ≡ base + e). omega (arith, t .base-is)) ∙ i .0, i .1)
+
+        go : Landed (solidIn sh w) cls row r e x → Turn sh w row cls cells₀ r n base (set cells (base + e) x) (e + 1)
+        go (inr (p, z)) = absurd (omega (arith, many-in))
+        go (inl (p, q, z)) = record {
+          base-is = t .base-is;
+          bound = omega arith;
+          long = length-set cells (base + e) x ∙ t .long;
+          rank = record { low = b .low; high = b .high; many = b .many; room = rw length-set (b .room); below = below };
+          done = λ f m. done f m (ℕ-discrete f e);
+          rest = range-yes (carriesElement (solidIn sh w) cls row r) 0 (size (solidIn sh w) r) e e (omega arith) (omega (arith, many-in)) (t .rest) z;
+        }
+          where
+            done : (f : ℕ) → f < e + 1 → Dec (f ≡ e) → (getD (set cells (base + e) x) (firstAt sh r + f) 0 ≡ goes (solidIn sh w) row r f) × (goes (solidIn sh w) row r f < sizeAt sh r)
+            done f m (yes y) =
+                let i : firstAt sh r + e ≡ base + e = omega (arith, t .base-is) in
+                rw (y, i) (getD-set-same cells (base + e) x 0 cell-in ∙ p, omega (arith, p, b .many))
+            done f m (no y) =
+                let i = t .done f (omega arith) in
+                (getD-set-other cells (base + e) (firstAt sh r + f) x 0 (λ (d : firstAt sh r + f ≡ base + e). y (omega (arith, t .base-is))) ∙ i .0, i .1)
+
+  pub turn-end : n ≤ e → (true ≡ every (carriesElement (solidIn sh w) cls row r) (range 0 (size (solidIn sh w) r))) × Images sh w row cells r
+  turn-end k = (
+    range-end (carriesElement (solidIn sh w) cls row r) 0 (size (solidIn sh w) r) e (omega (arith, many-in)) (t .rest),
+    λ f m. t .done f (omega (arith, t .rank .many)),
+  )
+
+-- ---- the ranks
+
+-- the ranks below r are carried, and the one just below has its cells
+pub record Round (sh : Shape) (w row : List ℕ) (cls : Classes) (cells₀ : List ℕ) (cells : List ℕ) (r : ℕ) : Type 0 where
+  pub low : 1 ≤ r
+  pub long : length cells ≡ length cells₀
+  pub room : total sh ≤ length cells
+  pub below : 2 ≤ r → Images sh w row cells (r - 1)
+  pub rest : Every (λ q. every (carriesElement (solidIn sh w) cls row q) (range 0 (size (solidIn sh w) q))) (range 1 (sh .rank - 1)) (r - 1)
+
+pub first-round : (sh : Shape) (w row : List ℕ) (cls : Classes) (cells : List ℕ) → total sh ≤ length cells → Round sh w row cls cells cells 1
+first-round sh w row cls cells h = record { low = omega arith; long = refl; room = h; below = λ two. absurd (omega arith); rest = refl }
+
+module _ {sh : Shape} {w row : List ℕ} {cls : Classes} {cells₀ cells : List ℕ} {r : ℕ} (t : Round sh w row cls cells₀ cells r) where
+  module _ (more : r < sh .rank) where
+    pub rank-now : (n : ℕ) → n ≡ firstAt sh (r + 1) - firstAt sh r → Rank sh w row cells r n
+    rank-now n e = record { low = t .low; high = more; many = rw (add-one r) at e; room = t .room; below = t .below }
+
+    pub round-stop : false ≡ every (carriesElement (solidIn sh w) cls row r) (range 0 (size (solidIn sh w) r))
+        → false ≡ every (λ q. every (carriesElement (solidIn sh w) cls row q) (range 0 (size (solidIn sh w) q))) (properRanks (solidIn sh w))
+    unfolding properRanks
+    round-stop e =
+        let l = t .low in
+        rw (top-is sh w) (range-no (λ q. every (carriesElement (solidIn sh w) cls row q) (range 0 (size (solidIn sh w) q))) 1 (sh .rank - 1) (r - 1) r (omega arith) (omega arith) (t .rest) (sym e))
+
+    pub round-next : true ≡ every (carriesElement (solidIn sh w) cls row r) (range 0 (size (solidIn sh w) r)) → (new : List ℕ) → length new ≡ length cells
+        → Images sh w row new r → Round sh w row cls cells₀ new (r + 1)
+    round-next e new k i =
+        let l = t .low in
+        let z : r + 1 - 1 ≡ r = omega arith in
+        let y : r - 1 + 1 ≡ r = omega arith in
+        let m = range-yes (λ q. every (carriesElement (solidIn sh w) cls row q) (range 0 (size (solidIn sh w) q))) 1 (sh .rank - 1) (r - 1) r (omega arith) (omega arith) (t .rest) (sym e) in
+        record { low = omega arith; long = k ∙ t .long; room = rw k (t .room); below = λ two. rw z i; rest = rw z (rw y at m) }
+
+  pub round-end : sh .rank ≤ r → true ≡ every (λ q. every (carriesElement (solidIn sh w) cls row q) (range 0 (size (solidIn sh w) q))) (properRanks (solidIn sh w))
+  unfolding properRanks
+  round-end h =
+      rw (top-is sh w) (range-end (λ q. every (carriesElement (solidIn sh w) cls row q) (range 0 (size (solidIn sh w) q))) 1 (sh .rank - 1) (r - 1) (omega arith) (t .rest))
+
+-- ---- the vertices
+
+pub few-vertices : (sh : Shape) (w : List ℕ) → Held sh w → size (solidIn sh w) 1 ≤ 2048
+few-vertices sh w h = go (sh .rank) refl
+  where
+    go : (k : ℕ) → sh .rank ≡ k → size (solidIn sh w) 1 ≤ 2048
+    go zero e = omega (arith, size-past sh w 1 (omega arith))
+    go (suc k) e = omega (arith, size-is sh w 1 (omega arith), h .few 1 (omega arith))

@@ -1,0 +1,38 @@
+-- The mark's clauses, as the program asks for them.
+-- Assumes nothing.
+use mathlib.Core.Path.{_≡_, refl}
+use mathlib.Core.Bool.{Bool, true, false, _&&_}
+use mathlib.Core.List.{List}
+use Prim.Native.Nat.{ℕ}
+use lib.ListN.{length}
+use lib.Dec.{eqb, ltb}
+use borrow.Author.Tests.{eq-eqb}
+use Rattle.spec.specs.Lists.{range, every}
+use Rattle.spec.specs.Types.{Solid, size, properRanks, Classes}
+use Rattle.spec.specs.Mark.{noRepeats, carriesElement, marked}
+use Rattle.marks.specs.Rows.{setsApart, permutes}
+
+regroup : (a c d e : Bool) → (a && true && c && d && e) ≡ (a && (c && d) && e)
+regroup true c d e = refl
+regroup false c d e = refl
+
+module _ (s : Solid) (cls : Classes) (row : List ℕ) (full : length row ≡ size s 1) where
+  pub marked-is : marked s cls row ≡ (setsApart s && permutes row && every (λ r. every (carriesElement s cls row r) (range 0 (size s r))) (properRanks s))
+  unfolding marked setsApart permutes
+  marked-is =
+      rw (eq-eqb (length row) (size s 1) full, ← full)
+      (regroup (setsApart s) (every (λ v. ltb v (length row)) row) (noRepeats eqb row) (every (λ r. every (carriesElement s cls row r) (range 0 (size s r))) (properRanks s)))
+
+  -- 1 or 0
+  abbrev bit : Bool → ℕ
+  bit b = elim b [ true ↦ 1 | false ↦ 0 ]
+
+  pub no-sets : setsApart s ≡ false → 0 ≡ bit (marked s cls row)
+  no-sets e = rw (marked-is, e)
+
+  module _ (apart : setsApart s ≡ true) where
+    pub no-row : permutes row ≡ false → 0 ≡ bit (marked s cls row)
+    no-row e = rw (marked-is, apart, e)
+
+    pub all-else : permutes row ≡ true → (b : Bool) → b ≡ every (λ r. every (carriesElement s cls row r) (range 0 (size s r))) (properRanks s) → bit b ≡ bit (marked s cls row)
+    all-else e b q = rw (marked-is, apart, e, q)

@@ -1,0 +1,108 @@
+-- Looking for the element whose subs are the images of an element's own, by the words.
+-- Assumes nothing.
+use mathlib.Core.Path.{_≡_, sym, _∙_, ap}
+use mathlib.Core.Bool.{Bool, true, false}
+use mathlib.Core.List.{List, _∷_}
+use Prim.Native.Nat.{ℕ, suc, _+_, _*_, _≤_, _<_}
+use native.Mathlib.Numerals.{add-one}
+use native.Mathlib.Omega.{arith}
+use lib.ListN.{length, getD, drop, drop-of-length-le}
+use lib.Seq.{drop-cons}
+use lib.Dec.{eqb}
+use borrow.Author.Tests.{eq-eqb, ne-eqb}
+use Rattle.spec.specs.Lists.{In, holds, keep, every}
+use Rattle.spec.specs.Types.{subs, sups}
+use Rattle.spec.proofs.Lists.{in-getD}
+use Rattle.ranked.specs.declared.Shape.{Shape}
+use Rattle.ranked.specs.Words.{firstAt, sizeAt, total, listAt, solidIn, Held}
+use Rattle.ranked.specs.Reading.{Lies, subsWord, supsWord, Each}
+use Rattle.ranked.proofs.Solids.{size-is, number-in, subs-lie, sups-lie, subs-listed, sups-listed, sub-in, sup-in}
+use Rattle.ranked.proofs.Judged.{keep-same}
+use Rattle.marks.specs.Rises.{onto, risesTo}
+
+-- ---- exactly onto
+
+module _ (to : ℕ → ℕ) (es gs : List ℕ) where
+  pub onto-not : (length es ≡ length gs → ⊥) → false ≡ onto to es gs
+  unfolding onto
+  onto-not h = rw (ne-eqb (length es) (length gs) h)
+
+  pub onto-is : length es ≡ length gs → (b : Bool) → b ≡ every (λ f. holds eqb (to f) gs) es → b ≡ onto to es gs
+  unfolding onto
+  onto-is h b e = rw (eq-eqb (length es) (length gs) h) e
+
+-- ---- the first that passes
+
+module _ (p : ℕ → Bool) (d : ℕ) where
+  kept-no : (x : ℕ) (l : List ℕ) → p x ≡ false → getD (keep p (x ∷ l)) 0 d ≡ getD (keep p l) 0 d
+  unfolding keep
+  kept-no x l e = rw (e, keep)
+
+  kept-yes : (x : ℕ) (l : List ℕ) → p x ≡ true → getD (keep p (x ∷ l)) 0 d ≡ x
+  unfolding keep
+  kept-yes x l e = rw (e, keep)
+
+  -- k elements in, what is left gives what the whole gives
+  abbrev pub First : List ℕ → ℕ → Type 0
+  First l k = getD (keep p (drop k l)) 0 d ≡ getD (keep p l) 0 d
+
+  module _ (l : List ℕ) (k : ℕ) (more : k < length l) (inv : First l k) where
+    pub first-no : p (getD l k 0) ≡ false → First l (k + 1)
+    first-no e = rw add-one (sym (ap (λ (m : List ℕ). getD (keep p m) 0 d) (drop-cons l k 0 more) ∙ kept-no _ _ e) ∙ inv)
+
+    pub first-yes : p (getD l k 0) ≡ true → getD l k 0 ≡ getD (keep p l) 0 d
+    first-yes e = sym (ap (λ (m : List ℕ). getD (keep p m) 0 d) (drop-cons l k 0 more) ∙ kept-yes _ _ e) ∙ inv
+
+  pub first-end : (l : List ℕ) (k : ℕ) → length l ≤ k → First l k → d ≡ getD (keep p l) 0 d
+  unfolding keep
+  first-end l k h inv = rw (drop-of-length-le l h) at inv
+
+-- ---- an element and its subs' images
+
+module _ (sh : Shape) (w : List ℕ) (h : Held sh w) (cells : List ℕ) (r e : ℕ) (high : suc r ≤ sh .rank) (he : e < sizeAt sh (suc r))
+    (room : total sh ≤ length cells) (low : (f : ℕ) → f < sizeAt sh r → getD cells (firstAt sh r + f) 0 < sizeAt sh r) where
+  pub list-is : listAt w (subsWord (firstAt sh (suc r)) e) ≡ subs (solidIn sh w) (suc r) e
+  list-is = subs-listed sh w h (suc r) e high he
+
+  pub some-sub : 0 < length (listAt w (subsWord (firstAt sh (suc r)) e))
+  some-sub = rw list-is (h .filled r e (rw (size-is sh w (suc r) high) he))
+
+  pub sub-cell : (f : ℕ) → In f (listAt w (subsWord (firstAt sh (suc r)) e)) → firstAt sh r + f < length cells
+  sub-cell f m = omega (arith, number-in sh w h r f (omega arith) (sub-in sh w h r e f high (rw list-is at m)))
+
+  -- the first sub, and where it goes
+  module _ (f y : ℕ) (f-is : f ≡ getD (listAt w (subsWord (firstAt sh (suc r)) e)) 0 0) (y-is : y ≡ getD cells (firstAt sh r + f) 0) where
+    sub-low : f < sizeAt sh r
+    sub-low = sub-in sh w h r e f high (rw (f-is, list-is) (in-getD 0 (subs (solidIn sh w) (suc r) e) 0 (rw list-is at some-sub)))
+
+    pub image-low : y < sizeAt sh r
+    image-low = rw y-is (low f sub-low)
+
+    pub over-lie : Lies w (supsWord (firstAt sh r) y)
+    over-lie = sups-lie sh w h r y (omega arith) image-low
+
+    over-is : listAt w (supsWord (firstAt sh r) y) ≡ sups (solidIn sh w) r y
+    over-is = sups-listed sh w h r y (omega arith) image-low
+
+    over-low : (g : ℕ) → In g (listAt w (supsWord (firstAt sh r) y)) → g < sizeAt sh (suc r)
+    over-low g m = sup-in sh w h r y g high (rw over-is at m)
+
+    pub each-lie : Each w (supsWord (firstAt sh r) y) (4 * firstAt sh (suc r))
+    each-lie g m =
+        let q : 4 * firstAt sh (suc r) + 4 * g ≡ subsWord (firstAt sh (suc r)) g = omega arith in
+        rw q (subs-lie sh w h (suc r) g high (over-low g m))
+
+    pub rises : (x : ℕ) → x ≡ getD (keep (λ g. onto (λ k. getD cells (firstAt sh r + k) 0) (listAt w (subsWord (firstAt sh (suc r)) e)) (listAt w (4 * firstAt sh (suc r) + 4 * g)))
+        (listAt w (supsWord (firstAt sh r) y))) 0 (sizeAt sh (suc r)) → x ≡ risesTo (solidIn sh w) (λ k. getD cells (firstAt sh r + k) 0) r e
+    unfolding risesTo
+    rises x q =
+        let s = solidIn sh w in
+        let to : ℕ → ℕ = λ k. getD cells (firstAt sh r + k) 0 in
+        let es = subs s (suc r) e in
+        let tests = keep-same (λ g. onto to (listAt w (subsWord (firstAt sh (suc r)) e)) (listAt w (4 * firstAt sh (suc r) + 4 * g))) (λ g. onto to es (subs s (suc r) g))
+        (listAt w (supsWord (firstAt sh r) y)) (λ g m.
+        let z : 4 * firstAt sh (suc r) + 4 * g ≡ subsWord (firstAt sh (suc r)) g = omega arith in
+        rw (list-is, z, subs-listed sh w h (suc r) g high (over-low g m))) in
+        let first : y ≡ to (getD es 0 0) = y-is ∙ ap to (f-is ∙ ap (λ (l : List ℕ). getD l 0 0) list-is) in
+        q ∙ ap (λ (l : List ℕ). getD l 0 (sizeAt sh (suc r))) (tests ∙ ap (keep (λ g. onto to es (subs s (suc r) g))) (over-is ∙ ap (sups s r) first))
+        ∙ ap (getD (keep (λ g. onto to es (subs s (suc r) g)) (sups s r (to (getD es 0 0)))) 0) (sym (size-is sh w (suc r) high))

@@ -1,0 +1,63 @@
+-- What is left of the list gives what the whole gives.
+-- Assumes nothing.
+use borrow.Author.Needs.{needs}
+use native.Mathlib.Omega.{arith}
+use mathlib.Core.Path.{_≡_, refl, sym, _∙_}
+use mathlib.Core.Bool.{Bool}
+use mathlib.Core.List.{List}
+use Prim.Native.Nat.{ℕ, _+_, _*_, _≤_, _-_}
+use lib.ListN.{length, getD}
+use Rattle.ranked.specs.Words.{listAt}
+use Rattle.ranked.specs.Reading.{Lies}
+use Rattle.ranked.proofs.Turns.{entry-in}
+use Rattle.marks.specs.Rises.{onto}
+use Rattle.marks.proofs.Found.{First, first-no, first-yes, first-end}
+use Rattle.marks.proofs.first_onto.Statement.{statement}
+use Rattle.marks.proofs.first_onto.Tie as tie
+
+abbrev p : List ℕ → List ℕ → ℕ → ℕ → ℕ → ℕ → Bool
+p w goes base i up g = onto (λ f. getD goes (base + f) 0) (listAt w i) (listAt w (up + 4 * g))
+
+abbrev Inv : tie.InvT-loop
+Inv w goes base i j up none n k₀ k = (k ≤ n) × (n ≡ length (listAt w j)) × First (p w goes base i up) none (listAt w j) k
+
+abbrev μ : tie.MeasureT-loop
+μ w goes base i j up none n k₀ k = n - k
+
+-- the entry's list lies within the words
+lies : (c : tie.After-entry-at Inv μ) → let a = c .before .before .before .before .before .before .args in Lies (a .w .now) (a .up + 4 * c .entry-at .result)
+lies c =
+    let l = c .before .before in
+    let s = l .before .before .before .before in
+    s .pre .0 .2 (c .entry-at .result) (entry-in (listAt (s .args .w .now) (s .args .j)) (l .loop .k) _ (omega (arith, c .before .loop-test .taken, l .loop .inv .1)) (c .entry-at .ensures))
+
+pub first-onto-spec : {M : Type 1} → statement M
+first-onto-spec =
+    tie.close
+    (tie.spec Inv μ
+    (λ c κs. search needs)
+    -- loop-holds, entry-at-requires
+    (λ c. (search needs, c .count-at .ensures, refl))
+    (λ c κs. (search needs, search needs))
+    -- mul-is-onto, add-is-onto, is-onto-requires
+    (λ c. omega (arith, lies c .head))
+    (λ c. omega (arith, lies c .head))
+    (λ c κs. let s = c .before .before .before .before .before .before in ((s .pre .0 .0, lies c), s .pre .1))
+    -- returns, add-k, loop-less, loop-again, returns-2
+    (λ c. let e = c .before .before in
+    let l = e .before .before in
+    let a = l .before .before .before .before .args in
+    e .entry-at .ensures ∙ first-yes (p (a .w .now) (a .goes .now) (a .base) (a .i) (a .up)) (a .none) _ (l .loop .k) (omega (arith, e .before .loop-test .taken, l .loop .inv .1)) (l .loop .inv .2)
+    (rw (e .entry-at .ensures) at (sym (c .before .is-onto .ensures) ∙ c .if1 .taken)))
+    (λ c. search needs)
+    (λ c. search needs)
+    (λ c. let e = c .before .before in
+    let l = e .before .before in
+    let a = l .before .before .before .before .args in (
+      search needs,
+      l .loop .inv .1,
+      first-no (p (a .w .now) (a .goes .now) (a .base) (a .i) (a .up)) (a .none) _ (l .loop .k) (omega (arith, e .before .loop-test .taken, l .loop .inv .1)) (l .loop .inv .2)
+          (rw (e .entry-at .ensures) at (sym (c .before .is-onto .ensures) ∙ c .if1 .left)),
+    ))
+    (λ c. let l = c .before in
+    first-end _ _ _ (l .loop .k) (omega (arith, c .loop-test .left, l .loop .inv .1)) (l .loop .inv .2)))

@@ -1,0 +1,51 @@
+-- The clauses one after another: the first that fails makes the mark 0.
+-- Assumes nothing.
+use borrow.Author.Tests.{not-true, not-false}
+use native.Mathlib.Omega.{arith}
+use mathlib.Core.Path.{_≡_, sym, _∙_}
+use mathlib.Core.Bool.{true, false}
+use Rattle.ranked.specs.Words.{solidIn}
+use Rattle.marks.specs.Rows.{setsApart, permutes, classesOn}
+use Rattle.marks.proofs.Carried.{few-vertices}
+use Rattle.marks.proofs.Confirmed.{no-sets, no-row, all-else}
+use Rattle.marks.proofs.mark.Statement.{statement}
+use Rattle.marks.proofs.mark.Tie as tie
+
+-- what the first two tests showed
+apart-is : (c : tie.Else1) → let s = c .before .before .before .before .before in setsApart (solidIn (s .args .sh) (s .args .w .now)) ≡ true
+apart-is c = let s = c .before .before .before .before .before in sym (s .pre .1 .0) ∙ not-false _ (c .if1 .left)
+
+row-is : (c : tie.Else2) → let s = c .before .before .before .before .before .before .before in permutes (s .args .row .now) ≡ true
+row-is c = sym (c .before .is-permutation .ensures) ∙ not-false _ (c .if2 .left)
+
+pub mark-spec : {M : Type 1} → statement M
+mark-spec =
+    tie.close
+    (tie.spec
+    -- returns, is-permutation-requires, returns-2
+    (λ c. let s = c .before .before .before .before .before in
+    let a = s .args in
+    no-sets _ (classesOn (a .sh) (a .w .now) (a .floats .now)) (a .row .now) (s .pre .1 .1 .0) (sym (s .pre .1 .0) ∙ not-true _ (c .if1 .taken)))
+    (λ c κs. let s = c .before .before .before .before .before in omega (arith, s .pre .1 .1 .0, few-vertices (s .args .sh) (s .args .w .now) (s .pre .0 .0)))
+    (λ c. let p = c .before in
+    let s = p .before .before .before .before .before .before in
+    let a = s .args in
+    no-row _ (classesOn (a .sh) (a .w .now) (a .floats .now)) (a .row .now) (s .pre .1 .1 .0) (apart-is (p .before)) (sym (p .is-permutation .ensures) ∙ not-true _ (c .if2 .taken)))
+    -- carry-all-requires
+    (λ c κs. let e = c .before in
+    let s = e .before .before .before .before .before .before .before in
+    (record { held = s .pre .0 .0; apart = apart-is (e .before .before); full = s .pre .1 .1 .0; permuted = row-is e }, s .pre .0 .1, s .pre .1 .1 .1))
+    -- same-length, returns-3
+    (λ c. c .before .before .before .carry-all .kept .1 .1 .1 .1 .0)
+    (λ c. let k = c .before .before .before in
+    let e = k .before .before in
+    let s = e .before .before .before .before .before .before .before in
+    let a = s .args in
+    all-else _ (classesOn (a .sh) (a .w .now) (a .floats .now)) (a .row .now) (s .pre .1 .1 .0) (apart-is (e .before .before)) (row-is e) false (sym (not-true _ (c .if3 .taken)) ∙ k .carry-all .ensures))
+    -- same-length-2, returns-4
+    (λ c. c .before .before .before .carry-all .kept .1 .1 .1 .1 .0)
+    (λ c. let k = c .before .before .before in
+    let e = k .before .before in
+    let s = e .before .before .before .before .before .before .before in
+    let a = s .args in
+    all-else _ (classesOn (a .sh) (a .w .now) (a .floats .now)) (a .row .now) (s .pre .1 .1 .0) (apart-is (e .before .before)) (row-is e) true (sym (not-false _ (c .if3 .left)) ∙ k .carry-all .ensures)))

@@ -1,0 +1,57 @@
+-- The row of a member beside the solid that stands in lent words, and the cells that say where each element goes.
+-- Assumes nothing.
+use mathlib.Core.Path.{_≡_}
+use Prim.Native.Nat.{ℕ, _+_, _-_, _≤_, _<_}
+use mathlib.Core.Bool.{Bool, true, _&&_}
+use mathlib.Core.List.{List}
+use lib.ListN.{length, getD, take, drop}
+use lib.Dec.{eqb, ltb}
+use lib.Ieee.{Float}
+use Rattle.spec.specs.Lists.{eqList, every}
+use Rattle.spec.specs.Types.{Solid, size, properRanks, Classes}
+use Rattle.spec.specs.Mark.{noRepeats, vertexSets, goes}
+use Rattle.spec.specs.Hull.{classes}
+use Rattle.spec.specs.Solid.{Concrete}
+use Rattle.spec.specs.Classes.{distances, classTable, byTable}
+use Rattle.ranked.specs.declared.Shape.{Shape}
+use Rattle.ranked.specs.Words.{firstAt, sizeAt, total, solidIn, Held}
+use Rattle.distances.specs.Solids.{solidOn, coordinates, proper}
+
+-- "no two elements of a rank have one vertex set"
+unfoldable pub setsApart : Solid → Bool
+setsApart s = every (λ r. noRepeats eqList (vertexSets s r)) (properRanks s)
+
+-- the row's entries are vertices, as many as there are entries, and none is there twice
+unfoldable pub permutes : List ℕ → Bool
+permutes row = every (λ v. ltb v (length row)) row && noRepeats eqb row
+
+-- the solid in the words w, with the coordinates that the floats start with, and its distance classes
+abbrev pub concrete : Shape → List ℕ → List Float → Concrete
+concrete sh w fs = solidOn sh w (take (coordinates sh w) fs) (sh .dimension)
+
+abbrev pub classesOn : Shape → List ℕ → List Float → Classes
+classesOn sh w fs = byTable (classTable (concrete sh w fs))
+
+-- the class of each proper element stands in the floats, behind the coordinates and the list
+pub record ClassesIn (sh : Shape) (w : List ℕ) (fs : List Float) : Type 0 where
+  pub room : coordinates sh w + proper sh + proper sh ≤ length fs
+  pub cells : take (proper sh) (drop (coordinates sh w + proper sh) fs) ≡ classes (distances (concrete sh w fs))
+
+-- a row that permutes the vertices of a solid that has no vertex set twice in a rank
+pub record Row (sh : Shape) (w row : List ℕ) : Type 0 where
+  pub held : Held sh w
+  pub apart : setsApart (solidIn sh w) ≡ true
+  pub full : length row ≡ size (solidIn sh w) 1
+  pub permuted : permutes row ≡ true
+
+-- cell firstAt sh r + e says where element e of rank r goes, and that is an element of the rank
+abbrev pub Images : Shape → List ℕ → List ℕ → List ℕ → ℕ → Type 0
+Images sh w row cells r = (e : ℕ) → e < sizeAt sh r → (getD cells (firstAt sh r + e) 0 ≡ goes (solidIn sh w) row r e) × (goes (solidIn sh w) row r e < sizeAt sh r)
+
+-- r is a proper rank of n elements, and the rank below has its images in the cells, unless it is the least's
+pub record Rank (sh : Shape) (w row cells : List ℕ) (r n : ℕ) : Type 0 where
+  pub low : 1 ≤ r
+  pub high : r < sh .rank
+  pub many : n ≡ sizeAt sh r
+  pub room : total sh ≤ length cells
+  pub below : 2 ≤ r → Images sh w row cells (r - 1)

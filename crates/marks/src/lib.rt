@@ -1,0 +1,253 @@
+// Section 6's mark: does a row, the vertex that each vertex goes to, carry every element of the solid in lent words to one of its rank and
+// distance class, subs exactly onto subs? An element's image is found by its subs' images, one rank after another; no vertex set is made.
+ghost use mathlib.Core.Path.{_≡_};
+ghost use mathlib.Core.Bool.{true, false};
+ghost use Prim.Native.Nat.{ℕ, suc, _+_, _*_, _^_, _≤_, _<_};
+ghost use lib.ListN.{length, getD};
+ghost use lib.Dec.{eqb};
+ghost use Rattle.spec.specs.Lists.{In, holds, range, keep, every};
+ghost use Rattle.spec.specs.Types.{size, properRanks, Classes};
+ghost use Rattle.spec.specs.Mark.{carriesElement, marked};
+ghost use Rattle.ranked.specs.Words.{firstAt, sizeAt, total, listAt, solidIn, Held};
+ghost use Rattle.ranked.specs.Reading.{Lies, Each};
+ghost use Rattle.distances.specs.Solids.{proper, before};
+ghost use Rattle.marks.specs.Rises.{onto, risesTo, Reached, Landed};
+ghost use Rattle.marks.specs.Rows.{setsApart, permutes, classesOn, ClassesIn, Row, Images, Rank};
+use geometry::classes;
+use ranked::Shape;
+use ranked::lists;
+
+// The cell at k.
+fn cell(cells: &[u16], k: usize) -> usize
+    requires { ⌜ k < length (now cells) ⌝ }
+    ensures { λ x. ⌜ x ≡ getD (now (cells .entry)) k 0 ⌝ }
+{
+    cells[k] as usize
+}
+
+// Does the row hold vertices only, and none twice? A rank has at most 2,048 elements.
+fn is_permutation(row: &[u16]) -> bool
+    requires { ⌜ length (now row) ≤ 2048 ⌝ }
+    ensures { λ res. ⌜ res ≡ permutes (now (row .entry)) ⌝ }
+{
+    let mut seen = [0u8; 2048];
+    let n = row.len();
+    let mut k: usize = 0;
+    while k < n {
+        let v = cell(row, k);
+        if n <= v {
+            return false;
+        }
+        if seen[v] == 1 {
+            return false;
+        }
+        seen[v] = 1;
+        k += 1;
+    }
+    true
+}
+
+// Does each entry f of the list at word i go to an entry of the list at word j? Cell base + f says where f goes.
+fn lands(w: &[u32], goes: &[u16], base: usize, i: usize, j: usize) -> bool
+    requires { ⌜ Lies (now w) i × Lies (now w) j ⌝ }
+    requires { ⌜ ((f : ℕ) → In f (listAt (now w) i) → base + f < length (now goes)) ⌝ }
+    ensures { λ res. ⌜ res ≡ every (λ f. holds eqb (getD (now (goes .entry)) (base + f) 0) (listAt (now (w .entry)) j)) (listAt (now (w .entry)) i) ⌝ }
+{
+    let n = lists::count_at(w, i);
+    let mut k: usize = 0;
+    while k < n {
+        let f = lists::entry_at(w, i, k);
+        let x = cell(goes, base + f);
+        if !lists::holds_at(w, j, x) {
+            return false;
+        }
+        k += 1;
+    }
+    true
+}
+
+// Does the list at word i go exactly onto the list at word j?
+fn is_onto(w: &[u32], goes: &[u16], base: usize, i: usize, j: usize) -> bool
+    requires { ⌜ Lies (now w) i × Lies (now w) j ⌝ }
+    requires { ⌜ ((f : ℕ) → In f (listAt (now w) i) → base + f < length (now goes)) ⌝ }
+    ensures { λ res. ⌜ res ≡ onto (λ f. getD (now (goes .entry)) (base + f) 0) (listAt (now (w .entry)) i) (listAt (now (w .entry)) j) ⌝ }
+{
+    if lists::count_at(w, i) != lists::count_at(w, j) {
+        return false;
+    }
+    lands(w, goes, base, i, j)
+}
+
+// The first entry g of the list at word j such that the list at word i goes exactly onto the list at word up + 4 * g; none, if there is none.
+fn first_onto(
+    w: &[u32],
+    goes: &[u16],
+    base: usize,
+    i: usize,
+    j: usize,
+    up: usize,
+    none: usize,
+) -> usize
+    requires { ⌜ Lies (now w) i × Lies (now w) j × Each (now w) j up ⌝ }
+    requires { ⌜ ((f : ℕ) → In f (listAt (now w) i) → base + f < length (now goes)) ⌝ }
+    ensures { λ res. ⌜ res ≡ getD (keep (λ g. onto (λ f. getD (now (goes .entry)) (base + f) 0) (listAt (now (w .entry)) i) (listAt (now (w .entry)) (up + 4 * g)))
+        (listAt (now (w .entry)) j)) 0 none ⌝ }
+{
+    let n = lists::count_at(w, j);
+    let mut k: usize = 0;
+    while k < n {
+        let g = lists::entry_at(w, j, k);
+        if is_onto(w, goes, base, i, up + 4 * g) {
+            return g;
+        }
+        k += 1;
+    }
+    none
+}
+
+// Where element e of rank r + 1, which has n elements, goes, by where rank r goes.
+fn rise(w: &[u32], sh: Shape, goes: &[u16], r: usize, e: usize, n: usize) -> usize
+    requires { ⌜ Held sh (now w) ⌝ }
+    requires { ⌜ (suc r ≤ sh .rank) × (e < sizeAt sh (suc r)) × (n ≡ sizeAt sh (suc r)) × (total sh ≤ length (now goes)) ⌝ }
+    requires { ⌜ ((f : ℕ) → f < sizeAt sh r → getD (now goes) (firstAt sh r + f) 0 < sizeAt sh r) ⌝ }
+    ensures { λ x. ⌜ x ≡ risesTo (solidIn sh (now (w .entry))) (λ f. getD (now (goes .entry)) (firstAt sh r + f) 0) r e ⌝ }
+{
+    let first = sh.first;
+    let base = first[r];
+    let up = first[r + 1];
+    let i = lists::subs_at(up, e);
+    let f = lists::entry_at(w, i, 0);
+    let y = cell(goes, base + f);
+    let j = lists::sups_at(base, y);
+    first_onto(w, goes, base, i, j, 4 * up, n)
+}
+
+// Where element e of rank r goes: a vertex as the row says.
+fn reach(w: &[u32], sh: Shape, row: &[u16], goes: &[u16], r: usize, e: usize, n: usize) -> usize
+    requires { ⌜ Row sh (now w) (now row) ⌝ }
+    requires { ⌜ Rank sh (now w) (now row) (now goes) r n × (e < n) ⌝ }
+    ensures { λ x. ⌜ ((cls : Classes) → Reached (solidIn sh (now (w .entry))) cls (now (row .entry)) r e x) ⌝ }
+{
+    if r == 1 {
+        return cell(row, e);
+    }
+    rise(w, sh, goes, r - 1, e, n)
+}
+
+// Where the class of element e of rank r stands, of a solid with v vertices: behind the coordinates and the list.
+fn class_cell(sh: Shape, v: usize, r: usize, e: usize) -> usize
+    requires { ⌜ (r < 7) × (sh .rank < 7) × (firstAt sh 1 ≤ firstAt sh (sh .rank)) × (firstAt sh 1 ≤ firstAt sh r) ⌝ }
+    requires { ⌜ v * sh .dimension + proper sh + (before sh r + e) < 2 ^ 64 ⌝ }
+    ensures { λ k. ⌜ k ≡ v * sh .dimension + proper sh + (before sh r + e) ⌝ }
+{
+    let first = sh.first;
+    let rank = sh.rank;
+    let d = sh.dimension;
+    v * d + (first[rank] - first[1]) + (first[r] - first[1] + e)
+}
+
+// Do elements e and g of rank r share a distance class?
+fn one_class(w: &[u32], sh: Shape, floats: &[f64], v: usize, r: usize, e: usize, g: usize) -> bool
+    requires { ⌜ Held sh (now w) ⌝ }
+    requires { ⌜ ClassesIn sh (now w) (now floats) × (v ≡ size (solidIn sh (now w)) 1) ⌝ }
+    requires { ⌜ (1 ≤ r) × (r < sh .rank) × (e < sizeAt sh r) × (g < sizeAt sh r) ⌝ }
+    ensures { λ res. ⌜ res ≡ eqb (classesOn sh (now (w .entry)) (now (floats .entry)) r g) (classesOn sh (now (w .entry)) (now (floats .entry)) r e) ⌝ }
+{
+    let a = class_cell(sh, v, r, g);
+    let b = class_cell(sh, v, r, e);
+    classes::same_class(floats[a], floats[b])
+}
+
+// Where element e of rank r goes, if it is carried: to an element of its class; else n, the rank's size.
+fn image_of(
+    w: &[u32],
+    sh: Shape,
+    floats: &[f64],
+    row: &[u16],
+    goes: &[u16],
+    r: usize,
+    e: usize,
+    n: usize,
+) -> usize
+    requires { ⌜ Row sh (now w) (now row) × ClassesIn sh (now w) (now floats) ⌝ }
+    requires { ⌜ Rank sh (now w) (now row) (now goes) r n × (e < n) ⌝ }
+    ensures { λ x. ⌜ Landed (solidIn sh (now (w .entry))) (classesOn sh (now (w .entry)) (now (floats .entry))) (now (row .entry)) r e x ⌝ }
+{
+    let x = reach(w, sh, row, goes, r, e, n);
+    if n <= x {
+        return n;
+    }
+    if !one_class(w, sh, floats, row.len(), r, e, x) {
+        return n;
+    }
+    x
+}
+
+// Is every element of rank r carried? If so, the cells say where each goes.
+fn carry_rank(
+    w: &[u32],
+    sh: Shape,
+    floats: &[f64],
+    row: &[u16],
+    goes: &mut [u16],
+    r: usize,
+    n: usize,
+) -> bool
+    requires { ⌜ Row sh (now w) (now row) × ClassesIn sh (now w) (now floats) ⌝ }
+    requires { ⌜ Rank sh (now w) (now row) (now goes) r n ⌝ }
+    ensures { λ res. ⌜ res ≡ every (carriesElement (solidIn sh (now (w .entry))) (classesOn sh (now (w .entry)) (now (floats .entry))) (now (row .entry)) r)
+        (range 0 (size (solidIn sh (now (w .entry))) r)) ⌝ }
+    ensures { λ res. ⌜ (res ≡ true → Images sh (now (w .entry)) (now (row .entry)) (now (goes .exit)) r) ⌝ }
+{
+    let first = sh.first;
+    let base = first[r];
+    let mut e: usize = 0;
+    while e < n {
+        let x = image_of(w, sh, floats, row, goes, r, e, n);
+        if n <= x {
+            return false;
+        }
+        goes[base + e] = x as u16;
+        e += 1;
+    }
+    true
+}
+
+// Is every proper element carried?
+fn carry_all(w: &[u32], sh: Shape, floats: &[f64], row: &[u16], goes: &mut [u16]) -> bool
+    requires { ⌜ Row sh (now w) (now row) × ClassesIn sh (now w) (now floats) × (total sh ≤ length (now goes)) ⌝ }
+    ensures { λ res. ⌜ res ≡ every (λ r. every (carriesElement (solidIn sh (now (w .entry))) (classesOn sh (now (w .entry)) (now (floats .entry))) (now (row .entry)) r)
+        (range 0 (size (solidIn sh (now (w .entry))) r))) (properRanks (solidIn sh (now (w .entry)))) ⌝ }
+{
+    let first = sh.first;
+    let rank = sh.rank;
+    let mut r: usize = 1;
+    while r < rank {
+        let n = first[r + 1] - first[r];
+        if !carry_rank(w, sh, floats, row, goes, r, n) {
+            return false;
+        }
+        r += 1;
+    }
+    true
+}
+
+// The mark of a row: 1, confirmed, or 0. `apart` says that no two elements of a rank have one vertex set. The cells of `goes`, one for each
+// element, are free before and after.
+pub fn mark(w: &[u32], sh: Shape, floats: &[f64], apart: bool, row: &[u16], goes: &mut [u16]) -> u8
+    requires { ⌜ Held sh (now w) × ClassesIn sh (now w) (now floats) ⌝ }
+    requires { ⌜ apart ≡ setsApart (solidIn sh (now w)) ⌝ }
+    requires { ⌜ (length (now row) ≡ size (solidIn sh (now w)) 1) × (total sh ≤ length (now goes)) ⌝ }
+    ensures { λ m. ⌜ m ≡ elim (marked (solidIn sh (now (w .entry))) (classesOn sh (now (w .entry)) (now (floats .entry))) (now (row .entry))) [ true ↦ 1 | false ↦ 0 ] ⌝ }
+{
+    if !apart {
+        return 0;
+    }
+    if !is_permutation(row) {
+        return 0;
+    }
+    if !carry_all(w, sh, floats, row, goes) {
+        return 0;
+    }
+    1
+}

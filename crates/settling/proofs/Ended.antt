@@ -1,0 +1,139 @@
+-- Sweeps one after another until the number of types stays: what is left gives what the whole gives.
+-- Assumes nothing.
+use mathlib.Core.Path.{_≡_, refl, sym, _∙_, ap}
+use mathlib.Core.Logic.{_≢_}
+use mathlib.Core.Bool.{Bool, true, false}
+use mathlib.Core.Option.{none, some}
+use mathlib.Core.List.{List}
+use Prim.Native.Nat.{ℕ, suc, _+_, _-_, _≤_, _<_}
+use native.Mathlib.Omega.{arith}
+use borrow.Author.Tests.{eq-eqb, ne-eqb}
+use lib.ListN.{length, take}
+use Rattle.spec.specs.Types.{Solid, elements, Classes, State, typeCount, start, sweepSteps, sweep, settle, result}
+use Rattle.spec.proofs.Steps.{Good, start-good}
+use Rattle.spec.proofs.Result.{sweep-proper, good-play}
+use Rattle.spec.proofs.TypeLaws as laws
+use Rattle.ranked.specs.declared.Shape.{Shape}
+use Rattle.ranked.specs.Words.{total, solidIn}
+use Rattle.distances.specs.Solids.{proper}
+use Rattle.distances.proofs.Room.{proper-is}
+use Rattle.element_types.specs.State.{stateIn, Sweepable, Countable}
+use Rattle.element_types.proofs.Sweeps.{sweepable-kept}
+use Rattle.settling.specs.Settle.{Started, Settles}
+
+-- ---- the definition
+
+module _ (s : Solid) (n : ℕ) (S : State) where
+  settle-yes : typeCount s (sweep s S) ≡ typeCount s S → settle s (suc n) S ≡ some (sweep s S)
+  unfolding settle
+  settle-yes e = rw (settle, eq-eqb (typeCount s (sweep s S)) (typeCount s S) e)
+
+  settle-no : typeCount s (sweep s S) ≢ typeCount s S → settle s (suc n) S ≡ settle s n (sweep s S)
+  unfolding settle
+  settle-no e = rw (settle, ne-eqb (typeCount s (sweep s S)) (typeCount s S) e)
+
+good-sweep : (s : Solid) (cls : Classes) (S : State) → Good s cls S → Good s cls (sweep s S)
+unfolding sweep
+good-sweep s cls S g = good-play s cls S (sweepSteps s) (sweep-proper s) g
+
+-- ---- the words
+
+-- w's types come of steps from the start by cls
+pub record Swept (sh : Shape) (low : ℕ) (w : List ℕ) (cls : Classes) : Type 0 where
+  pub sweepable : Sweepable sh low w
+  pub room : low + total sh ≤ length w
+  pub good : Good (solidIn sh (take low w)) cls (stateIn sh low w)
+
+-- v is swept from w and has `count` types, and what `left` more sweeps give of it, `all` give of w
+pub record Settling (sh : Shape) (low : ℕ) (w v : List ℕ) (count all left : ℕ) : Type 0 where
+  pub long : length v ≡ length w
+  pub lists : take low v ≡ take low w
+  pub many : count ≡ typeCount (solidIn sh (take low w)) (stateIn sh low v)
+  pub good : (cls : Classes) → Good (solidIn sh (take low w)) cls (stateIn sh low w) → Good (solidIn sh (take low w)) cls (stateIn sh low v)
+  pub rest : settle (solidIn sh (take low w)) left (stateIn sh low v) ≡ settle (solidIn sh (take low w)) all (stateIn sh low w)
+
+pub settling-first : (sh : Shape) (low : ℕ) (w : List ℕ) (count all : ℕ) → count ≡ typeCount (solidIn sh (take low w)) (stateIn sh low w) → Settling sh low w w count all all
+settling-first sh low w count all e = record { long = refl; lists = refl; many = e; good = λ cls g. g; rest = refl }
+
+module _ (sh : Shape) (low : ℕ) (w : List ℕ) (cls : Classes) (a : Swept sh low w cls) where
+  abbrev s : Solid
+  s = solidIn sh (take low w)
+
+  countable : (v : List ℕ) → length v ≡ length w → take low v ≡ take low w → Good s cls (stateIn sh low v) → Countable sh low v
+  countable v long lists g = record {
+    held = rw lists (a .sweepable .held);
+    room = omega (arith, a .room);
+    numbered = λ r b c. rw lists (laws.numbered s cls (stateIn sh low v) g r);
+  }
+
+  pub first-countable : Countable sh low w
+  first-countable = countable w refl refl (a .good)
+
+  -- one more
+  module _ (v : List ℕ) (count all left : ℕ) (i : Settling sh low w v count all left) where
+    pub ready : Sweepable sh low v
+    ready = sweepable-kept sh low w v (i .long) (i .lists) (a .sweepable)
+
+    pub left-countable : Countable sh low v
+    left-countable = countable v (i .long) (i .lists) (i .good cls (a .good))
+
+    pub none-left : left ≤ 0 → settle s all (stateIn sh low w) ≡ none
+    unfolding settle
+    none-left h = let z : left ≡ 0 = omega arith in sym (rw z at (i .rest))
+
+    module _ (u : List ℕ) (long : length u ≡ length v) (lists : take low u ≡ take low v) (state : stateIn sh low u ≡ sweep (solidIn sh (take low v)) (stateIn sh low v)) where
+      pub u-lists : take low u ≡ take low w
+      u-lists = lists ∙ i .lists
+
+      swept : stateIn sh low u ≡ sweep s (stateIn sh low v)
+      swept = rw (i .lists) at state
+
+      good-next : (c : Classes) → Good s c (stateIn sh low w) → Good s c (stateIn sh low u)
+      good-next c g = rw swept (good-sweep s c (stateIn sh low v) (i .good c g))
+
+      pub next-countable : Countable sh low u
+      next-countable = countable u (long ∙ i .long) u-lists (good-next cls (a .good))
+
+      module _ (more : 0 < left) (k : ℕ) (m : k ≡ typeCount (solidIn sh (take low u)) (stateIn sh low u)) where
+        count-is : k ≡ typeCount s (sweep s (stateIn sh low v))
+        count-is = (rw u-lists at m) ∙ ap (typeCount s) swept
+
+        opened : settle s (suc (left - 1)) (stateIn sh low v) ≡ settle s all (stateIn sh low w)
+        opened = let e : suc (left - 1) ≡ left = omega arith in rw e (i .rest)
+
+        pub stays : k ≡ count → settle s all (stateIn sh low w) ≡ some (stateIn sh low u)
+        stays e = sym opened ∙ settle-yes s (left - 1) (stateIn sh low v) (sym count-is ∙ e ∙ i .many) ∙ ap some (sym swept)
+
+        pub settling-next : k ≢ count → Settling sh low w u k all (left - 1)
+        settling-next e = record {
+          long = long ∙ i .long;
+          lists = u-lists;
+          many = rw u-lists at m;
+          good = good-next;
+          rest = ap (settle s (left - 1)) swept ∙ sym (settle-no s (left - 1) (stateIn sh low v) (λ z. e (count-is ∙ z ∙ sym (i .many)))) ∙ opened;
+        }
+
+-- ---- from the start
+
+module _ (sh : Shape) (low : ℕ) (z : List ℕ) (a : Started sh low z) (w : List ℕ) (long : length w ≡ length z) (lists : take low w ≡ take low z)
+    (state : stateIn sh low w ≡ sweep (solidIn sh (take low z)) (stateIn sh low z)) where
+  -- the first sweep
+  pub once : Swept sh low w (a .classes)
+  once = record {
+    sweepable = sweepable-kept sh low z w long lists (a .sweepable);
+    room = omega (arith, a .room);
+    good = rw (lists, state, a .state) (good-sweep (solidIn sh (take low z)) (a .classes) (start (solidIn sh (take low z)) (a .classes)) (start-good (solidIn sh (take low z)) (a .classes)));
+  }
+
+  -- and those after it
+  pub ended : (E : ℕ) → E ≡ proper sh → (v : List ℕ) (settled : Bool) → take low v ≡ take low w → Countable sh low v
+      → settle (solidIn sh (take low w)) (E + 1) (stateIn sh low w) ≡ elim settled [ true ↦ some (stateIn sh low v) | false ↦ none ] → Settles sh low z v settled
+  unfolding result
+  ended E p v settled k c e =
+      let q : E ≡ elements (solidIn sh (take low z)) = p ∙ proper-is sh (take low z) (a .sweepable .held) in
+      record {
+        lists = k ∙ lists;
+        numbered = c;
+        ends = λ cls b. let f : settle (solidIn sh (take low z)) (elements (solidIn sh (take low z)) + 1) (sweep (solidIn sh (take low z)) (stateIn sh low z)) ≡ elim settled [ true ↦ some (stateIn sh low v) | false ↦ none ] = rw (lists, state, q) at e in
+            rw b at f;
+      }

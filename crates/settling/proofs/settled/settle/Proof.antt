@@ -1,0 +1,71 @@
+-- What is left of the sweeps gives what those after the first give.
+-- Assumes nothing.
+use borrow.Author.Needs.{needs}
+use native.Mathlib.Omega.{arith}
+use mathlib.Core.Path.{_∙_}
+use lib.ListN.{take}
+use Rattle.settling.proofs.Ended.{Swept, Settling, settling-first, first-countable, ready, left-countable, none-left, u-lists, next-countable, stays, settling-next, once, ended}
+use Rattle.settling.proofs.settled.settle.Statement.{statement}
+use Rattle.settling.proofs.settled.settle.Tie as tie
+
+abbrev Inv : tie.InvT-loop
+Inv words₀ low sh count₀ left₀ words count left = Settling sh low words₀ words count left₀ left
+
+abbrev μ : tie.MeasureT-loop
+μ words₀ low sh count₀ left₀ words count left = left
+
+-- after the first sweep
+swept : (u : tie.After-sweep Inv μ) → let s = u .before .before .before in Swept (s .args .sh) (s .args .low) (u .sweep .last .0) (s .pre .classes)
+swept u = once _ _ _ (u .before .before .before .pre) _ (u .sweep .kept .0) (u .sweep .ensures .0) (u .sweep .ensures .1)
+
+-- before the loop
+first : (l : tie.At-loop Inv μ) → tie.After-sweep Inv μ
+first l = l .before .before .before .before .before .before
+
+pub settle-spec : {M : Type 1} → statement M
+unfolding first
+settle-spec =
+    tie.close
+    (tie.spec Inv μ
+    -- sweep-requires, type-count-requires
+    (λ c κs. c .before .before .pre .sweepable)
+    (λ c κs. first-countable _ _ _ _ (swept (c .before .before .before)))
+    -- proper-count-requires, add-left
+    (λ c κs. let s = c .before .before .before .before .before .before .before in
+    (take (s .args .low) (s .args .words .now), s .pre .sweepable .held))
+    (λ c. let s = c .before .before .before .before .before .before .before .before in
+    omega (arith, c .proper-count .ensures, s .pre .room, s .pre .sweepable .held .some (s .args .sh .rank) (omega arith)))
+    -- loop-holds
+    (λ c. settling-first _ _ _ _ _ (c .before .type-count .ensures))
+    -- sweep-requires-2, type-count-requires-2
+    (λ c κs. let l = c .before .before in ready _ _ _ _ (swept (first l)) _ _ _ _ (l .loop .inv))
+    (λ c κs. let u = c .before .before .before in
+    let l = u .before .before .before in
+    next-countable _ _ _ _ (swept (first l)) _ _ _ _ (l .loop .inv) _ (u .sweep2 .kept .0) (u .sweep2 .ensures .0) (u .sweep2 .ensures .1))
+    -- same-length, returns
+    (λ c. let u = c .before .before .before .before .before in
+    let l = u .before .before .before in
+    u .sweep2 .kept .0 ∙ l .loop .inv .long ∙ first l .sweep .kept .0)
+    (λ c. let t = c .before in
+    let u = t .before .before .before .before in
+    let i = u .before .before in
+    let l = i .before in
+    let f = first l in
+    ended _ _ _ (f .before .before .before .pre) _ (f .sweep .kept .0) (f .sweep .ensures .0) (f .sweep .ensures .1) _ (l .before .proper-count .ensures) _ _
+    (u-lists _ _ _ _ (swept f) _ _ _ _ (l .loop .inv) _ (u .sweep2 .kept .0) (u .sweep2 .ensures .0) (u .sweep2 .ensures .1))
+    (next-countable _ _ _ _ (swept f) _ _ _ _ (l .loop .inv) _ (u .sweep2 .kept .0) (u .sweep2 .ensures .0) (u .sweep2 .ensures .1))
+    (stays _ _ _ _ (swept f) _ _ _ _ (l .loop .inv) _ (u .sweep2 .kept .0) (u .sweep2 .ensures .0) (u .sweep2 .ensures .1) (i .loop-test .taken) _ (t .type-count2 .ensures) (c .if1 .taken)))
+    -- sub-left, loop-less, loop-again
+    (λ c. search needs)
+    (λ c. search needs)
+    (λ c. let t = c .before in
+    let u = t .before .before .before .before in
+    let i = u .before .before in
+    let l = i .before in
+    settling-next _ _ _ _ (swept (first l)) _ _ _ _ (l .loop .inv) _ (u .sweep2 .kept .0) (u .sweep2 .ensures .0) (u .sweep2 .ensures .1) (i .loop-test .taken) _ (t .type-count2 .ensures) (c .if1 .left))
+    -- same-length-2, returns-2
+    (λ c. let l = c .before in l .loop .inv .long ∙ first l .sweep .kept .0)
+    (λ c. let l = c .before in
+    let f = first l in
+    ended _ _ _ (f .before .before .before .pre) _ (f .sweep .kept .0) (f .sweep .ensures .0) (f .sweep .ensures .1) _ (l .before .proper-count .ensures) _ _
+    (l .loop .inv .lists) (left-countable _ _ _ _ (swept f) _ _ _ _ (l .loop .inv)) (none-left _ _ _ _ (swept f) _ _ _ _ (l .loop .inv) (c .loop-test .left))))

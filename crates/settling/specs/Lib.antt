@@ -1,0 +1,3 @@
+pub mod Start
+pub mod Settle
+pub mod Typed

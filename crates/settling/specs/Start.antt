@@ -1,0 +1,60 @@
+-- "Start: elements of a proper rank share a type exactly when they share a distance class", as a program numbers them in lent words.
+-- Assumes nothing.
+use mathlib.Core.Path.{_≡_}
+use mathlib.Core.Logic.{_⊎_}
+use mathlib.Core.List.{List, map}
+use Prim.Native.Nat.{ℕ, _+_, _^_, _≤_, _<_}
+use lib.ListN.{length, getD, take, drop}
+use lib.Dec.{eqb}
+use lib.Ieee.{Float, nan}
+use Rattle.spec.specs.Lists.{renumber, range}
+use Rattle.spec.specs.Types.{start}
+use Rattle.spec.specs.Hull.{classes}
+use Rattle.spec.specs.Classes.{distances, classTable, byTable}
+use Rattle.ranked.specs.declared.Shape.{Shape}
+use Rattle.ranked.specs.Words.{total, solidIn}
+use Rattle.ranked.specs.Bench.{solidAt}
+use Rattle.geometry.specs.Classes.{sameClass}
+use Rattle.distances.specs.Solids.{proper}
+use Rattle.element_types.specs.State.{stateIn, Sweepable}
+
+-- ---- a rank
+
+-- element e's class: the classes of its rank stand from cell `from`
+abbrev pub cellAt : List Float → ℕ → ℕ → Float
+cellAt cells from e = getD cells (from + e) nan
+
+-- the classes of the m elements whose numbers the words from `reps` hold
+unfoldable pub repCells : List ℕ → ℕ → ℕ → List Float → ℕ → List Float
+repCells w reps m cells from = map (λ j. cellAt cells from (getD w (reps + j) 0)) (range 0 m)
+
+-- two of the n elements have the same number exactly when their cells are one class
+abbrev pub Shares : List Float → ℕ → ℕ → (ℕ → ℕ) → Type 0
+Shares cells from n cls = (e g : ℕ) → e < n → g < n → eqb (cls e) (cls g) ≡ sameClass (cellAt cells from e) (cellAt cells from g)
+
+-- there is room for n numbers from word `to`, and for n elements from word `reps`; n cells are there
+pub record Fitting (w : List ℕ) (to reps n : ℕ) (cells : List Float) (from : ℕ) : Type 0 where
+  pub apart : to + n ≤ reps
+  pub room : reps + n ≤ length w
+  pub inside : from + n ≤ length cells
+  pub small : n < 2 ^ 32
+
+-- the n numbers are those of the classes, by first appearance, and nothing else below `reps` changed
+pub record ByClass (w v : List ℕ) (to reps n : ℕ) (cells : List Float) (from : ℕ) : Type 0 where
+  pub long : length v ≡ length w
+  pub others : (i : ℕ) → i < reps → (i < to) ⊎ (to + n ≤ i) → getD v i 0 ≡ getD w i 0
+  pub numbers : (cls : ℕ → ℕ) → Shares cells from n cls → take n (drop to v) ≡ renumber eqb (map cls (range 0 n))
+
+-- ---- all ranks
+
+-- there is room for the types and what numbering them uses, and each proper element has its cell
+pub record Startable (sh : Shape) (low : ℕ) (w : List ℕ) (cells : List Float) : Type 0 where
+  pub sweepable : Sweepable sh low w
+  pub room : low + total sh ≤ length w
+  pub inside : proper sh ≤ length cells
+
+-- The lists stay. Where the cells are the classes of the solid with some coordinates, the types are its start
+pub record Begins (sh : Shape) (low : ℕ) (w v : List ℕ) (cells : List Float) : Type 0 where
+  pub lists : take low v ≡ take low w
+  pub state : (fs : List Float) → take (proper sh) cells ≡ classes (distances (solidAt sh low w fs))
+      → stateIn sh low v ≡ start (solidIn sh (take low w)) (byTable (classTable (solidAt sh low w fs)))

@@ -1,0 +1,43 @@
+// Section 4's start from the distance classes, the sweeps until one leaves the number of types, and the types of a solid that lies in lent words
+// and floats.
+use distances::all_classes;
+use ranked::Shape;
+ghost use mathlib.Core.Path.{_≡_};
+ghost use mathlib.Core.List.{List};
+ghost use Prim.Native.Nat.{ℕ, _+_};
+ghost use Rattle.ranked.specs.Words.{Held};
+ghost use Rattle.ranked.specs.Bench.{Bench};
+ghost use Rattle.distances.specs.Solids.{coordinates, proper};
+ghost use Rattle.settling.specs.Typed.{Typed};
+
+pub mod numbering;
+pub mod settled;
+pub mod starting;
+
+use crate::settled::settle;
+use crate::starting::start;
+
+// Where the classes stand: behind the coordinates, and room for one listed value an element.
+fn class_cells(sh: Shape) -> usize
+    requires { ⌜ ((w : List ℕ) × Held sh w) ⌝ }
+    ensures { λ n. ⌜ ((w : List ℕ) → Held sh w → n ≡ coordinates sh w + proper sh) ⌝ }
+{
+    let rank = sh.rank;
+    if rank == 0 {
+        return 0;
+    }
+    let first = sh.first;
+    let d = sh.dimension;
+    (first[2] - first[1]) * d + (first[rank] - first[1])
+}
+
+// The types of the solid that lies in the words and floats: its elements' distance classes, section 4's start, and the sweeps. False is refusal 15.
+pub fn types_of(words: &mut [u32], low: usize, sh: Shape, floats: &mut [f64]) -> bool
+    requires { ⌜ Bench sh low (now words) (now floats) ⌝ }
+    ensures { λ r. ⌜ Typed sh low (now (words .entry)) (now (words .exit)) (now (floats .entry)) (now (floats .exit)) r ⌝ }
+{
+    all_classes(&words[..low], sh, floats);
+    let cell = class_cells(sh);
+    start(words, low, sh, &floats[cell..]);
+    settle(words, low, sh)
+}

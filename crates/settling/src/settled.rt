@@ -1,0 +1,43 @@
+// "Sweeps end when one leaves the number of types unchanged, the first never."
+use element_types::counting::type_count;
+use element_types::sweeping::sweep;
+use ranked::Shape;
+ghost use mathlib.Core.Path.{_≡_};
+ghost use mathlib.Core.List.{List};
+ghost use Prim.Native.Nat.{ℕ};
+ghost use Rattle.ranked.specs.Words.{Held};
+ghost use Rattle.distances.specs.Solids.{proper};
+ghost use Rattle.settling.specs.Settle.{Started, Settles};
+
+// "E counts proper elements".
+fn proper_count(sh: Shape) -> usize
+    requires { ⌜ ((w : List ℕ) × Held sh w) ⌝ }
+    ensures { λ n. ⌜ n ≡ proper sh ⌝ }
+{
+    let rank = sh.rank;
+    if rank == 0 {
+        return 0;
+    }
+    let first = sh.first;
+    first[rank] - first[1]
+}
+
+// Sweeps from the start until the number of types stays: true. False is refusal 15, "E + 2 sweeps done, still changing".
+pub fn settle(words: &mut [u32], low: usize, sh: Shape) -> bool
+    requires { ⌜ Started sh low (now words) ⌝ }
+    ensures { λ r. ⌜ Settles sh low (now (words .entry)) (now (words .exit)) r ⌝ }
+{
+    sweep(words, low, sh);
+    let mut count = type_count(words, low, sh);
+    let mut left = proper_count(sh) + 1;
+    while 0 < left {
+        sweep(words, low, sh);
+        let next = type_count(words, low, sh);
+        if next == count {
+            return true;
+        }
+        count = next;
+        left -= 1;
+    }
+    false
+}

@@ -1,0 +1,58 @@
+// What the line of members counts.
+ghost use mathlib.Core.Path.{_≡_};
+ghost use Prim.Native.Nat.{_*_, _≤_, _<_, _^_};
+ghost use lib.ListN.{length, take};
+ghost use mathlib.Core.List.{[], _∷_, map};
+ghost use Rattle.spec.specs.Limits.{maxDimension};
+ghost use Rattle.spec.specs.Lists.{sum};
+ghost use Rattle.spec.specs.Copying.{parts};
+ghost use Rattle.float.specs.Reading.{corner};
+ghost use Rattle.text.specs.Members.{rotationCount};
+use float::DIMENSION;
+use float::matrix;
+use float::points;
+
+fn wide(x: u8) -> usize
+    ensures { λ r. ⌜ (r ≡ x) × (r < 256) ⌝ }
+{
+    x as usize
+}
+
+// How many of the first n members are marked: a mark is 1 or 0.
+pub fn confirmed(marks: &[u8], n: usize) -> usize
+    requires { ⌜ (n ≤ length (now marks)) × (255 * n < 2 ^ 64) ⌝ }
+    ensures { λ r. ⌜ r ≡ sum (take n (now (marks .entry))) ⌝ }
+{
+    let mut held: usize = 0;
+    let mut i: usize = 0;
+    while i < n {
+        held += wide(marks[i]);
+        i += 1;
+    }
+    held
+}
+
+// 1 for a matrix "of determinant above 0", and else 0.
+fn rotation(m: [[f64; DIMENSION]; DIMENSION], d: usize) -> usize
+    requires { ⌜ d ≤ maxDimension ⌝ }
+    ensures { λ r. ⌜ r ≡ rotationCount (corner d m ∷ []) ⌝ }
+{
+    if 0.0 < matrix::determinant(m, d) {
+        return 1;
+    }
+    0
+}
+
+// How many of the n matrices, row by row, are rotations.
+pub fn rotations(matrices: &[f64], d: usize, n: usize) -> usize
+    requires { ⌜ (d ≤ maxDimension) × (n * (d * d) ≤ length (now matrices)) ⌝ }
+    ensures { λ r. ⌜ r ≡ rotationCount (map (parts d d) (parts n (d * d) (now (matrices .entry)))) ⌝ }
+{
+    let mut held: usize = 0;
+    let mut j: usize = 0;
+    while j < n {
+        held += rotation(points::matrix_at(matrices, d, j), d);
+        j += 1;
+    }
+    held
+}

@@ -1,0 +1,50 @@
+// What every line is made of: given bytes, and numbers in decimal.
+ghost use mathlib.Core.Path.{_≡_};
+ghost use mathlib.Core.List.{_++_};
+ghost use Prim.Native.Nat.{_+_, _≤_, _<_};
+ghost use lib.ListN.{length};
+ghost use Rattle.spec.specs.KitText.{decimal};
+ghost use Rattle.text.specs.Puts.{Puts};
+
+pub fn put_bytes(out: &mut [u8], at: usize, s: &[u8]) -> usize
+    requires { ⌜ at + length (now s) ≤ length (now out) ⌝ }
+    ensures { λ r. ⌜ Puts at (now (s .entry)) (now (out .entry)) (now (out .exit)) r ⌝ }
+{
+    let mut i: usize = 0;
+    while i < s.len() {
+        out[at + i] = s[i];
+        i += 1;
+    }
+    at + i
+}
+
+// The character of a digit.
+fn digit(n: usize) -> u8
+    requires { ⌜ n < 10 ⌝ }
+    ensures { λ r. ⌜ r ≡ 48 + n ⌝ }
+{
+    b'0' + n as u8
+}
+
+// The digits in order: those of a tenth first.
+pub fn put_decimal(out: &mut [u8], at: usize, n: usize) -> usize
+    requires { ⌜ at + length (decimal n) ≤ length (now out) ⌝ }
+    ensures { λ r. ⌜ Puts at (decimal n) (now (out .entry)) (now (out .exit)) r ⌝ }
+{
+    if n < 10 {
+        out[at] = digit(n);
+        return at + 1;
+    }
+    let end = put_decimal(out, at, n / 10);
+    out[end] = digit(n % 10);
+    end + 1
+}
+
+// A number behind its label.
+pub fn put_labelled(out: &mut [u8], at: usize, label: &[u8], n: usize) -> usize
+    requires { ⌜ at + length (now label ++ decimal n) ≤ length (now out) ⌝ }
+    ensures { λ r. ⌜ Puts at (now (label .entry) ++ decimal n) (now (out .entry)) (now (out .exit)) r ⌝ }
+{
+    let end = put_bytes(out, at, label);
+    put_decimal(out, end, n)
+}

@@ -1,0 +1,38 @@
+-- Demand 3's claims about states, of the cells that a types call leaves: what a caller may go by.
+-- Assumes nothing.
+use mathlib.Core.Path.{_≡_}
+use mathlib.Core.Logic.{_≢_}
+use mathlib.Core.List.{List}
+use Prim.Native.Nat.{ℕ, _+_, _<_}
+use lib.ListN.{getD}
+use Rattle.spec.specs.declared.Answer.the-variants.{Done}
+use Rattle.spec.specs.Judged.{passed}
+use Rattle.spec.specs.Types.{Solid, size, State, typeOf, start, Step, play}
+use Rattle.spec.specs.Demand.{Proper, AllProper, Steady}
+use Rattle.spec.specs.Solid.{Concrete, preflight}
+use Rattle.spec.specs.Classes.{classTable, byTable}
+use Rattle.spec.specs.Calls.{TypesOut, typesCall}
+use Rattle.distances.specs.Solids.{beforeIn}
+
+-- the cell of element e of rank r: "by rising rank and index"
+abbrev pub typeCell : Solid → List ℕ → ℕ → ℕ → ℕ
+typeCell s cells r e = getD cells (beforeIn s r + e) 0
+
+-- of a state S after a list of steps, and the cells of the proper elements. The least and the top have one element each, and no cell
+pub record CellsAgree (s : Solid) (S : State) (cells : List ℕ) : Type 0 where
+  -- what S tells apart, the cells tell apart
+  pub finer : (r e f : ℕ) → Proper s r → e < size s r → f < size s r → typeOf S r e ≢ typeOf S r f → typeCell s cells r e ≢ typeCell s cells r f
+  -- if no step would part more, the cells hold its numbers
+  pub final : Steady s S → (r e : ℕ) → Proper s r → e < size s r → typeCell s cells r e ≡ typeOf S r e
+
+-- of the sheet b, whose types stand in the cells
+pub record Demand3Cells (b : List ℕ) (words floats : ℕ) (cells : List ℕ) : Type 0 where
+  pub solid : Concrete
+  pub read : preflight b words floats ≡ passed solid
+  -- "a single theorem over the whole list of steps"
+  pub steps : (xs : List Step) → AllProper (solid .abs) xs → CellsAgree (solid .abs) (play (solid .abs) (start (solid .abs) (byTable (classTable solid))) xs) cells
+
+-- of any call that is done: the equation is what the call's contract says
+abbrev pub Demand3Outputs : Type 0
+Demand3Outputs =
+    (b : List ℕ) (words floats : ℕ) (old new : TypesOut) (n : ℕ) → (Done n, new) ≡ typesCall b words floats old → Demand3Cells b words floats (new .elements)

@@ -1,0 +1,3 @@
+pub mod Cells
+pub mod Call
+pub mod Demand3

@@ -1,0 +1,123 @@
+// "The result gives the type of each proper element, by rising rank and index, and for each type its example (lowest element) and count."
+use element_types::counting::type_count;
+use ranked::Shape;
+use ranked::lists::get;
+use spec::Answer;
+use spec::Refusal;
+ghost use mathlib.Core.Path.{_≡_};
+ghost use Prim.Native.Nat.{_+_, _*_, _≤_, _<_};
+ghost use mathlib.Core.List.{[], _∷_, map};
+ghost use lib.ListN.{length, take, drop};
+ghost use lib.Seq.{sets};
+ghost use lib.Dec.{eqb};
+ghost use Rattle.spec.specs.Lists.{distinct, join};
+ghost use Rattle.spec.specs.Types.{elements, typeCount, given, elementTypes};
+ghost use Rattle.spec.specs.Copying.{written};
+ghost use Rattle.spec.specs.Calls.{typeCells};
+ghost use Rattle.ranked.specs.Words.{solidIn};
+ghost use Rattle.distances.specs.Solids.{proper};
+ghost use Rattle.element_types.specs.State.{stateIn, Countable};
+ghost use Rattle.types.specs.Cells.{cellsOf, Listable};
+ghost use Rattle.types.specs.Call.{handedOut};
+
+// "E counts proper elements": from the vertices' first to the top. Where R = 0 the top comes first.
+pub fn proper_count(sh: Shape) -> usize
+    requires { ⌜ sh .rank < 7 ⌝ }
+    ensures { λ n. ⌜ n ≡ proper sh ⌝ }
+{
+    let rank = sh.rank;
+    let first = sh.first[1];
+    let end = sh.first[rank];
+    if end < first {
+        return 0;
+    }
+    end - first
+}
+
+// One cell a proper element.
+pub fn write_types(words: &[u32], low: usize, sh: Shape, of: &mut [u16])
+    requires { ⌜ Countable sh low (now words) ⌝ }
+    requires { ⌜ elements (solidIn sh (take low (now words))) ≤ length (now of) ⌝ }
+    ensures { λ _. ⌜ now (of .exit) ≡ written (given (solidIn sh (take low (now (words .entry)))) (stateIn sh low (now (words .entry)))) (now (of .entry)) ⌝ }
+{
+    let n = proper_count(sh);
+    let first = sh.first[1];
+    let mut k: usize = 0;
+    while k < n {
+        of[k] = get(words, low + first + k) as u16;
+        k += 1;
+    }
+}
+
+// The record of a type that appears, from cell `at` on: e is the first element that has it.
+fn open_type(table: &mut [u16], at: usize, r: u16, t: u16, e: u16)
+    requires { ⌜ at + 4 ≤ length (now table) ⌝ }
+    ensures { λ _. ⌜ now (table .exit) ≡ sets (now (table .entry)) at (r ∷ t ∷ e ∷ 1 ∷ []) ⌝ }
+{
+    table[at] = r;
+    table[at + 1] = t;
+    table[at + 2] = e;
+    table[at + 3] = 1;
+}
+
+// Four cells for each type of rank r, behind those of m types. The types of its n elements stand from word `from`. Says how many types they have.
+fn write_rank(words: &[u32], from: usize, n: usize, r: usize, table: &mut [u16], m: usize) -> usize
+    requires { ⌜ Listable (now words) from n r (length (now table)) m ⌝ }
+    ensures { λ k. ⌜ k ≡ length (distinct eqb (take n (drop from (now (words .entry))))) ⌝ }
+    ensures { λ k. ⌜ now (table .exit) ≡ sets (now (table .entry)) (4 * m) (cellsOf r (take n (drop from (now (words .entry))))) ⌝ }
+{
+    let mut k: usize = 0;
+    let mut e: usize = 0;
+    while e < n {
+        let t = get(words, from + e);
+        let here = e as u16;
+        e += 1;
+        if t == k {
+            open_type(table, 4 * (m + k), r as u16, t as u16, here);
+            k += 1;
+        } else {
+            let cell = 4 * (m + t) + 3;
+            let count = table[cell];
+            table[cell] = count + 1;
+        }
+    }
+    k
+}
+
+// Four cells a type: rank, type, example and count.
+pub fn write_table(words: &[u32], low: usize, sh: Shape, table: &mut [u16])
+    requires { ⌜ Countable sh low (now words) ⌝ }
+    requires { ⌜ 4 * typeCount (solidIn sh (take low (now words))) (stateIn sh low (now words)) ≤ length (now table) ⌝ }
+    ensures { λ _. ⌜ now (table .exit)
+        ≡ written (join (map typeCells (elementTypes (solidIn sh (take low (now (words .entry)))) (stateIn sh low (now (words .entry)))))) (now (table .entry)) ⌝ }
+{
+    let rank = sh.rank;
+    let mut m: usize = 0;
+    let mut r: usize = 1;
+    while r < rank {
+        let first = sh.first[r];
+        let next = sh.first[r + 1];
+        let k = write_rank(words, low + first, next - first, r, table, m);
+        m += k;
+        r += 1;
+    }
+}
+
+// 13, or the types of the elements and the table, with how many types there are.
+pub fn give_out(words: &[u32], low: usize, sh: Shape, of: &mut [u16], table: &mut [u16]) -> Answer
+    requires { ⌜ Countable sh low (now words) ⌝ }
+    ensures { λ r. ⌜ (r, record { elements = now (of .exit); types = now (table .exit) })
+        ≡ handedOut (solidIn sh (take low (now (words .entry)))) (stateIn sh low (now (words .entry)))
+        (record { elements = now (of .entry); types = now (table .entry) }) ⌝ }
+{
+    let n = type_count(words, low, sh);
+    if of.len() < proper_count(sh) {
+        return Answer::Refused(Refusal::ShortSheet, 0);
+    }
+    if table.len() < 4 * n {
+        return Answer::Refused(Refusal::ShortSheet, 0);
+    }
+    write_types(words, low, sh, of);
+    write_table(words, low, sh, table);
+    Answer::Done(n)
+}

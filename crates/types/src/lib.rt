@@ -1,0 +1,58 @@
+// The types call (conc/element_types.rs): a sheet's elements by their types, and the table of the types.
+use ranked::Shape;
+use ranked::preflight::preflight;
+use settling::types_of;
+use sheet::Verdict;
+use spec::Answer;
+use spec::Refusal;
+ghost use mathlib.Core.Path.{_≡_};
+ghost use lib.ListN.{length};
+ghost use Rattle.spec.specs.Calls.{typesCall};
+ghost use Rattle.ranked.specs.Bench.{solidAt, Bench};
+ghost use Rattle.types.specs.Call.{answered};
+
+pub mod giving;
+
+use crate::giving::give_out;
+
+// "the types call goes on with 15, 13": of the solid that lies in the workspace.
+fn types_given(
+    words: &mut [u32],
+    low: usize,
+    sh: Shape,
+    floats: &mut [f64],
+    of: &mut [u16],
+    table: &mut [u16],
+) -> Answer
+    requires { ⌜ Bench sh low (now words) (now floats) ⌝ }
+    ensures { λ r. ⌜ (r, record { elements = now (of .exit); types = now (table .exit) })
+        ≡ answered (solidAt sh low (now (words .entry)) (now (floats .entry))) (record { elements = now (of .entry); types = now (table .entry) }) ⌝ }
+{
+    if types_of(words, low, sh, floats) {
+        return give_out(words, low, sh, of, table);
+    }
+    Answer::Refused(Refusal::Unsettled, 0)
+}
+
+// A sheet of any bytes and any length, a workspace of any size, and outputs of any length: one cell a proper element, and four a type. The
+// workspace afterwards is free, and keeps its length.
+pub fn element_types(
+    sheet: &[u8],
+    words: &mut [u32],
+    floats: &mut [f64],
+    of: &mut [u16],
+    table: &mut [u16],
+) -> Answer
+    ensures { λ r. ⌜ (r, record { elements = now (of .exit); types = now (table .exit) })
+        ≡ typesCall (now (sheet .entry)) (length (now (words .entry))) (length (now (floats .entry)))
+        (record { elements = now (of .entry); types = now (table .entry) }) ⌝ }
+{
+    let ready = preflight(sheet, words, floats);
+    let verdict = ready.verdict;
+    let sh = ready.shape;
+    let low = ready.low;
+    match verdict {
+        Verdict::Refused(why) => Answer::Refused(why, 0),
+        Verdict::Accepted => types_given(words, low, sh, floats, of, table),
+    }
+}

@@ -1,0 +1,39 @@
+-- Assumes nothing.
+use borrow.Author.Needs.{needs}
+use native.Mathlib.Omega.{arith}
+use mathlib.Core.Path.{refl}
+use Prim.Native.Nat.{_-_, _<_}
+use lib.ListN.{getD}
+use Rattle.vertex_sets.proofs.Summed.{Summed, summed-first, square-fits, sum-fits, summed-next, summed-end}
+use Rattle.vertex_sets.proofs.printing.print_of.Statement.{statement}
+use Rattle.vertex_sets.proofs.printing.print_of.Tie as tie
+
+abbrev Inv : tie.InvT-loop
+Inv list n p₀ k₀ p k = Summed list n p k
+
+abbrev μ : tie.MeasureT-loop
+μ list n p₀ k₀ p k = n - k
+
+-- an entry fits 16 bits
+small : (c : tie.After-shared-slice-known Inv μ) → getD (c .before .before .before .args .list .now) (c .before .before .loop .k) 0 < 65536
+small c = omega (arith, c .shared-slice-known .given (c .before .before .loop .k))
+
+pub print-of-spec : {M : Type 1} → statement M
+print-of-spec =
+    tie.close
+    (tie.spec Inv μ
+    -- loop-holds, mul-v, shared-slice-read-v, cast-v
+    (λ c. summed-first _ _)
+    (λ c. search needs)
+    (λ c. search needs)
+    (λ c. omega (arith, small c))
+    -- mul-p, add-p
+    (λ c. omega (arith, square-fits _ (small c)))
+    (λ c. let l = c .before .before in
+    omega (arith, sum-fits _ _ _ _ (l .loop .inv) (c .before .loop-test .taken) (l .before .pre .0) _ refl (l .before .pre .1) (small c)))
+    -- add-k, loop-less, loop-again, returns
+    (λ c. search needs)
+    (λ c. search needs)
+    (λ c. let l = c .before .before in
+    summed-next _ _ _ _ (l .loop .inv) (c .before .loop-test .taken) (l .before .pre .0) _ refl (small c))
+    (λ c. let l = c .before in summed-end _ _ _ _ (l .loop .inv) (l .before .pre .0) (c .loop-test .left)))

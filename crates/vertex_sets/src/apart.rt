@@ -1,0 +1,58 @@
+// "no two elements of a rank have one vertex set".
+use crate::finding::is_found;
+use crate::printing::print_of;
+use ranked::Shape;
+use ranked::vertices::vertex_list;
+ghost use mathlib.Core.Path.{_≡_};
+ghost use Prim.Native.Nat.{suc, _≤_, _<_};
+ghost use lib.ListN.{take, drop};
+ghost use Rattle.spec.specs.Lists.{holds, eqList, every};
+ghost use Rattle.spec.specs.Types.{properRanks};
+ghost use Rattle.spec.specs.Mark.{noRepeats, vertices, vertexSets};
+ghost use Rattle.ranked.specs.Words.{solidIn};
+ghost use Rattle.vertex_sets.specs.Prints.{Element, Ready};
+
+// Has a later element of rank r the vertices of element e?
+fn is_repeated(words: &[u32], low: usize, sh: Shape, at: usize, r: usize, e: usize) -> bool
+    requires { ⌜ Ready sh low (now words) at ⌝ }
+    requires { ⌜ Element sh r e ⌝ }
+    ensures { λ b. ⌜ b ≡ holds eqList (vertices (solidIn sh (take low (now (words .entry)))) r e) (drop (suc e) (vertexSets (solidIn sh (take low (now (words .entry)))) r)) ⌝ }
+{
+    let mut list = [0u16; 2048];
+    let n = vertex_list(&words[..low], sh, r, e, &mut list);
+    let p = print_of(&list, n);
+    is_found(words, low, sh, at, r, e + 1, &list, n, p)
+}
+
+// Have all elements of rank r different vertices?
+fn rank_apart(words: &[u32], low: usize, sh: Shape, at: usize, r: usize) -> bool
+    requires { ⌜ Ready sh low (now words) at ⌝ }
+    requires { ⌜ (1 ≤ r) × (r < sh .rank) ⌝ }
+    ensures { λ b. ⌜ b ≡ noRepeats eqList (vertexSets (solidIn sh (take low (now (words .entry)))) r) ⌝ }
+{
+    let many = sh.first[r + 1] - sh.first[r];
+    let mut e: usize = 0;
+    while e < many {
+        if is_repeated(words, low, sh, at, r, e) {
+            return false;
+        }
+        e += 1;
+    }
+    true
+}
+
+// And so at each proper rank?
+pub fn are_apart(words: &[u32], low: usize, sh: Shape, at: usize) -> bool
+    requires { ⌜ Ready sh low (now words) at ⌝ }
+    ensures { λ b. ⌜ b ≡ every (λ r. noRepeats eqList (vertexSets (solidIn sh (take low (now (words .entry)))) r)) (properRanks (solidIn sh (take low (now (words .entry))))) ⌝ }
+{
+    let rank = sh.rank;
+    let mut r: usize = 1;
+    while r < rank {
+        if !rank_apart(words, low, sh, at, r) {
+            return false;
+        }
+        r += 1;
+    }
+    true
+}

@@ -1,0 +1,297 @@
+#!/usr/bin/env python3
+"""Makes the stored copyings that program copy_replay answers to: crates/copy_replay/stdin and stdout, in the form that its source says.
+Run once; the files are kept.
+
+    python3 tools/make_copies.py ORACLE         ORACLE is the built oracle's program (oracle/bin/oracle)
+
+Where the input is clean (document 01, section 6) and passes, copies and rows are the oracle's, which is the Rust itself. The refusals, what
+each leaves in the two outputs, and the copyings that are not clean are answered by the model in this file, written from 01's section 7
+and table alone, in another language and another shape than the program. On clean input the two are held to agree.
+
+The copyings: the 48 on seeds of every kind of place and on several at once; cyclic and dihedral groups in two dimensions; one dimension;
+four dimensions with the 120 unit icosians, the 192 rotations of a tesseract and double turns; points at, just within and just past EPS of
+another; every refusal at its boundary and each before the next; both outputs one short, exactly full, empty and with cells to spare; 2,048
+copies and more; random seeds (Python's random, seed 20261115).
+"""
+import itertools
+import math
+import os
+import random
+import struct
+import subprocess
+import sys
+
+TOP = os.path.dirname(os.path.dirname(os.path.abspath(__file__)))
+EPS = 1e-7
+LIMIT = 1048576.0
+MOST = 2048
+OPEN = 65535
+
+
+# ---- the model
+
+def image(matrix, point):
+    """A product starts with the first product and adds the others by rising index."""
+    result = []
+    for row in matrix:
+        total = row[0] * point[0]
+        for a, b in zip(row[1:], point[1:]):
+            total += a * b
+        result.append(total)
+    return result
+
+
+def find(points, q):
+    """The lowest number of a point within EPS on every axis, or None."""
+    for k, p in enumerate(points):
+        if all(abs(a - b) <= EPS for a, b in zip(p, q)):
+            return k
+    return None
+
+
+def parted(numbers, size):
+    return [numbers[i:i + size] for i in range(0, len(numbers), size)]
+
+
+def copying(points, matrices):
+    """All copies, and a row for each matrix with None for an image that is not among them."""
+    copies = []
+    for p in points:
+        if find(copies, p) is None:
+            for m in matrices:
+                q = image(m, p)
+                if find(copies, q) is None:
+                    copies.append(q)
+    return copies, [[find(copies, image(m, c)) for c in copies] for m in matrices]
+
+
+def refused_early(d, points, turns):
+    """2, 1, 3, 12, in that order, or 0."""
+    if not 1 <= d <= 4:
+        return 2
+    if len(points) % d or len(turns) % (d * d):
+        return 1
+    if not all(abs(x) <= LIMIT for x in points + turns):
+        return 3
+    if not points or not turns:
+        return 12
+    return 0
+
+
+def answer(d, points, turns, copies_out, table_out, rust):
+    """The refusal's number or 0, the count, and the two outputs afterwards, of what they held before."""
+    early = refused_early(d, points, turns)
+    if early:
+        return early, 0, copies_out, table_out
+    ps, ms = parted(points, d), [parted(m, d) for m in parted(turns, d * d)]
+    copies, rows = copying(ps, ms)
+    if is_clean(ps, ms, copies):
+        assert rust(d, points, turns) == ([[pattern(x) for x in c] for c in copies], rows if all(None not in r for r in rows) else None)
+    room = min(MOST, len(copies_out) // d)
+    kept = [x for c in copies[:room] for x in c]
+    copies_after = kept + copies_out[len(kept):]
+    cells = len(ms) * len(copies)
+    if len(copies) > room or cells > len(table_out):
+        return 13, min(len(copies), room), copies_after, table_out
+    if any(None in r for r in rows):
+        return 14, len(copies), copies_after, [OPEN] * cells + table_out[cells:]
+    return 0, len(copies), copies_after, [k for r in rows for k in r] + table_out[cells:]
+
+
+def is_clean(points, matrices, copies):
+    """"differ by at most EPS" is transitive among points, copies and images on each axis, and images are finite."""
+    every = points + copies + [image(m, p) for m in matrices for p in points + copies]
+    for axis in zip(*every):
+        if not all(math.isfinite(x) for x in axis):
+            return False
+        run = None
+        for a, b in itertools.pairwise(sorted(set(axis))):
+            run = (a if run is None else run) if b - a <= EPS else None
+            if run is not None and not b - run <= EPS:
+                return False
+    return True
+
+
+def oracle(program):
+    def run(d, points, turns):
+        text = "".join(" ".join(f"{pattern(x):016x}" for x in l) + "\n" for l in (points, turns))
+        got = subprocess.run([program, "copy", str(d)], input=text, capture_output=True, text=True, check=True).stdout.splitlines()
+        copies = [[int(h, 16) for h in l.split()[1:]] for l in got if l.startswith("copy ")]
+        rows = [[int(k) for k in l.split()[1:]] for l in got if l.startswith("row")]
+        run.asked += 1
+        return copies, None if got[-1].startswith("panic") else rows
+    run.asked = 0
+    return run
+
+
+# ---- the copyings
+
+def signed_orders(n):
+    """The signed orders of n axes, by dictionary order and then signs, first axis highest; 48 where n is 3."""
+    for order in itertools.permutations(range(n)):
+        for signs in itertools.product((1.0, -1.0), repeat=n):
+            yield [signs[i] if j == order[i] else 0.0 for i in range(n) for j in range(n)]
+
+
+def determinant(m, n):
+    order = [next(j for j in range(n) if m[n * i + j]) for i in range(n)]
+    swaps = sum(a > b for a, b in itertools.combinations(order, 2))
+    return (-1) ** swaps * math.prod(m[n * i + order[i]] for i in range(n))
+
+
+def turn(k, n):
+    c, s = math.cos(2 * math.pi * k / n), math.sin(2 * math.pi * k / n)
+    return [c, -s, s, c]
+
+
+def cyclic(n):
+    return [turn(k, n) for k in range(n)]
+
+
+def dihedral(n):
+    return cyclic(n) + [[a, -b, c, -d] for a, b, c, d in cyclic(n)]
+
+
+def double_turn(j, k, n):
+    a, b, c, d = turn(j, n)
+    e, f, g, h = turn(k, n)
+    return [a, b, 0.0, 0.0, c, d, 0.0, 0.0, 0.0, 0.0, e, f, 0.0, 0.0, g, h]
+
+
+def icosians():
+    """The 120 unit icosians, each as the matrix that multiplies by it from the left."""
+    golden = (1 + math.sqrt(5)) / 2
+    units = [[s if i == k else 0.0 for i in range(4)] for k in range(4) for s in (1.0, -1.0)]
+    units += [list(s) for s in itertools.product((0.5, -0.5), repeat=4)]
+    for order in itertools.permutations(range(4)):
+        if sum(a > b for a, b in itertools.combinations(order, 2)) % 2 == 0:
+            for s in itertools.product((1.0, -1.0), repeat=3):
+                values = [s[0] * golden / 2, s[1] * 0.5, s[2] * 0.5 / golden, 0.0]
+                units.append([values[order[i]] for i in range(4)])
+    for a, b, c, d in units:
+        yield [a, -b, -c, -d, b, a, -d, c, c, d, a, -b, d, -c, b, a]
+
+
+def flat(lists):
+    return [x for l in lists for x in l]
+
+
+def cases():
+    """Dimension, points, turns, and how long the outputs are; None stands for what the answer takes, and 3 and 5 cells more."""
+    rng = random.Random(20261115)
+    all48 = flat(signed_orders(3))
+    ample = (None, None)
+    above = math.nextafter(EPS, 1.0)
+
+    def one_of(limit):
+        return round(rng.uniform(-limit, limit), rng.randrange(7))
+
+    # the 48
+    for seed in ((1, 0, 0), (1, 1, 1), (1, 2, 3), (0, 0, 0), (1, 1, 0), (2, 1, 0), (1, 1, 2), (-0.0, 0.0, -5.0), (0.1, 0.2, 0.3), (1048576.0, 0.5, -3.0)):
+        yield 3, [float(x) for x in seed], all48, *ample
+    yield 3, [1.0, 0.0, 0.0, 1.0, 1.0, 1.0], all48, *ample
+    yield 3, [1.0, 0.0, 0.0, 0.0, -1.0, 0.0, 3.0, 0.0, 0.0, 1.0, 0.0, 0.0], all48, *ample
+    yield 3, [1.0, 2.0, 3.0, 4.0, 5.0, 6.0, 1.0, 1.0, 7.0], all48, *ample
+    for n in (1, 2, 3):
+        yield 3, [one_of(10) for _ in range(3 * n)], all48, *ample
+    yield 3, [one_of(10) for _ in range(9)], flat([m for m in signed_orders(3) if determinant(m, 3) > 0]), *ample
+    # two dimensions
+    for n in range(1, 13):
+        yield 2, [1.0, 0.0], flat(cyclic(n)), *ample
+    for n in (3, 5, 8):
+        yield 2, [one_of(5) for _ in range(4)], flat(cyclic(n)), *ample
+        yield 2, [one_of(5), one_of(5), 1.0, 0.0], flat(dihedral(n)), *ample
+    # one dimension; signs of zero
+    yield 1, [3.0], [1.0, -1.0], *ample
+    yield 1, [0.0], [-1.0], *ample
+    yield 1, [-0.0, 5.0, 0.0], [-1.0, 1.0], *ample
+    yield 1, [5e-324, 2.0], [1.0, -1.0], *ample
+    yield 1, [2.0], [0.0, 1.0], *ample
+    # four dimensions
+    yield 4, [1.0, 0.0, 0.0, 0.0], flat(icosians()), *ample
+    yield 4, [0.5, 0.25, 0.0, -1.0], flat(icosians()), *ample
+    rotations = flat([m for m in signed_orders(4) if determinant(m, 4) > 0])
+    for seed in ((1, 0, 0, 0), (1, 1, 0, 0), (1, 1, 1, 1)):
+        yield 4, [float(x) for x in seed], rotations, *ample
+    for j, k, n in ((1, 1, 5), (1, 2, 5), (1, 3, 8)):
+        yield 4, [one_of(3) for _ in range(8)], flat(double_turn(i * j, i * k, n) for i in range(n)), *ample
+    # near points
+    for gap in (0.5e-7, EPS, above):
+        yield 1, [0.0, gap], [1.0], *ample
+        yield 2, [0.0, 1.0, gap, 1.0, 0.0, 1.0 + gap], [1.0, 0.0, 0.0, 1.0], *ample
+        yield 1, [gap / 2], [1.0, -1.0], *ample
+    yield 1, [1e-7], [1.0, -1.0, 0.0], *ample
+    yield 2, [0.0, 5.0, 8e-8, 0.0], [1.0, 0.0, 0.0, 1.0, 1.0, -1e-8, 0.0, 1.0], *ample
+    yield 1, [0.0, 2e-7, 1e-7], [1.0], *ample
+    # 2, also before 1
+    for d in (0, 5, 6, 8, 1 << 32, (1 << 64) - 1):
+        yield d, [1.0] * 8, [1.0] * 64, 9, 9
+        yield d, [1.0] * 7, [math.nan] * 3, 9, 9
+    # 1, also before 3 and 12
+    for d, p, t in ((2, 3, 4), (2, 2, 5), (2, 2, 3), (3, 3, 8), (3, 4, 9), (4, 4, 15), (4, 5, 16), (2, 0, 1), (2, 1, 0)):
+        yield d, [1.0] * p, [1.0] * t, 9, 9
+    yield 2, [math.nan, 1.0, 1.0], [1.0] * 4, 9, 9
+    # 3, also before 12; at the limit not
+    for x in (math.nan, math.inf, -math.inf, math.nextafter(LIMIT, 2e6), -math.nextafter(LIMIT, 2e6)):
+        yield 2, [0.0, x], [1.0, 0.0, 0.0, 1.0], 9, 9
+        yield 2, [0.0, 1.0], [1.0, 0.0, 0.0, x], 9, 9
+        yield 1, [x], [], 9, 9
+        yield 1, [], [x], 9, 9
+    yield 2, [LIMIT, -LIMIT], [1.0, 0.0, 0.0, 1.0, -1.0, 0.0, 0.0, -1.0], *ample
+    yield 1, [LIMIT], [LIMIT], 9, 9
+    # 12
+    for p, t in (([], []), ([1.0] * 3, []), ([], [1.0] * 9)):
+        yield 3, p, t, 9, 9
+    # 13 and what is just enough
+    for floats in (0, 1, 2, 3, 17, 18, 19, 20, 21):
+        yield 3, [1.0, 0.0, 0.0], all48, floats, 288
+    for cells in (0, 1, 287, 288, 289):
+        yield 3, [1.0, 0.0, 0.0], all48, 18, cells
+    yield 3, [1.0, 0.0, 0.0], all48, 17, 287
+    yield 3, [1.0, 2.0, 3.0, 4.0, 5.0, 6.0], all48, 144, 2304
+    yield 3, [1.0, 2.0, 3.0, 4.0, 5.0, 6.0], all48, 287, 4608
+    for n in (MOST - 1, MOST, MOST + 1):
+        yield 1, [float(k) for k in range(n)], [1.0], n + 2, n + 2
+    yield 1, [k + 0.5 for k in range(MOST // 2)], [1.0, -1.0], MOST, 2 * MOST
+    yield 1, [k + 0.5 for k in range(MOST // 2 + 1)], [1.0, -1.0], MOST + 2, 2 * MOST + 4
+    yield 1, [k + 0.5 for k in range(MOST // 2)], [1.0, -1.0], MOST - 1, 2 * MOST
+    yield 1, [k + 0.5 for k in range(MOST // 2)], [1.0, -1.0], MOST, 2 * MOST - 1
+    # 14, and 13 before it
+    quarter = [0.0, -1.0, 1.0, 0.0]
+    for floats, cells in ((9, 9), (2, 1), (2, 0), (1, 1)):
+        yield 2, [1.0, 0.0], quarter, floats, cells
+    for floats, cells in ((9, 9), (4, 4), (4, 3), (3, 4)):
+        yield 2, [1.0, 0.0], [1.0, 0.0, 0.0, 1.0] + quarter, floats, cells
+    yield 1, [1.0], [2.0], 2, 2
+    yield 1, [1.0, 3.0], [1.0, 1.0 + 2e-7], 9, 9
+    yield 3, [1.0, 2.0, 3.0], all48[:9 * 47], 150, 2300
+    yield 4, [1.0, 0.0, 0.0, 0.0], flat(icosians())[16:16 * 60], 500, 16000
+
+
+def pattern(x):
+    return 0x7FF8000000000000 if x != x else struct.unpack(">Q", struct.pack(">d", x))[0]
+
+
+def main():
+    rust = oracle(sys.argv[1])
+    crate = f"{TOP}/crates/copy_replay"
+    numbers = []
+    with open(f"{crate}/stdin", "wb") as given, open(f"{crate}/stdout", "wb") as answers:
+        for d, points, turns, floats, cells in cases():
+            if floats is None:
+                copies, rows = copying(parted(points, d), [parted(m, d) for m in parted(turns, d * d)])
+                floats, cells = d * len(copies) + 3, len(rows) * len(copies) + 5
+            assert len(points) <= 4096 and len(turns) <= 4096 and floats <= 8192 and cells <= 32768
+            before = [struct.unpack(">d", struct.pack(">Q", 0x7000000000000000 + i))[0] for i in range(floats)]
+            table = [60000 + i % 4096 for i in range(cells)]
+            given.write(struct.pack(">5Q", d, len(points), len(turns), floats, cells))
+            given.write(b"".join(struct.pack(">Q", pattern(x)) for x in points + turns))
+            number, count, copies, table = answer(d, points, turns, before, table, rust)
+            numbers.append(number)
+            answers.write(struct.pack(">2Q", number, count))
+            answers.write(b"".join(struct.pack(">Q", pattern(x)) for x in copies) + b"".join(struct.pack(">H", k) for k in table))
+    print(len(numbers), "copyings;", ", ".join(f"{numbers.count(k)} of {k}" for k in sorted(set(numbers))) + ";", rust.asked, "asked of the oracle")
+
+
+if __name__ == "__main__":
+    main()
