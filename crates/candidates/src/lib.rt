@@ -168,9 +168,9 @@ pub fn columns(w: &[u32], sh: Shape, points: &[f64], flag: Flag) -> [[f64; DIMEN
     let mut i: usize = 1;
     while i < d {
         let next = turned(w, sh, f);
-        f = next;
-        let elements = f.elements;
+        let elements = next.elements;
         rows[i] = points::loaded(points, d, elements[1]);
+        f = next;
         i += 1;
     }
     matrix::from_columns(rows, d)
