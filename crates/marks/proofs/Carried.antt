@@ -109,17 +109,18 @@ class-cells sh w fs h c r e g low high he hg =
         rw (b, ← c .cells) (getD-take (proper sh) (drop (coordinates sh w + proper sh) fs) (before sh r + k) nan i ∙ getD-drop (coordinates sh w + proper sh) fs (before sh r + k) nan)
 
 -- the cell of a class lies in the floats
-module _ (sh : Shape) (w : List ℕ) (fs : List Float) (h : Held sh w) (c : ClassesIn sh w fs) (v : ℕ) (v-is : v ≡ size (solidIn sh w) 1)
-    (r e : ℕ) (low : 1 ≤ r) (high : r < sh .rank) (he : e < sizeAt sh r) where
-  pub ranks-lie : (r < 7) × (sh .rank < 7) × (firstAt sh 1 ≤ firstAt sh (sh .rank)) × (firstAt sh 1 ≤ firstAt sh r)
-  ranks-lie = (omega (arith, h .tall), omega (arith, h .tall), in-order sh w h 1 (sh .rank) (omega arith) (omega arith), in-order sh w h 1 r low (omega arith))
+pub ranks-lie : (sh : Shape) (w : List ℕ) → Held sh w → (r : ℕ) → 1 ≤ r → r < sh .rank
+    → (r < 7) × (sh .rank < 7) × (firstAt sh 1 ≤ firstAt sh (sh .rank)) × (firstAt sh 1 ≤ firstAt sh r)
+ranks-lie sh w h r low high =
+    (omega (arith, h .tall), omega (arith, h .tall), in-order sh w h 1 (sh .rank) (omega arith) (omega arith), in-order sh w h 1 r low (omega arith))
 
-  pub class-in : v * sh .dimension + proper sh + (before sh r + e) < length fs
-  class-in =
-      let o₁ = in-order sh w h 1 r low (omega arith) in
-      let o₂ = in-order sh w h (suc r) (sh .rank) high (omega arith) in
-      let o₃ = h .some r (omega arith) in
-      rw v-is (omega (arith, c .room))
+pub class-in : (sh : Shape) (w : List ℕ) (fs : List Float) → Held sh w → ClassesIn sh w fs → (v : ℕ) → v ≡ size (solidIn sh w) 1
+    → (r e : ℕ) → 1 ≤ r → r < sh .rank → e < sizeAt sh r → v * sh .dimension + proper sh + (before sh r + e) < length fs
+class-in sh w fs h c v v-is r e low high he =
+    let o₁ = in-order sh w h 1 r low (omega arith) in
+    let o₂ = in-order sh w h (suc r) (sh .rank) high (omega arith) in
+    let o₃ = h .some r (omega arith) in
+    rw v-is (omega (arith, c .room))
 
 -- ---- an element
 

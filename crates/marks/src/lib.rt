@@ -5,11 +5,13 @@ ghost use mathlib.Core.Bool.{true, false};
 ghost use Prim.Native.Nat.{ℕ, suc, _+_, _*_, _^_, _≤_, _<_};
 ghost use lib.ListN.{length, getD};
 ghost use lib.Dec.{eqb};
+ghost use lib.Ieee.{nan};
 ghost use Rattle.spec.specs.Lists.{In, holds, range, keep, every};
 ghost use Rattle.spec.specs.Types.{size, properRanks, Classes};
 ghost use Rattle.spec.specs.Mark.{carriesElement, marked};
 ghost use Rattle.ranked.specs.Words.{firstAt, sizeAt, total, listAt, solidIn, Held};
 ghost use Rattle.ranked.specs.Reading.{Lies, Each};
+ghost use Rattle.geometry.specs.Classes.{sameClass};
 ghost use Rattle.distances.specs.Solids.{proper, before};
 ghost use Rattle.marks.specs.Rises.{onto, risesTo, Reached, Landed};
 ghost use Rattle.marks.specs.Rows.{setsApart, permutes, classesOn, ClassesIn, Row, Images, Rank};
@@ -146,12 +148,12 @@ fn class_cell(sh: Shape, v: usize, r: usize, e: usize) -> usize
     v * d + (first[rank] - first[1]) + (first[r] - first[1] + e)
 }
 
-// Do elements e and g of rank r share a distance class?
-fn one_class(w: &[u32], sh: Shape, floats: &[f64], v: usize, r: usize, e: usize, g: usize) -> bool
-    requires { ⌜ Held sh (now w) ⌝ }
-    requires { ⌜ ClassesIn sh (now w) (now floats) × (v ≡ size (solidIn sh (now w)) 1) ⌝ }
-    requires { ⌜ (1 ≤ r) × (r < sh .rank) × (e < sizeAt sh r) × (g < sizeAt sh r) ⌝ }
-    ensures { λ res. ⌜ res ≡ eqb (classesOn sh (now (w .entry)) (now (floats .entry)) r g) (classesOn sh (now (w .entry)) (now (floats .entry)) r e) ⌝ }
+// Do elements e and g of rank r share a distance class, of a solid with v vertices?
+fn one_class(sh: Shape, floats: &[f64], v: usize, r: usize, e: usize, g: usize) -> bool
+    requires { ⌜ (r < 7) × (sh .rank < 7) × (firstAt sh 1 ≤ firstAt sh (sh .rank)) × (firstAt sh 1 ≤ firstAt sh r) ⌝ }
+    requires { ⌜ (v * sh .dimension + proper sh + (before sh r + e) < length (now floats)) × (v * sh .dimension + proper sh + (before sh r + g) < length (now floats)) ⌝ }
+    ensures { λ res. ⌜ res ≡ sameClass (getD (now (floats .entry)) (v * sh .dimension + proper sh + (before sh r + g)) nan)
+        (getD (now (floats .entry)) (v * sh .dimension + proper sh + (before sh r + e)) nan) ⌝ }
 {
     let a = class_cell(sh, v, r, g);
     let b = class_cell(sh, v, r, e);
@@ -177,7 +179,7 @@ fn image_of(
     if n <= x {
         return n;
     }
-    if !one_class(w, sh, floats, row.len(), r, e, x) {
+    if !one_class(sh, floats, row.len(), r, e, x) {
         return n;
     }
     x
