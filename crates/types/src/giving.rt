@@ -20,7 +20,7 @@ ghost use Rattle.element_types.specs.State.{stateIn, Countable};
 ghost use Rattle.types.specs.Cells.{cellsOf, Listable};
 ghost use Rattle.types.specs.Call.{handedOut};
 
-// "E counts proper elements": from the vertices' first to the top. Where R = 0 the top comes first.
+// "E counts proper elements": those from the first vertex on, below the top. Where R = 0 the top stands first, and there are none.
 pub fn proper_count(sh: Shape) -> usize
     requires { ⌜ sh .rank < 7 ⌝ }
     ensures { λ n. ⌜ n ≡ proper sh ⌝ }
