@@ -1,0 +1,11 @@
+pub mod Parts
+pub mod Rows
+pub mod Tails
+pub mod Running
+pub mod Going
+pub mod Bounds
+pub mod Passing
+pub mod Trying
+pub mod Ends
+pub mod Turning
+pub mod Members

@@ -1,0 +1,45 @@
+-- A candidate's test, from the row that is found and the examples that go under it.
+-- Assumes nothing.
+use mathlib.Core.Path.{_≡_, sym, ap, ap₂, _∙_}
+use mathlib.Core.Bool.{Bool, true, false, _&&_}
+use mathlib.Core.List.{List}
+use Prim.Native.Nat.{ℕ}
+use lib.ListN.{length, take}
+use lib.Dec.{ltb}
+use lib.Ieee.{Float}
+use Rattle.spec.specs.Lists.{every}
+use Rattle.spec.specs.Types.{Solid, size, State}
+use Rattle.spec.specs.Matrix.{Matrix, Vector}
+use Rattle.spec.specs.Copying.{parts}
+use Rattle.spec.specs.Search.{rowOf, examplesGo}
+use Rattle.ranked.specs.declared.Shape.{Shape}
+use Rattle.ranked.specs.Words.{sizeAt, solidIn}
+use Rattle.ranked.specs.Bench.{solidAt}
+use Rattle.candidates.specs.Post.{Rowed}
+use Rattle.symmetry.specs.Searching.{Searching, passing}
+use Rattle.symmetry.proofs.Bounds.{vertices-are, points-are, points-many}
+
+module _ {sh : Shape} {low : ℕ} {ws : List ℕ} {fs : List Float} {at : ℕ} (h : Searching sh low ws fs at) (z : State) (m : Matrix) (v : ℕ) (many : v ≡ sizeAt sh 1)
+    (cells : List ℕ) (r : Bool) (row : Rowed v (rowOf (parts v (sh .dimension) fs) m) cells r) where
+  abbrev s : Solid
+  s = solidIn sh (take low ws)
+
+  abbrev found : List ℕ
+  found = rowOf (solidAt sh low ws fs .points) m
+
+  same-row : rowOf (parts v (sh .dimension) fs) m ≡ found
+  same-row = ap (λ (ps : List Vector). rowOf ps m) (ap (λ n. parts n (sh .dimension) fs) (many ∙ sym (vertices-are h)) ∙ sym (points-are h))
+
+  all-found : r ≡ every (λ u. ltb u (length (solidAt sh low ws fs .points))) found
+  all-found = row .found ∙ ap₂ (λ (n : ℕ) (l : List ℕ). every (λ u. ltb u n) l) (many ∙ sym (points-many h)) same-row
+
+  pub row-is : r ≡ true → take (size s 1) cells ≡ found
+  row-is e = ap (λ n. take n cells) (vertices-are h ∙ sym many) ∙ row .row e ∙ same-row
+
+  pub passes-not : r ≡ false → false ≡ passing (solidAt sh low ws fs) z m
+  unfolding passing
+  passes-not e = ap (λ b. b && examplesGo s z found) (sym e ∙ all-found)
+
+  pub passes-is : r ≡ true → (b : Bool) → b ≡ examplesGo s z (take (size s 1) cells) → b ≡ passing (solidAt sh low ws fs) z m
+  unfolding passing
+  passes-is e b q = q ∙ ap (examplesGo s z) (row-is e) ∙ ap (λ t. t && examplesGo s z found) (sym e ∙ all-found)

@@ -1,0 +1,136 @@
+-- What trying a candidate comes to, and what trying a flag does.
+-- Assumes nothing.
+use mathlib.Core.Path.{_≡_, refl, sym, ap, subst, _∙_}
+use mathlib.Core.Logic.{_⊎_, inl, inr}
+use mathlib.Core.Bool.{Bool, true, false, not, _&&_, _||_}
+use mathlib.Core.Option.{Option, none, some}
+use mathlib.Core.List.{List, map}
+use Prim.Native.Nat.{ℕ, suc, _*_, _≤_}
+use lib.ListN.{length, take}
+use lib.Dec.{leb, ltb}
+use lib.Ieee.{Float, lt}
+use borrow.Author.Tests.{leb-true}
+use Rattle.spec.specs.Lists.{range, join}
+use Rattle.spec.specs.Types.{size, State}
+use Rattle.spec.specs.Float.{zeroF}
+use Rattle.spec.specs.Matrix.{Matrix, Vector, mulMat, determinant}
+use Rattle.spec.specs.Copying.{written, parts}
+use Rattle.spec.specs.Solid.{Concrete}
+use Rattle.spec.specs.Flags.{Flag, IsFlag, firstFlag}
+use Rattle.spec.specs.Search.{Member, flagColumns, candidate, sameTypes, rowOf, markOf, tested, isRotation}
+use Rattle.spec.proofs.Lists.{length-table}
+use Rattle.spec.proofs.Marked.{both}
+use Rattle.spec.proofs.FlagList.{every-first}
+use Rattle.ranked.specs.declared.Shape.{Shape}
+use Rattle.ranked.specs.Words.{sizeAt, subsIn, solidIn}
+use Rattle.ranked.specs.Bench.{solidAt}
+use Rattle.candidates.specs.Post.{typesAgree}
+use Rattle.symmetry.specs.declared.listing.Tried.{Tried}
+use Rattle.symmetry.specs.declared.listing.Tried.the-variants.{Skipped, Added, Short}
+use Rattle.symmetry.specs.Tails.{settingOf}
+use Rattle.symmetry.specs.Listing.{listedIf, gives, tried, fits, Came}
+use Rattle.symmetry.specs.Searching.{Searching, passing}
+use Rattle.symmetry.proofs.Bounds.{points-are}
+
+module _ (d v k : ℕ) (o : Option Member) (ms : List Float) (rs : List ℕ) where
+  came-none : o ≡ none → Came d v k o Skipped ms ms rs rs
+  unfolding tried
+  came-none e = rw e refl
+
+  module _ (x : Member) (e : o ≡ some x) where
+    came-short : fits d v (length ms) (length rs) k ≡ false → Came d v k o Short ms ms rs rs
+    unfolding tried
+    came-short h = rw (e, h) refl
+
+    came-added : fits d v (length ms) (length rs) k ≡ true → (ms′ : List Float) (rs′ : List ℕ) → ms′ ≡ written (join (x .matrix)) ms → rs′ ≡ written (x .row) rs → Came d v k o Added ms ms′ rs rs′
+    unfolding tried
+    came-added h ms′ rs′ a b = rw (e, h, a, b) refl
+
+-- what `fits` says
+pub fits-means : (d v floats entries k : ℕ) → fits d v floats entries k ≡ true → (d * d ≤ floats) × (v ≤ entries)
+unfolding fits
+fits-means d v floats entries k e =
+    let h = both (leb (d * d) floats && leb v entries) (ltb 0 k) e in
+    let q = both (leb (d * d) floats) (leb v entries) (h .0) in
+    (leb-true _ _ (q .0), leb-true _ _ (q .1))
+
+-- ---- a candidate m
+
+module _ (D : Concrete) (z : State) (m : Matrix) (rot : Bool) (d v k : ℕ) (ms : List Float) (rs : List ℕ) (c : Concrete) (i : Matrix) where
+  abbrev member : Member
+  member = record { matrix = m; row = rowOf (D .points) m; mark = markOf (settingOf c D z i) (rowOf (D .points) m) }
+
+  tested-is : (b : Bool) → b ≡ passing D z m → tested (settingOf c D z i) m ≡ elim b as (λ t. Option Member) [ true ↦ some member | false ↦ none ]
+  unfolding tested passing settingOf
+  tested-is b e = ap (λ t. elim t as (λ u. Option Member) [ true ↦ some member | false ↦ none ]) (sym e)
+
+  -- it does not pass
+  pub candidate-not : false ≡ passing D z m → Came d v k (listedIf rot (tested (settingOf c D z i) m)) Skipped ms ms rs rs
+  unfolding listedIf
+  candidate-not e = came-none d v k _ ms rs (ap (listedIf rot) (tested-is false e))
+
+  module _ (yes : true ≡ passing D z m) where
+    -- it is no rotation, and only rotations are wanted
+    pub candidate-turned : rot ≡ true → lt zeroF (determinant m) ≡ false → Came d v k (listedIf rot (tested (settingOf c D z i) m)) Skipped ms ms rs rs
+    unfolding listedIf isRotation
+    candidate-turned r e = came-none d v k _ ms rs (ap (listedIf rot) (tested-is true yes) ∙ go rot (lt zeroF (determinant m)) r e)
+      where
+        go : (b t : Bool) → b ≡ true → t ≡ false → _≡_ {A = Option Member} (elim (not b || t) as (λ u. Option Member) [ true ↦ some member | false ↦ none ]) none
+        go b t p q = rw (p, q) refl
+
+    module _ (wanted : (rot ≡ false) ⊎ (lt zeroF (determinant m) ≡ true)) where
+      listed : listedIf rot (tested (settingOf c D z i) m) ≡ some member
+      unfolding listedIf isRotation
+      listed = ap (listedIf rot) (tested-is true yes) ∙ go rot wanted
+        where
+          go : (b : Bool) → (b ≡ false) ⊎ (lt zeroF (determinant m) ≡ true) → elim (not b || lt zeroF (determinant m)) as (λ t. Option Member) [ true ↦ some member | false ↦ none ] ≡ some member
+          go b (inl e) = rw e refl
+          go true (inr e) = rw e refl
+          go false (inr e) = refl
+
+      pub candidate-short : fits d v (length ms) (length rs) k ≡ false → Came d v k (listedIf rot (tested (settingOf c D z i) m)) Short ms ms rs rs
+      candidate-short h = came-short d v k _ ms rs member listed h
+
+      pub candidate-added : fits d v (length ms) (length rs) k ≡ true → (ms′ : List Float) (rs′ : List ℕ) → ms′ ≡ written (join m) ms → rs′ ≡ written (rowOf (D .points) m) rs
+          → Came d v k (listedIf rot (tested (settingOf c D z i) m)) Added ms ms′ rs rs′
+      candidate-added h ms′ rs′ a b = came-added d v k _ ms rs member listed h ms′ rs′ a b
+
+-- ---- a flag F, where G is the first
+
+-- the first flag is a flag
+pub first-is : {sh : Shape} {low : ℕ} {ws : List ℕ} {fs : List Float} {at : ℕ} → Searching sh low ws fs at → {G : Flag} → G ≡ firstFlag (solidIn sh (take low ws)) → IsFlag (solidIn sh (take low ws)) G
+first-is {sh} {low} {ws} h e = subst (IsFlag (solidIn sh (take low ws))) (sym e) (every-first (solidIn sh (take low ws)) (h .bench .held .sound) (h .bench .held .filled) .0)
+
+module _ {sh : Shape} {low : ℕ} {ws : List ℕ} {fs : List Float} {at : ℕ} (h : Searching sh low ws fs at) (z : State) (F G : Flag) (first : G ≡ firstFlag (solidIn sh (take low ws)))
+    (rot : Bool) (d v k : ℕ) (ms : List Float) (rs : List ℕ) (c : Concrete) (i : Matrix) where
+  -- the solid searched, whose points are read from all floats
+  abbrev untaken : Concrete
+  untaken = record { dimension = sh .dimension; points = parts (size (solidIn sh (take low ws)) 1) (sh .dimension) fs; abs = solidIn sh (take low ws) }
+
+  ranks : length (solidIn sh (take low ws)) ≡ suc (sh .rank)
+  unfolding solidIn
+  ranks = length-table (λ r. map (subsIn sh (take low ws) r) (range 0 (sizeAt sh r))) (suc (sh .rank))
+
+  types-are : sameTypes (settingOf c (solidAt sh low ws fs) z i) F ≡ typesAgree z (sh .rank) F G
+  unfolding sameTypes settingOf
+  types-are = rw (ranks, first) refl
+
+  abbrev by : Matrix → Bool → Option Member
+  by m b = elim b [ true ↦ listedIf rot (tested (settingOf c (solidAt sh low ws fs) z i) m) | false ↦ none ]
+
+  pub flag-not : false ≡ typesAgree z (sh .rank) F G → Came d v k (gives (settingOf c (solidAt sh low ws fs) z i) rot F) Skipped ms ms rs rs
+  unfolding gives
+  flag-not e = came-none d v k _ ms rs (ap (by (candidate (settingOf c (solidAt sh low ws fs) z i) F)) (types-are ∙ sym e))
+
+  -- it goes as its candidate m does
+  pub flag-is : true ≡ typesAgree z (sh .rank) F G → (m : Matrix) → m ≡ mulMat (flagColumns untaken F) i
+      → (t : Tried) (ms′ : List Float) (rs′ : List ℕ) → Came d v k (listedIf rot (tested (settingOf c (solidAt sh low ws fs) z i) m)) t ms ms′ rs rs′
+      → Came d v k (gives (settingOf c (solidAt sh low ws fs) z i) rot F) t ms ms′ rs rs′
+  unfolding gives candidate settingOf
+  flag-is e m q t ms′ rs′ g = subst (λ o. Came d v k o t ms ms′ rs rs′) (sym came) g
+    where
+      made : m ≡ candidate (settingOf c (solidAt sh low ws fs) z i) F
+      made = q ∙ ap (λ (ps : List Vector). mulMat (flagColumns (record { dimension = sh .dimension; points = ps; abs = solidIn sh (take low ws) }) F) i) (sym (points-are h))
+
+      came : gives (settingOf c (solidAt sh low ws fs) z i) rot F ≡ listedIf rot (tested (settingOf c (solidAt sh low ws fs) z i) m)
+      came = ap (by (candidate (settingOf c (solidAt sh low ws fs) z i) F)) (types-are ∙ sym e) ∙ ap (λ y. listedIf rot (tested (settingOf c (solidAt sh low ws fs) z i) y)) (sym made)

@@ -1,0 +1,277 @@
+-- The loop's invariant: what is listed stands in the outputs, and the flags from this one on are to come. The measure is how many they are.
+-- Assumes nothing.
+use mathlib.Core.Path.{_≡_, refl, sym, subst, _∙_}
+use mathlib.Core.Logic.{⊎-elim}
+use mathlib.Core.List.{List, _∷_}
+use Prim.Native.Nat.{ℕ, _+_, _-_, _*_, _≤_, _<_}
+use native.Mathlib.Nat.{mul-le-mul-left}
+use native.Mathlib.Omega.{arith}
+use lib.ListN.{length, take}
+use lib.Seq.{length-take-le}
+use lib.Ieee.{Float}
+use borrow.Author.Needs.{needs}
+use borrow.Rule.Slice.PartMut.{putMid, same-len-mid}
+use Rattle.spec.specs.Limits.{maxDimension}
+use Rattle.spec.specs.Flags.{Flag, IsFlag}
+use Rattle.ranked.specs.Words.{solidIn}
+use Rattle.ranked.specs.Bench.{solidAt}
+use Rattle.flag.specs.Reading.{flagIn}
+use Rattle.flag.proofs.Numbered.{nth-first, nth-flag}
+use Rattle.symmetry.specs.declared.listing.Tried.the-variants.{Skipped, Added}
+use Rattle.symmetry.proofs.Bounds.{rising}
+use Rattle.symmetry.proofs.Members.{Tally, tally-first, tally-end, inside, tally-skipped, tally-added, tally-short}
+use Rattle.symmetry.proofs.Turning.{Turn, toCome, turn-first, turn-end, later, turn-at, turn-next, fewer}
+use Rattle.symmetry.proofs.listing.list_members.Statement.{statement}
+use Rattle.symmetry.proofs.listing.list_members.Tie as tie
+
+abbrev Inv : tie.InvT-loop
+Inv words low sh at floats inv rotations room matrices₀ rows₀ first d v flag₀ n₀ more₀ matrices rows flag n more =
+    (length matrices ≡ length matrices₀) × (length rows ≡ length rows₀)
+    × Turn (solidIn sh (take low words)) more (flagIn (sh .rank) flag) (Tally sh low words floats inv rotations room (sh .dimension) v matrices₀ matrices rows₀ rows n)
+
+abbrev μ : tie.MeasureT-loop
+μ words low sh at floats inv rotations room matrices₀ rows₀ first d v flag₀ n₀ more₀ matrices rows flag n more =
+    toCome (solidIn sh (take low words)) more (flagIn (sh .rank) flag)
+
+abbrev start : tie.At-loop Inv μ → tie.Start Inv μ
+start c = c .before .before .before .before .before .before .before .before
+
+slice-aggregate-first : tie.Need-slice-aggregate-first Inv μ
+slice-aggregate-first c = let s = c .before .before .before .before .before in sym (length-take-le (s .args .low) (s .args .words .now) (s .pre .bench .words-in))
+
+first-requires : tie.Need-first-requires Inv μ
+first-requires c κs = c .before .before .before .before .before .pre .bench .held
+
+vertex-count-requires : tie.Need-vertex-count-requires Inv μ
+vertex-count-requires c κs = rising (c .before .before .before .before .before .before .pre)
+
+tall : (s : tie.Start Inv μ) → s .args .sh .dimension ≤ length (s .args .inv)
+tall s = let k : length (s .args .inv) ≡ maxDimension = search needs in omega (arith, k, s .pre .bench .held .wide)
+
+loop-holds : tie.Need-loop-holds Inv μ
+loop-holds c =
+    let s = c .before .before .before .before .before .before .before in
+    let a = s .args in (
+      refl,
+      refl,
+      turn-first (solidIn (a .sh) (take (a .low) (a .words .now))) _ (flagIn (a .sh .rank) (c .before .first .result))
+          (nth-first (a .sh) (take (a .low) (a .words .now)) (s .pre .bench .held) _ (c .before .first .ensures))
+          (tally-first (s .pre) (a .inv) (tall s) (a .rotations) (a .room) (c .vertex-count .result) (c .vertex-count .ensures) (a .matrices .now) (a .rows .now)),
+    )
+
+-- what stands of the flags that are to come, the flag and those after it
+abbrev Stands : tie.At-loop Inv μ → List Flag → Type 0
+Stands l =
+    let a = start l .args in
+    Tally (a .sh) (a .low) (a .words .now) (a .floats .now) (a .inv) (a .rotations) (a .room) (a .sh .dimension) (l .before .vertex-count .result) (a .matrices .now) (l .loop .matrices) (a .rows .now) (l .loop .rows) (l .loop .n)
+
+abbrev flag : tie.At-loop Inv μ → Flag
+flag l = flagIn (start l .args .sh .rank) (l .loop .flag)
+
+abbrev rest : tie.In-loop Inv μ → List Flag
+rest c =
+    let l = c .before in
+    let s = start l in
+    later (s .args .sh) (take (s .args .low) (s .args .words .now)) (s .pre .bench .held) (Stands l) (flag l) (l .loop .more) (c .loop-test .taken) (l .loop .inv .2)
+
+stands : (c : tie.In-loop Inv μ) → Stands (c .before) (flag (c .before) ∷ rest c)
+stands c =
+    let l = c .before in
+    let s = start l in
+    turn-at (s .args .sh) (take (s .args .low) (s .args .words .now)) (s .pre .bench .held) (Stands l) (flag l) (l .loop .more) (c .loop-test .taken) (l .loop .inv .2)
+
+-- the parts after the members start within the outputs, whose lengths fit a word
+within : (c : tie.In-loop Inv μ) → let l = c .before in let a = start l .args in
+    (l .loop .n * (a .sh .dimension * a .sh .dimension) ≤ length (l .loop .matrices)) × (l .loop .n * l .before .vertex-count .result ≤ length (l .loop .rows)) × (l .loop .n ≤ a .room)
+within c =
+    let l = c .before in
+    let s = start l in
+    let a = s .args in
+    inside (s .pre) (a .inv) (tall s) (a .rotations) (a .room) (l .before .vertex-count .result) (l .before .vertex-count .ensures) (a .matrices .now) (a .rows .now) (l .loop .matrices) (l .loop .rows) (l .loop .n) (flag l) (rest c) (stands c)
+
+short : (s : tie.Start Inv μ) → (length (s .args .matrices .now) < 0x1000_0000_0000_0000) × (length (s .args .rows .now) < 0x4000_0000_0000_0000)
+short s = (omega arith, omega arith)
+
+mul-a : tie.Need-mul-a Inv μ
+mul-a c = let s = start (c .before) in omega (arith, mul-le-mul-left (s .args .sh .dimension) (s .pre .bench .held .wide), s .pre .bench .held .wide)
+
+mul-a-2 : tie.Need-mul-a-2 Inv μ
+mul-a-2 c = omega (arith, within c .0, c .before .loop .inv .0, short (start (c .before)) .0)
+
+mul-b : tie.Need-mul-b Inv μ
+mul-b c = omega (arith, within c .1, c .before .loop .inv .1, short (start (c .before)) .1)
+
+mul-try-flag : tie.Need-mul-try-flag Inv μ
+mul-try-flag c = omega (arith, within c .0, c .before .loop .inv .0, short (start (c .before)) .0)
+
+mul-try-flag-2 : tie.Need-mul-try-flag-2 Inv μ
+mul-try-flag-2 c = omega (arith, within (c .before) .1, c .before .before .loop .inv .1, short (start (c .before .before)) .1)
+
+part-try-flag-start : tie.Need-part-try-flag-start Inv μ
+part-try-flag-start c = omega (arith, within c .0)
+
+part-try-flag-start-2 : tie.Need-part-try-flag-start-2 Inv μ
+part-try-flag-start-2 c = omega (arith, within (c .before) .1)
+
+-- the flag is one
+is-flag : (c : tie.In-loop Inv μ) → let l = c .before in let a = start l .args in IsFlag (solidIn (a .sh) (take (a .low) (a .words .now))) (flag l)
+is-flag c =
+    let l = c .before in
+    let s = start l in
+    nth-flag (s .args .sh) (take (s .args .low) (s .args .words .now)) (s .pre .bench .held) (flag l) (l .loop .inv .2 .from) (l .loop .inv .2 .flag (c .loop-test .taken))
+
+try-flag-requires : tie.Need-try-flag-requires Inv μ
+try-flag-requires c κs =
+    let w = c .before .before in
+    (start (w .before) .pre, (is-flag w, w .before .before .before .first .ensures))
+
+-- the outputs after the flag is tried
+abbrev matrices : tie.After-try-flag Inv μ → List Float
+matrices t =
+    let l = t .before .before .before .before in
+    let k = l .loop .n * (start l .args .sh .dimension * start l .args .sh .dimension) in
+    putMid k (length (l .loop .matrices) - k) (l .loop .matrices) (t .try-flag .last .1 .1 .1 .1 .1 .1 .1 .1 .1 .1 .0)
+
+abbrev rows : tie.After-try-flag Inv μ → List ℕ
+rows t =
+    let l = t .before .before .before .before in
+    let k = l .loop .n * l .before .vertex-count .result in
+    putMid k (length (l .loop .rows) - k) (l .loop .rows) (t .try-flag .last .1 .1 .1 .1 .1 .1 .1 .1 .1 .1 .1 .0)
+
+many : (t : tie.After-try-flag Inv μ) → length (matrices t) ≡ length (start (t .before .before .before .before) .args .matrices .now)
+many t =
+    let l = t .before .before .before .before in
+    let k = l .loop .n * (start l .args .sh .dimension * start l .args .sh .dimension) in
+    same-len-mid k (length (l .loop .matrices) - k) (l .loop .matrices) (t .try-flag .last .1 .1 .1 .1 .1 .1 .1 .1 .1 .1 .0) (t .try-flag .kept .1 .1 .1 .1 .1 .1 .1 .1 .1 .1 .0) ∙ l .loop .inv .0
+
+long : (t : tie.After-try-flag Inv μ) → length (rows t) ≡ length (start (t .before .before .before .before) .args .rows .now)
+long t =
+    let l = t .before .before .before .before in
+    let k = l .loop .n * l .before .vertex-count .result in
+    same-len-mid k (length (l .loop .rows) - k) (l .loop .rows) (t .try-flag .last .1 .1 .1 .1 .1 .1 .1 .1 .1 .1 .1 .0) (t .try-flag .kept .1 .1 .1 .1 .1 .1 .1 .1 .1 .1 .1 .0) ∙ l .loop .inv .1
+
+-- what stands then
+abbrev Stood : tie.After-try-flag Inv μ → ℕ → List Flag → Type 0
+Stood t n =
+    let l = t .before .before .before .before in
+    let a = start l .args in
+    Tally (a .sh) (a .low) (a .words .now) (a .floats .now) (a .inv) (a .rotations) (a .room) (a .sh .dimension) (l .before .vertex-count .result) (a .matrices .now) (matrices t) (a .rows .now) (rows t) n
+
+skipped : (t : tie.After-try-flag Inv μ) → t .try-flag .result ≡ Skipped → Stood t (t .before .before .before .before .loop .n) (rest (t .before .before .before))
+skipped t r =
+    let c = t .before .before .before in
+    let l = c .before in
+    let s = start l in
+    let a = s .args in
+    tally-skipped (s .pre) (a .inv) (tall s) (a .rotations) (a .room) (l .before .vertex-count .result) (l .before .vertex-count .ensures) (a .matrices .now) (a .rows .now) (l .loop .matrices) (l .loop .rows) (l .loop .n) (flag l) (rest c) (stands c)
+    (t .try-flag .result) (t .try-flag .last .1 .1 .1 .1 .1 .1 .1 .1 .1 .1 .0) (t .try-flag .last .1 .1 .1 .1 .1 .1 .1 .1 .1 .1 .1 .0) (t .try-flag .ensures) r
+
+added : (t : tie.After-try-flag Inv μ) → t .try-flag .result ≡ Added → Stood t (t .before .before .before .before .loop .n + 1) (rest (t .before .before .before))
+added t r =
+    let c = t .before .before .before in
+    let l = c .before in
+    let s = start l in
+    let a = s .args in
+    tally-added (s .pre) (a .inv) (tall s) (a .rotations) (a .room) (l .before .vertex-count .result) (l .before .vertex-count .ensures) (a .matrices .now) (a .rows .now) (l .loop .matrices) (l .loop .rows) (l .loop .n) (flag l) (rest c) (stands c)
+    (t .try-flag .result) (t .try-flag .last .1 .1 .1 .1 .1 .1 .1 .1 .1 .1 .0) (t .try-flag .last .1 .1 .1 .1 .1 .1 .1 .1 .1 .1 .1 .0) (t .try-flag .ensures) r
+
+add-n : tie.Need-add-n Inv μ
+add-n c =
+    let t = c .before .before .before .before .before .before in
+    let s = start (t .before .before .before .before) in
+    let g = added t (c .enum-told2 .given .1) (solidAt (s .args .sh) (s .args .low) (s .args .words .now) (s .args .floats .now)) in
+    omega (arith, g .room .marks)
+
+same-length : tie.Need-same-length Inv μ
+same-length c = many (c .before .before .before .before .before .before)
+
+same-length-2 : tie.Need-same-length-2 Inv μ
+same-length-2 c = long (c .before .before .before .before .before .before)
+
+returns : tie.Need-returns Inv μ
+returns e =
+    let t = e .before .before .before .before .before .before in
+    let c = t .before .before .before in
+    let l = c .before in
+    let s = start l in
+    let a = s .args in
+    tally-short (s .pre) (a .inv) (tall s) (a .rotations) (a .room) (l .before .vertex-count .result) (l .before .vertex-count .ensures) (a .matrices .now) (a .rows .now) (l .loop .matrices) (l .loop .rows) (l .loop .n) (flag l) (rest c) (stands c)
+    (t .try-flag .result) (t .try-flag .last .1 .1 .1 .1 .1 .1 .1 .1 .1 .1 .0) (t .try-flag .last .1 .1 .1 .1 .1 .1 .1 .1 .1 .1 .1 .0) (t .try-flag .ensures) (e .enum-told3 .given .1)
+
+slice-aggregate-next : tie.Need-slice-aggregate-next Inv μ
+slice-aggregate-next c =
+    let s = start (c .before .before .before .before .before .before .before .before .before .before) in
+    sym (length-take-le (s .args .low) (s .args .words .now) (s .pre .bench .words-in))
+
+next-requires : tie.Need-next-requires Inv μ
+next-requires c κs =
+    let w = c .before .before .before .before .before .before .before .before .before in
+    (start (w .before) .pre .bench .held, is-flag w)
+
+loop-less : tie.Need-loop-less Inv μ
+loop-less c =
+    let w = c .before .before .before .before .before .before .before .before .before .before .before in
+    let l = w .before in
+    let s = start l in
+    fewer (s .args .sh) (take (s .args .low) (s .args .words .now)) (s .pre .bench .held) (Stands l) (flag l) (l .loop .more) (w .loop-test .taken) (l .loop .inv .2)
+    (c .before .next .result .more) (flagIn (s .args .sh .rank) (c .before .next .result .flag)) (c .before .next .ensures)
+
+loop-again : tie.Need-loop-again Inv μ
+loop-again c =
+    let m = c .before .before .before in
+    let t = m .before .before .before .before .before in
+    let w = t .before .before .before in
+    let l = w .before in
+    let s = start l in (
+      many t,
+      long t,
+      turn-next (s .args .sh) (take (s .args .low) (s .args .words .now)) (s .pre .bench .held) (Stands l) (flag l) (l .loop .more) (w .loop-test .taken) (l .loop .inv .2)
+          (c .before .next .result .more) (flagIn (s .args .sh .rank) (c .before .next .result .flag)) (c .before .next .ensures) (Stood t (m .match .n))
+          (⊎-elim (λ k. subst (λ n. Stood t n (rest w)) (sym (k .2)) (skipped t (k .1 .given .1))) (λ k. subst (λ n. Stood t n (rest w)) (sym (k .2)) (added t (k .1 .given .1))) (m .match .came)),
+    )
+
+returns-2 : tie.Need-returns-2 Inv μ
+returns-2 c =
+    let l = c .before in
+    let s = start l in
+    let a = s .args in
+    tally-end (s .pre) (a .inv) (tall s) (a .rotations) (a .room) (l .before .vertex-count .result) (l .before .vertex-count .ensures) (a .matrices .now) (a .rows .now) (l .loop .matrices) (l .loop .rows) (l .loop .n)
+    (turn-end (solidIn (a .sh) (take (a .low) (a .words .now))) (Stands l) (flag l) (l .loop .more) (c .loop-test .left) (l .loop .inv .2))
+
+pub list-members-spec : {M : Type 1} → statement M
+list-members-spec =
+    tie.close
+    (tie.spec
+    Inv
+    μ
+    slice-aggregate-first
+    first-requires
+    vertex-count-requires
+    loop-holds
+    mul-a
+    mul-a-2
+    mul-b
+    (λ c. within c .2)
+    mul-try-flag
+    (λ c. within c .0)
+    part-try-flag-start
+    (λ c. search needs)
+    mul-try-flag-2
+    (λ c. within (c .before) .1)
+    part-try-flag-start-2
+    (λ c. search needs)
+    try-flag-requires
+    (λ c. search needs)
+    (λ c. search needs)
+    add-n
+    (λ c. search needs)
+    same-length
+    same-length-2
+    returns
+    slice-aggregate-next
+    next-requires
+    loop-less
+    loop-again
+    (λ c. search needs)
+    (λ c. search needs)
+    returns-2)

@@ -1,0 +1,3 @@
+pub mod Tails
+pub mod Listing
+pub mod Searching
