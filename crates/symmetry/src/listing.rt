@@ -41,6 +41,17 @@ pub struct Listing {
     pub short: bool,
 }
 
+impl Listing {
+    fn of(count: usize, short: bool) -> Listing
+        ensures { λ r. ⌜ r ≡ record { count = count; short = short } ⌝ }
+    {
+        Listing {
+            count: count,
+            short: short,
+        }
+    }
+}
+
 fn vertex_count(sh: Shape) -> usize
     requires { ⌜ firstAt sh 1 ≤ firstAt sh 2 ⌝ }
     ensures { λ r. ⌜ r ≡ sizeAt sh 1 ⌝ }
@@ -180,8 +191,6 @@ pub fn list_members(
     let mut n: usize = 0;
     let mut more = true;
     while more {
-        let a = n * (d * d);
-        let b = n * v;
         let tried = try_flag(
             words,
             low,
@@ -193,8 +202,8 @@ pub fn list_members(
             inv,
             rotations,
             room - n,
-            &mut matrices[a..],
-            &mut rows[b..],
+            &mut matrices[n * (d * d)..],
+            &mut rows[n * v..],
         );
         match tried {
             Tried::Skipped => {}
@@ -202,19 +211,12 @@ pub fn list_members(
                 n += 1;
             }
             Tried::Short => {
-                return Listing {
-                    count: n,
-                    short: true,
-                };
+                return Listing::of(n, true);
             }
         }
         let next = flag.next(&words[..low], sh);
-        let after = next.flag;
-        flag = after;
+        flag = next.flag;
         more = next.more;
     }
-    Listing {
-        count: n,
-        short: false,
-    }
+    Listing::of(n, false)
 }

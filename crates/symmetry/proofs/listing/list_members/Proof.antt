@@ -92,20 +92,20 @@ within c =
 short : (s : tie.Start Inv μ) → (length (s .args .matrices .now) < 0x1000_0000_0000_0000) × (length (s .args .rows .now) < 0x4000_0000_0000_0000)
 short s = (omega arith, omega arith)
 
-mul-a : tie.Need-mul-a Inv μ
-mul-a c = let s = start (c .before) in omega (arith, mul-le-mul-left (s .args .sh .dimension) (s .pre .bench .held .wide), s .pre .bench .held .wide)
-
-mul-a-2 : tie.Need-mul-a-2 Inv μ
-mul-a-2 c = omega (arith, within c .0, c .before .loop .inv .0, short (start (c .before)) .0)
-
-mul-b : tie.Need-mul-b Inv μ
-mul-b c = omega (arith, within c .1, c .before .loop .inv .1, short (start (c .before)) .1)
-
 mul-try-flag : tie.Need-mul-try-flag Inv μ
-mul-try-flag c = omega (arith, within c .0, c .before .loop .inv .0, short (start (c .before)) .0)
+mul-try-flag c = let s = start (c .before) in omega (arith, mul-le-mul-left (s .args .sh .dimension) (s .pre .bench .held .wide), s .pre .bench .held .wide)
 
 mul-try-flag-2 : tie.Need-mul-try-flag-2 Inv μ
-mul-try-flag-2 c = omega (arith, within (c .before) .1, c .before .before .loop .inv .1, short (start (c .before .before)) .1)
+mul-try-flag-2 c = omega (arith, within c .0, c .before .loop .inv .0, short (start (c .before)) .0)
+
+mul-try-flag-3 : tie.Need-mul-try-flag-3 Inv μ
+mul-try-flag-3 c = omega (arith, within c .0, c .before .loop .inv .0, short (start (c .before)) .0)
+
+mul-try-flag-4 : tie.Need-mul-try-flag-4 Inv μ
+mul-try-flag-4 c = omega (arith, within (c .before) .1, c .before .before .loop .inv .1, short (start (c .before .before)) .1)
+
+mul-try-flag-5 : tie.Need-mul-try-flag-5 Inv μ
+mul-try-flag-5 c = omega (arith, within (c .before) .1, c .before .before .loop .inv .1, short (start (c .before .before)) .1)
 
 part-try-flag-start : tie.Need-part-try-flag-start Inv μ
 part-try-flag-start c = omega (arith, within c .0)
@@ -183,20 +183,22 @@ add-n c =
     omega (arith, g .room .marks)
 
 same-length : tie.Need-same-length Inv μ
-same-length c = many (c .before .before .before .before .before .before)
+same-length c = many (c .before .before .before .before .before .before .before)
 
 same-length-2 : tie.Need-same-length-2 Inv μ
-same-length-2 c = long (c .before .before .before .before .before .before)
+same-length-2 c = long (c .before .before .before .before .before .before .before)
 
 returns : tie.Need-returns Inv μ
-returns e =
+returns r x =
+    let e = r .before in
     let t = e .before .before .before .before .before .before in
     let c = t .before .before .before in
     let l = c .before in
     let s = start l in
     let a = s .args in
-    tally-short (s .pre) (a .inv) (tall s) (a .rotations) (a .room) (l .before .vertex-count .result) (l .before .vertex-count .ensures) (a .matrices .now) (a .rows .now) (l .loop .matrices) (l .loop .rows) (l .loop .n) (flag l) (rest c) (stands c)
-    (t .try-flag .result) (t .try-flag .last .1 .1 .1 .1 .1 .1 .1 .1 .1 .1 .0) (t .try-flag .last .1 .1 .1 .1 .1 .1 .1 .1 .1 .1 .1 .0) (t .try-flag .ensures) (e .enum-told3 .given .1)
+    rw (r .of .ensures)
+    (tally-short (s .pre) (a .inv) (tall s) (a .rotations) (a .room) (l .before .vertex-count .result) (l .before .vertex-count .ensures) (a .matrices .now) (a .rows .now) (l .loop .matrices) (l .loop .rows) (l .loop .n) (flag l) (rest c) (stands c)
+    (t .try-flag .result) (t .try-flag .last .1 .1 .1 .1 .1 .1 .1 .1 .1 .1 .0) (t .try-flag .last .1 .1 .1 .1 .1 .1 .1 .1 .1 .1 .1 .0) (t .try-flag .ensures) (e .enum-told3 .given .1) x)
 
 slice-aggregate-next : tie.Need-slice-aggregate-next Inv μ
 slice-aggregate-next c =
@@ -231,12 +233,14 @@ loop-again c =
     )
 
 returns-2 : tie.Need-returns-2 Inv μ
-returns-2 c =
+returns-2 r x =
+    let c = r .before in
     let l = c .before in
     let s = start l in
     let a = s .args in
-    tally-end (s .pre) (a .inv) (tall s) (a .rotations) (a .room) (l .before .vertex-count .result) (l .before .vertex-count .ensures) (a .matrices .now) (a .rows .now) (l .loop .matrices) (l .loop .rows) (l .loop .n)
-    (turn-end (solidIn (a .sh) (take (a .low) (a .words .now))) (Stands l) (flag l) (l .loop .more) (c .loop-test .left) (l .loop .inv .2))
+    rw (r .of2 .ensures)
+    (tally-end (s .pre) (a .inv) (tall s) (a .rotations) (a .room) (l .before .vertex-count .result) (l .before .vertex-count .ensures) (a .matrices .now) (a .rows .now) (l .loop .matrices) (l .loop .rows) (l .loop .n)
+    (turn-end (solidIn (a .sh) (take (a .low) (a .words .now))) (Stands l) (flag l) (l .loop .more) (c .loop-test .left) (l .loop .inv .2)) x)
 
 pub list-members-spec : {M : Type 1} → statement M
 list-members-spec =
@@ -248,15 +252,15 @@ list-members-spec =
     first-requires
     vertex-count-requires
     loop-holds
-    mul-a
-    mul-a-2
-    mul-b
     (λ c. within c .2)
     mul-try-flag
+    mul-try-flag-2
+    mul-try-flag-3
     (λ c. within c .0)
     part-try-flag-start
     (λ c. search needs)
-    mul-try-flag-2
+    mul-try-flag-4
+    mul-try-flag-5
     (λ c. within (c .before) .1)
     part-try-flag-start-2
     (λ c. search needs)
@@ -265,6 +269,7 @@ list-members-spec =
     (λ c. search needs)
     add-n
     (λ c. search needs)
+    (λ c κs. search needs)
     same-length
     same-length-2
     returns
@@ -272,6 +277,7 @@ list-members-spec =
     next-requires
     loop-less
     loop-again
+    (λ c κs. search needs)
     (λ c. search needs)
     (λ c. search needs)
     returns-2)
