@@ -59,28 +59,44 @@ pub fn all() {
     copying("copying, 48 matrices, 1 seed", 3, &seeds(1, 3), &all48);
     copying("copying, 48 matrices, 40 seeds", 3, &seeds(40, 3), &all48);
     copying("copying, 120 matrices in 4 dimensions, 1 seed", 4, &seeds(1, 4), &flat(&icosians()));
-    #[cfg(solids)]
-    on_solids::all();
+    #[cfg(types)]
+    on_solids::all(&mut random);
 }
 
-#[cfg(solids)]
+#[cfg(types)]
 mod on_solids {
     use super::{tell, timed};
-    use crate::library::{self, Lent, Members, Workspace};
-    use crate::solids::{bipyramid, dyad, polygon, product, tetrahemihexahedron, Solid};
+    use crate::families::{asymmetric, cell_24, uniform};
+    #[cfg(solids)]
+    use crate::library::Members;
+    use crate::library::{self, Lent, Workspace};
+    use crate::random::Random;
+    use crate::solids::{dyad, polygon, product, tetrahemihexahedron, Solid};
 
-    fn one(what: &str, solid: &Solid) {
+    /// Ours has the sheet to read and judge besides; the Rust's solid is built before.
+    fn types(what: &str, solid: &Solid) {
+        let sheet = solid.pack();
+        let rust = oracle::Solid::read(&sheet).unwrap();
+        let (elements, entries) = solid.size();
+        let mut space = Workspace::new(16 * (elements + entries + 4), 8 * (elements + 8));
+        let (mut of, mut table) = (Lent::new(elements), Lent::new(4 * elements));
+        let answer = library::types(&sheet, &mut space, &mut of, &mut table);
+        let n = rust.type_count();
+        assert!(answer.refusal == 0 && answer.count == n, "{}: {:?}, the Rust has {}", what, answer, n);
+        tell(
+            &format!("types, {}, {} elements", what, elements),
+            n,
+            timed(|| library::types(&sheet, &mut space, &mut of, &mut table).count, || rust.type_count()),
+        );
+    }
+
+    #[cfg(solids)]
+    fn search(what: &str, solid: &Solid) {
         let sheet = solid.pack();
         let mut rust = oracle::Solid::read(&sheet).unwrap();
         let (elements, entries) = solid.size();
         let (d, v, n) = (solid.dimension, solid.points.len(), rust.member_count());
         let mut space = Workspace::new(16 * (elements + entries + 4), 8 * (elements + 8));
-        let (mut of, mut table) = (Lent::new(elements), Lent::new(4 * elements));
-        tell(
-            &format!("types, {}", what),
-            rust.type_count(),
-            timed(|| library::types(&sheet, &mut space, &mut of, &mut table).count, || rust.type_count()),
-        );
         let mut out = Members { matrices: Lent::new(n * d * d), rows: Lent::new(n * v), marks: Lent::new(n) };
         tell(
             &format!("search, {}", what),
@@ -89,16 +105,33 @@ mod on_solids {
         );
     }
 
-    pub fn all() {
-        let square = polygon(&[1.0; 4], 1);
+    fn prism(n: usize) -> Solid {
+        product(&polygon(&vec![1.0; n], 1), &dyad(-1.0, 1.0))
+    }
+
+    pub fn all(random: &mut Random) {
         let side = dyad(-1.0, 1.0);
         let cube = product(&product(&side, &side), &side);
-        one("square", &square);
-        one("cube", &cube);
-        one("octahedron", &bipyramid(&square, 1.0, -1.0));
-        one("prism over a 24-gon", &product(&polygon(&[1.0; 24], 1), &side));
-        one("tetrahemihexahedron", &tetrahemihexahedron());
-        one("tesseract", &product(&cube, &side));
-        one("duoprism 8 by 12", &product(&polygon(&[1.0; 8], 1), &polygon(&[1.0; 12], 1)));
+        let tesseract = product(&cube, &side);
+        let polychora = [
+            ("tesseract".to_owned(), tesseract),
+            ("24-cell".to_owned(), cell_24()),
+            ("duoprism 8 by 12".to_owned(), product(&polygon(&[1.0; 8], 1), &polygon(&[1.0; 12], 1))),
+        ];
+        let mut both: Vec<(String, Solid)> = [3, 4, 5, 8, 12, 24, 32, 48, 63].iter().map(|n| (format!("{}-gon", n), polygon(&vec![1.0; *n], 1))).collect();
+        both.extend([3, 5, 12, 24].iter().map(|n| (format!("prism over a {}-gon", n), prism(*n))));
+        both.extend(uniform().into_iter().map(|(name, solid)| (name.to_owned(), solid)));
+        both.push(("tetrahemihexahedron".to_owned(), tetrahemihexahedron()));
+        both.extend(polychora);
+        for (name, solid) in &both {
+            types(name, solid);
+            #[cfg(solids)]
+            search(name, solid);
+        }
+        types("512-gon", &polygon(&[1.0; 512], 1));
+        types("asymmetric, 500 vertices", &asymmetric(500, random));
+        for n in [40, 80, 160, 320, 640] {
+            types(&format!("prism over a {}-gon", n), &prism(n));
+        }
     }
 }

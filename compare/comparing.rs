@@ -129,8 +129,8 @@ fn spoilt_sheet(random: &mut Random, solid: Solid, sheet: Vec<u8>) -> Vec<u8> {
     }
 }
 
-/// A solid: until the library has the calls, its sheet is only judged, so that the generator is known to be sound.
-#[cfg(not(solids))]
+/// A solid: where the library has no call on solids, its sheet is only judged, so that the generator is known to be sound.
+#[cfg(not(types))]
 pub fn solid(random: &mut Random, tally: &mut Tally) {
     let solid = solids::some_solid(random);
     if !solid.within_limits() {
@@ -153,7 +153,7 @@ pub fn solid(random: &mut Random, tally: &mut Tally) {
 
 /// A solid that is not clean (01, section 6) may differ by right (docs/DIFFERENCES.md). The generator hardly makes any, so nothing is left
 /// out here: a difference prints its sheet, to be looked at.
-#[cfg(solids)]
+#[cfg(types)]
 pub fn solid(random: &mut Random, tally: &mut Tally) {
     let solid = solids::some_solid(random);
     if !solid.within_limits() {
@@ -173,17 +173,23 @@ pub fn solid(random: &mut Random, tally: &mut Tally) {
         Err(n) => on_solids::refused(random, tally, &sheet, words, floats, n),
         Ok(judged) => {
             on_solids::types(random, tally, &sheet, words, floats, &judged);
-            on_solids::search(random, tally, &sheet, words, floats, &judged, false);
-            on_solids::search(random, tally, &sheet, words, floats, &judged, true);
+            #[cfg(solids)]
+            for only_rotations in [false, true] {
+                on_solids::search(random, tally, &sheet, words, floats, &judged, only_rotations);
+            }
         }
     }
 }
 
-#[cfg(solids)]
+#[cfg(types)]
 mod on_solids {
     use super::{near, Tally};
-    use crate::library::{self, Answer, Lent, Members, Workspace};
-    use crate::model::{self, Judged};
+    #[cfg(solids)]
+    use crate::library::Members;
+    use crate::library::{self, Answer, Lent, Workspace};
+    #[cfg(solids)]
+    use crate::model;
+    use crate::model::Judged;
     use crate::random::Random;
 
     fn hex(sheet: &[u8]) -> String {
@@ -206,6 +212,7 @@ mod on_solids {
         let (mut of, mut table) = (Lent::new(random.below(40)), Lent::new(random.below(40)));
         let answer = library::types(sheet, &mut space, &mut of, &mut table);
         tell(tally, "types", of.is(&[]) && table.is(&[]) && space.guarded(), answer, (number, 0), sheet);
+        #[cfg(solids)]
         for only_rotations in [false, true] {
             let mut out = Members { matrices: Lent::new(random.below(40)), rows: Lent::new(random.below(40)), marks: Lent::new(random.below(40)) };
             let answer = library::search(sheet, &mut space, &mut out, only_rotations);
@@ -229,11 +236,10 @@ mod on_solids {
         let short = of_len < expected.of.len() || table_len < expected.table.len();
         let cells = |l: &[usize]| if short { vec![] } else { l.iter().map(|x| *x as u16).collect::<Vec<u16>>() };
         let same = of.is(&cells(&expected.of)) && table.is(&cells(&expected.table)) && space.guarded();
-        // at 13 the count is left to the contract
-        let count = if short { answer.count } else { expected.table.len() / 4 };
-        tell(tally, "types", same, answer, (if short { 13 } else { 0 }, count), sheet);
+        tell(tally, "types", same, answer, if short { (13, 0) } else { (0, expected.table.len() / 4) }, sheet);
     }
 
+    #[cfg(solids)]
     pub fn search(random: &mut Random, tally: &mut Tally, sheet: &[u8], words: usize, floats: usize, judged: &Judged, only_rotations: bool) {
         let call = if only_rotations { "rotations" } else { "search" };
         let mut found = oracle::Members { matrices: vec![], rows: vec![], rotations: vec![] };

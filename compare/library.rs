@@ -15,7 +15,7 @@ extern "C" {
     ) -> u64;
 }
 
-#[cfg(solids)]
+#[cfg(types)]
 extern "C" {
     fn jidwaleb_types(
         sheet: *const u8,
@@ -29,6 +29,10 @@ extern "C" {
         table: *mut u16,
         table_len: usize,
     ) -> u64;
+}
+
+#[cfg(solids)]
+extern "C" {
     fn jidwaleb_search(
         sheet: *const u8,
         sheet_len: usize,
@@ -162,13 +166,13 @@ pub fn copy(dimension: u64, points: &[f64], turns: &[f64], copies: &mut Lent<f64
 }
 
 /// The workspace of a call on a solid. What it holds afterwards is free.
-#[cfg(solids)]
+#[cfg(types)]
 pub struct Workspace {
     pub words: Lent<u32>,
     pub floats: Lent<f64>,
 }
 
-#[cfg(solids)]
+#[cfg(types)]
 impl Workspace {
     pub fn new(words: usize, floats: usize) -> Self {
         Workspace { words: Lent::new(words), floats: Lent::new(floats) }
@@ -179,7 +183,7 @@ impl Workspace {
     }
 }
 
-#[cfg(solids)]
+#[cfg(types)]
 pub fn types(sheet: &[u8], space: &mut Workspace, of: &mut Lent<u16>, table: &mut Lent<u16>) -> Answer {
     let (words, floats, of, table) = (space.words.lend(), space.floats.lend(), of.lend(), table.lend());
     Answer::of(unsafe {

@@ -4,7 +4,7 @@
 //!     compare bench            times and their ratios
 //!     compare sheets N SEED FOLDER     writes N random sheets into FOLDER
 //!
-//! `--cfg solids` switches the library's calls on solids on, once the archive has them (build.sh looks).
+//! `--cfg types` switches the types call on, `--cfg solids` search and rotations besides, once the archive has them (build.sh looks).
 
 #![allow(unexpected_cfgs)]
 #![cfg_attr(not(solids), allow(dead_code))]
@@ -12,6 +12,8 @@
 mod bench;
 mod comparing;
 mod copyings;
+#[cfg(types)]
+mod families;
 mod library;
 mod model;
 mod random;

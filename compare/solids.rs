@@ -48,7 +48,7 @@ impl Solid {
     }
 
     /// From the subs of each element at each rank from 2 on.
-    fn new(points: Vec<Vec<f64>>, mut lists: Vec<Vec<Vec<usize>>>) -> Solid {
+    pub fn new(points: Vec<Vec<f64>>, mut lists: Vec<Vec<Vec<usize>>>) -> Solid {
         lists.iter_mut().flatten().for_each(|l| l.sort_unstable());
         Solid { dimension: points[0].len(), points, lists }
     }

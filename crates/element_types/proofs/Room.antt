@@ -32,7 +32,7 @@ unfolding sum
 sum-has f (q ∷ l) r (inl e) = rw e (omega arith)
 sum-has f (q ∷ l) r (inr m) = omega (arith, sum-has f l r m)
 
-sum-under : (f : ℕ → ℕ) (c : ℕ) (l : List ℕ) → ((r : ℕ) → In r l → f r ≤ c) → sum (map f l) ≤ length l * c
+pub sum-under : (f : ℕ → ℕ) (c : ℕ) (l : List ℕ) → ((r : ℕ) → In r l → f r ≤ c) → sum (map f l) ≤ length l * c
 unfolding sum
 sum-under f c [] h = zero-le
 sum-under f c (q ∷ l) h = omega (arith, h q (inl refl), sum-under f c l (λ r m. h r (inr m)))

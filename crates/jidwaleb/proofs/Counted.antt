@@ -1,4 +1,4 @@
--- No answer of a copying call counts more than 2,048 copies, so that its code fits 64 bits.
+-- No answer counts more than 2,048 copies, or 2,048 types a rank, so that its code fits 64 bits.
 -- Assumes nothing.
 use mathlib.Core.Path.{_≡_, refl}
 use mathlib.Core.Bool.{Bool, true, false, _&&_}
@@ -16,8 +16,13 @@ use Rattle.spec.specs.Limits.{maxCount}
 use Rattle.spec.specs.Judged.{Judged, refused, passed}
 use Rattle.spec.specs.Lists.{holds, join}
 use Rattle.spec.specs.Matrix.{Vector, Matrix}
+use Rattle.spec.specs.Calls.{TypesOut, typesCall}
 use Rattle.spec.specs.Copying.{copies, points, matrices, copyTable, written, judgeCopy, copyOut, copyCall}
 use Rattle.spec.proofs.Accepted.{le-test}
+use Rattle.types.proofs.Few.{call-count}
+
+pub types-count : (b : List ℕ) (words floats : ℕ) (old : TypesOut) → answerCount (typesCall b words floats old .0) < 2 ^ 32
+types-count b words floats old = omega (arith, call-count b words floats old)
 
 module _ (n : ℕ) (ms : List Matrix) (cs : List Vector) (outPoints : List Float) (outTable : List ℕ) where
   abbrev cells : ℕ

@@ -11,3 +11,7 @@ codeOf a = answerNumber a * 2 ^ 32 + answerCount a
 -- a call's answer and its two outputs, with the answer as its code
 abbrev pub coded : {A B : Type 0} → Answer × A × B → ℕ × A × B
 coded x = (codeOf (x .0), x .1, x .2)
+
+-- the same of a call whose outputs are one record
+abbrev pub codedOut : {A : Type 0} → Answer × A → ℕ × A
+codedOut x = (codeOf (x .0), x .1)

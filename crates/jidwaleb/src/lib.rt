@@ -1,11 +1,13 @@
 // The public calls over C's interface, for the static library. A slice goes as a pointer and then a length, in its elements; the caller lends
 // every buffer. A call answers one number: the refusal's number of document 01's table, or 0, times 2^32, plus the count of what it gave
-// out (copies; at 13 those that fitted). What it writes is what its definition in crate `spec` says.
+// out (types; copies, at 13 those that fitted). What it writes is what its definition in crate `spec` says.
 ghost use mathlib.Core.Path.{_≡_};
+ghost use lib.ListN.{length};
+ghost use Rattle.spec.specs.Calls.{typesCall};
 ghost use Rattle.spec.specs.Copying.{copyCall};
 ghost use Rattle.spec.specs.Refusal.{answerCount};
 ghost use Prim.Native.Nat.{_<_, _^_};
-ghost use Rattle.jidwaleb.specs.Code.{codeOf, coded};
+ghost use Rattle.jidwaleb.specs.Code.{codeOf, coded, codedOut};
 use spec::Answer;
 
 // An answer as one number.
@@ -17,6 +19,22 @@ fn code(answer: Answer) -> u64
         Answer::Done(n) => n as u64,
         Answer::Refused(why, n) => why.number() as u64 * 0x1_0000_0000 + n as u64,
     }
+}
+
+// Section 4: a sheet in; the type of each proper element and the types' records out. The workspace lent as words and floats is free afterwards.
+#[no_mangle]
+pub extern "C" fn jidwaleb_types(
+    sheet: &[u8],
+    words: &mut [u32],
+    floats: &mut [f64],
+    of: &mut [u16],
+    table: &mut [u16],
+) -> u64
+    ensures { λ r. ⌜ (r, record { elements = now (of .exit); types = now (table .exit) })
+        ≡ codedOut (typesCall (now (sheet .entry)) (length (now (words .entry))) (length (now (floats .entry)))
+        (record { elements = now (of .entry); types = now (table .entry) })) ⌝ }
+{
+    code(types::element_types(sheet, words, floats, of, table))
 }
 
 // Section 7: points and matrices in, row by row; the copies and their table out.

@@ -4,3 +4,4 @@ pub mod Ranks
 pub mod Call
 pub mod Placed
 pub mod Demand3
+pub mod Few

@@ -1,0 +1,48 @@
+-- By the sheet's length and the types call's answer.
+-- Assumes nothing.
+use mathlib.Core.Path.{refl}
+use native.Mathlib.Omega.{arith}
+use borrow.Author.Needs.{needs}
+use Rattle.spec.specs.declared.Refusal.the-variants.{CutSheet}
+use Rattle.text.proofs.Growing.{puts-is}
+use Rattle.text.proofs.Pieces.{refused-long}
+use Rattle.kit.proofs.Parts.{cut-text, done-text, refused-text}
+use Rattle.kit.proofs.first_text.Statement.{statement}
+use Rattle.kit.proofs.first_text.Tie as tie
+
+pub first-text-spec : {M : Type 1} → statement M
+first-text-spec =
+    tie.close
+    (tie.spec
+    -- refused-requires, returns: the sheet is too long
+    (λ c κs. omega (arith, refused-long CutSheet))
+    (λ c. puts-is (c .refused .ensures) (cut-text _ (c .before .before .if1 .taken)))
+    -- what the types call is lent
+    (λ c. search needs)
+    (λ c. search needs)
+    (λ c. search needs)
+    (λ c. search needs)
+    (λ c κs. search needs)
+    -- enum-known-answer, slice-aggregate-put-types
+    (λ c. search needs)
+    (λ c. search needs)
+    -- put-types-requires
+    (λ c κs. let a = c .before .before .before in
+    let e = a .before .before .before .before .before .before in
+    let l = e .before .before .before .before .before in
+    let d = done-text _ _ _ _ _ _ (e .element-types .ensures) (l .if1 .left) refl refl refl refl _ (a .answer .given .1) in
+    (omega arith, d .0))
+    -- enum-known-answer-2, refused-requires-2
+    (λ c. search needs)
+    (λ c κs. omega (arith, refused-long (c .before .before .answer2 .given .0 .0)))
+    -- returns-2
+    (λ c. let a = c .before .before .before .before in
+    let e = a .before .before .before .before .before .before in
+    let l = e .before .before .before .before .before in
+    let d = done-text _ _ _ _ _ _ (e .element-types .ensures) (l .if1 .left) refl refl refl refl _ (a .answer .given .1) in
+    puts-is (c .put-types .ensures) (d .1))
+    -- returns-3
+    (λ c. let a = c .before .before .before in
+    let e = a .before .before .before .before .before .before in
+    let l = e .before .before .before .before .before in
+    puts-is (c .refused2 .ensures) (refused-text _ _ _ _ _ _ (e .element-types .ensures) (l .if1 .left) refl refl refl refl _ _ (a .answer2 .given .1))))

@@ -1,0 +1,34 @@
+-- Ends, and stays within its slice. Assumes nothing.
+use Prim.Native.Nat.{_≤_, _-_}
+use native.Mathlib.Omega.{arith}
+use mathlib.Core.Path.{_≡_}
+use lib.ListN.{length}
+use borrow.Author.Needs.{needs}
+use Rattle.types_replay.proofs.write_cells.Statement.{statement}
+use Rattle.types_replay.proofs.write_cells.Tie as tie
+
+abbrev Inv-loop : tie.InvT-loop
+Inv-loop s i₀ line i = (i ≤ length s) × (length line ≡ 1)
+
+abbrev μ-loop : tie.MeasureT-loop
+μ-loop s i₀ line i = length s - i
+
+pub write-cells-spec : {M : Type 1} → statement M
+write-cells-spec =
+    tie.close
+    (tie.spec
+    Inv-loop
+    μ-loop
+    (λ c. search needs)
+    (λ c. search needs)
+    (λ c. search needs)
+    -- cast-write-number
+    (λ c. omega (arith, c .shared-slice-known2 .given (c .before .before .loop .i)))
+    (λ c κs. search needs)
+    (λ c. search needs)
+    (λ c. search needs)
+    (λ c. search needs)
+    (λ c. search needs)
+    (λ c. search needs)
+    (λ c κs. search needs)
+    (λ c. search needs))

@@ -1,0 +1,5 @@
+//! Where `rt staticlib jidwaleb` writes the archive.
+
+fn main() {
+    println!("cargo:rustc-link-search=native={}/../target/staticlib", env!("CARGO_MANIFEST_DIR"));
+}

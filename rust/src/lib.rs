@@ -1,0 +1,200 @@
+//! A safe wrapper over libjidwaleb.a, which `rt staticlib jidwaleb` writes (../include/jidwaleb.h says what the calls do).
+//!
+//! `types` and `copy` take slices and give Vecs. `types_into` and `copy_into` write into buffers that the caller lends, and allocate nothing.
+
+use std::fmt;
+
+#[link(name = "jidwaleb", kind = "static")]
+extern "C" {
+    fn jidwaleb_types(
+        sheet: *const u8,
+        sheet_length: usize,
+        words: *mut u32,
+        words_length: usize,
+        floats: *mut f64,
+        floats_length: usize,
+        of: *mut u16,
+        of_length: usize,
+        table: *mut u16,
+        table_length: usize,
+    ) -> u64;
+    fn jidwaleb_copy(
+        dimension: u64,
+        points: *const f64,
+        points_length: usize,
+        turns: *const f64,
+        turns_length: usize,
+        copies: *mut f64,
+        copies_length: usize,
+        table: *mut u16,
+        table_length: usize,
+    ) -> u64;
+}
+
+macro_rules! refusals {
+    ($($name:ident = $number:literal, $word:literal;)*) => {
+        /// Document 01's table.
+        #[derive(Clone, Copy, Debug, PartialEq, Eq, Hash)]
+        pub enum Refusal {
+            $($name = $number,)*
+        }
+
+        impl Refusal {
+            fn of_number(number: u64) -> Option<Refusal> {
+                match number {
+                    $($number => Some(Refusal::$name),)*
+                    _ => None,
+                }
+            }
+
+            pub fn word(self) -> &'static str {
+                match self {
+                    $(Refusal::$name => $word,)*
+                }
+            }
+        }
+    };
+}
+
+refusals! {
+    CutSheet = 1, "cut sheet";
+    Format = 2, "format";
+    OffTheBoard = 3, "off the board";
+    BadList = 4, "bad list";
+    Loose = 5, "loose";
+    Mitre = 6, "mitre";
+    Bench = 7, "bench";
+    NotFull = 8, "not full";
+    DoubleCorner = 9, "double corner";
+    Centred = 10, "centred";
+    Flat = 11, "flat";
+    Blank = 12, "blank";
+    ShortSheet = 13, "short sheet";
+    Open = 14, "open";
+    Unsettled = 15, "unsettled";
+}
+
+impl Refusal {
+    pub fn number(self) -> u32 {
+        self as u32
+    }
+}
+
+impl fmt::Display for Refusal {
+    fn fmt(&self, f: &mut fmt::Formatter<'_>) -> fmt::Result {
+        f.write_str(self.word())
+    }
+}
+
+/// A refusal, and how many copies were written all the same (0 but for copying's 13 and 14).
+#[derive(Clone, Copy, Debug, PartialEq, Eq)]
+pub struct Refused {
+    pub why: Refusal,
+    pub kept: usize,
+}
+
+impl fmt::Display for Refused {
+    fn fmt(&self, f: &mut fmt::Formatter<'_>) -> fmt::Result {
+        write!(f, "refused {}: {}", self.why.number(), self.why)
+    }
+}
+
+impl std::error::Error for Refused {}
+
+pub type Result<T> = std::result::Result<T, Refused>;
+
+/// The refusal's number stands above the count.
+fn answered(code: u64) -> Result<usize> {
+    let count = (code & 0xffff_ffff) as usize;
+    match Refusal::of_number(code >> 32) {
+        None => Ok(count),
+        Some(why) => Err(Refused { why, kept: count }),
+    }
+}
+
+/// The types of a sheet's elements, into `of` (a cell each) and `table` (four cells a type: rank, type, example, count). Says how many types
+/// there are. The workspace, words and floats, may hold anything.
+pub fn types_into(sheet: &[u8], words: &mut [u32], floats: &mut [f64], of: &mut [u16], table: &mut [u16]) -> Result<usize> {
+    answered(unsafe {
+        jidwaleb_types(
+            sheet.as_ptr(),
+            sheet.len(),
+            words.as_mut_ptr(),
+            words.len(),
+            floats.as_mut_ptr(),
+            floats.len(),
+            of.as_mut_ptr(),
+            of.len(),
+            table.as_mut_ptr(),
+            table.len(),
+        )
+    })
+}
+
+/// A type: its rank and number, its lowest element, and how many elements have it.
+#[derive(Clone, Copy, Debug, PartialEq, Eq)]
+pub struct ElementType {
+    pub rank: u16,
+    pub number: u16,
+    pub example: u16,
+    pub count: u16,
+}
+
+/// The type of each proper element, by rising rank and index; and all types, by rising rank and number.
+#[derive(Clone, Debug, PartialEq, Eq)]
+pub struct Types {
+    pub of: Vec<u16>,
+    pub types: Vec<ElementType>,
+}
+
+pub fn types(sheet: &[u8]) -> Result<Types> {
+    // An element but a vertex takes 12 bits of the sheet at least and an entry takes 11. There are at most 2,048 elements a rank, of four
+    // ranks, and 8,192 entries a rank, of three.
+    let elements = (2048 + sheet.len()).min(4 * 2048);
+    let entries = sheet.len().min(3 * 8192);
+    let (mut words, mut floats) = (vec![0; 16 * (elements + entries + 4)], vec![0.0; 8 * (elements + 8)]);
+    let (mut of, mut table) = (vec![0; elements], vec![0; 4 * elements]);
+    let n = types_into(sheet, &mut words, &mut floats, &mut of, &mut table)?;
+    let types: Vec<ElementType> = table[..4 * n]
+        .chunks(4)
+        .map(|cells| ElementType { rank: cells[0], number: cells[1], example: cells[2], count: cells[3] })
+        .collect();
+    of.truncate(types.iter().map(|t| usize::from(t.count)).sum());
+    Ok(Types { of, types })
+}
+
+/// Copies of the points under the matrices, into `copies`, and their images into `table`, a row for each matrix. Says how many copies there are.
+pub fn copy_into(dimension: usize, points: &[f64], turns: &[f64], copies: &mut [f64], table: &mut [u16]) -> Result<usize> {
+    answered(unsafe {
+        jidwaleb_copy(
+            dimension as u64,
+            points.as_ptr(),
+            points.len(),
+            turns.as_ptr(),
+            turns.len(),
+            copies.as_mut_ptr(),
+            copies.len(),
+            table.as_mut_ptr(),
+            table.len(),
+        )
+    })
+}
+
+/// Copies, so many floats each as there are dimensions; and for each matrix the number of each copy's image.
+#[derive(Clone, Debug, PartialEq)]
+pub struct Copies {
+    pub points: Vec<f64>,
+    pub table: Vec<u16>,
+}
+
+/// At most 2,048 copies.
+pub fn copy(dimension: usize, points: &[f64], turns: &[f64]) -> Result<Copies> {
+    // a dimension that is none is refused whatever is lent
+    let d = dimension.clamp(1, 4);
+    let count = turns.len() / (d * d);
+    let (mut copies, mut table) = (vec![0.0; 2048 * d], vec![0; 2048 * count]);
+    let n = copy_into(dimension, points, turns, &mut copies, &mut table)?;
+    copies.truncate(n * d);
+    table.truncate(n * count);
+    Ok(Copies { points: copies, table })
+}

@@ -1,0 +1,41 @@
+/* link_test SHEET: the lines that `kit` prints for the types of a sheet, in the space that `kit` lends.
+ * link_test: a point copied by quarter turns, and by one of them alone. */
+#include <stdio.h>
+#include "jidwaleb.h"
+
+static uint8_t sheet[8193];
+static uint32_t words[4096];
+static double floats[2048];
+static uint16_t of[256], table[4 * 256];
+
+static int types(const char *path) {
+    FILE *file = fopen(path, "rb");
+    if (!file) return 1;
+    size_t length = fread(sheet, 1, sizeof sheet, file);
+    fclose(file);
+    uint64_t answer = jidwaleb_types(sheet, length, words, 4096, floats, 2048, of, 256, table, 4 * 256);
+    if (JIDWALEB_REFUSAL(answer)) {
+        printf("refused %u\n", JIDWALEB_REFUSAL(answer));
+        return 0;
+    }
+    printf("types %u\n", JIDWALEB_COUNT(answer));
+    for (const uint16_t *t = table; t < table + 4 * JIDWALEB_COUNT(answer); t += 4)
+        printf("%u %u %u %u\n", t[0], t[1], t[2], t[3]);
+    return 0;
+}
+
+static int copies(void) {
+    const double point[2] = {1, 0}, turns[16] = {1, 0, 0, 1, 0, -1, 1, 0, -1, 0, 0, -1, 0, 1, -1, 0};
+    double out[8];
+    uint16_t images[16];
+    uint64_t answer = jidwaleb_copy(2, point, 2, turns, 16, out, 8, images, 16);
+    printf("copies %u\n", JIDWALEB_COUNT(answer));
+    printf("quarter turn %u %u %u %u\n", images[4], images[5], images[6], images[7]);
+    answer = jidwaleb_copy(2, point, 2, turns + 4, 4, out, 8, images, 16);
+    printf("refused %u: %s\n", JIDWALEB_REFUSAL(answer), JIDWALEB_REFUSAL(answer) == JIDWALEB_OPEN ? "open" : "?");
+    return images[0] != 65535 || images[1] == 65535;
+}
+
+int main(int count, char **words_given) {
+    return count > 1 ? types(words_given[1]) : copies();
+}
