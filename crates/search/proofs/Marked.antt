@@ -1,0 +1,150 @@
+-- The marks of the rows that a search wrote, one after another.
+-- Assumes nothing.
+use mathlib.Core.Path.{_≡_, refl, sym, ap, ap₂, _∙_, subst}
+use mathlib.Core.Logic.{inl, inr}
+use Prim.Native.Nat.{ℕ, suc, _+_, _-_, _*_, _≤_, _<_}
+use mathlib.Core.Bool.{Bool, true, false, _&&_}
+use mathlib.Core.Option.{Option, none, some, Option·none-ne-some, Option·some-injective}
+use mathlib.Core.List.{List, [], _∷_, _++_, map, map-append, append-assoc}
+use native.Mathlib.Numerals.{add-one}
+use native.Mathlib.Omega.{arith}
+use borrow.Rule.Slice.PartMut.{midOf, putMid}
+use lib.ListN.{length, take, drop, set, length-map}
+use lib.Seq.{take-at, drop-at}
+use lib.Dec.{ltb}
+use Rattle.spec.specs.Lists.{In, join, every}
+use Rattle.spec.specs.Matrix.{Matrix}
+use Rattle.spec.specs.Copying.{parts, written}
+use Rattle.spec.specs.Solid.{Concrete}
+use Rattle.spec.specs.Flags.{Flag}
+use Rattle.spec.specs.Search.{Member, Setting, candidate, sameTypes, rowOf, examplesGo, markOf, tested, membersOf}
+use Rattle.spec.specs.Calls.{Room, haveRoom, fitting}
+use Rattle.spec.proofs.Lists.{map-map, map-same, in-map}
+use Rattle.spec.proofs.Listed.{Marked, member-mark, rotation-in, fitting-in}
+use Rattle.spec.proofs.Shapes.{Holds, none-held, fits-holds}
+use Rattle.float.proofs.Parts.{length-parts, parts-more}
+use Rattle.symmetry.specs.Tails.{wantedOf}
+use Rattle.symmetry.specs.Listing.{given, rowCells, keptIn}
+use Rattle.symmetry.proofs.Parts.{part-written}
+use Rattle.search.specs.Reading.{markIn}
+
+-- ---- the loop
+
+-- one cell, written first
+pub one-written : {A : Type 0} (x : A) (l : List A) → 0 < length l → set l 0 x ≡ written (x ∷ []) l
+unfolding written
+one-written x [] h = absurd (omega arith)
+one-written x (y ∷ l) h = refl
+
+module _ (c : Concrete) (v : ℕ) (rows : List ℕ) where
+  -- the marks of k rows
+  abbrev pub marksTo : ℕ → List ℕ
+  marksTo k = map (markIn c) (parts k v rows)
+
+  marks-more : (k : ℕ) → marksTo (k + 1) ≡ marksTo k ++ markIn c (take v (drop (k * v) rows)) ∷ []
+  marks-more k = rw (add-one k, parts-more k v rows, map-append)
+
+  pub marks-first : (old : List ℕ) → old ≡ written (marksTo 0) old
+  unfolding parts written
+  marks-first old = refl
+
+  pub marks-next : (k : ℕ) (old now part : List ℕ) → k ≤ length now → now ≡ written (marksTo k) old
+      → part ≡ written (markIn c (take v (drop (k * v) rows)) ∷ []) (midOf k (length now - k) now)
+      → putMid k (length now - k) now part ≡ written (marksTo (k + 1)) old
+  marks-next k old now part h e q =
+      rw (marks-more k) (part-written (marksTo k) (markIn c (take v (drop (k * v) rows)) ∷ []) old now part k (length-map (parts k v rows) (markIn c) ∙ length-parts k v rows) h e q)
+
+-- ---- the members
+
+-- rows of v cells each, one after another, are cut where they were joined
+parts-join : {A : Type 0} (d : ℕ) (ls : List (List A)) (rest : List A) → ((x : List A) → In x ls → length x ≡ d) → parts (length ls) d (join ls ++ rest) ≡ ls
+unfolding parts join
+parts-join d [] rest h = refl
+parts-join {A} d (x ∷ ls) rest h =
+    rw (append-assoc x (join ls) rest)
+    (ap₂ (λ (y : List A) (z : List (List A)). y ∷ z) (take-at x (join ls ++ rest) d (h x (inl refl)))
+    (ap (parts (length ls) d) (drop-at x (join ls ++ rest) d (h x (inl refl))) ∙ parts-join d ls rest (λ y i. h y (inr i))))
+
+-- the marks of the rows of some members are the members' marks
+marks-are : (w : Setting) (c : Concrete) (v : ℕ) (ms : List Member) (old : List ℕ) → ((row : List ℕ) → markIn c row ≡ markOf w row)
+    → ((x : Member) → In x ms → (length (x .row) ≡ v) × Marked w x)
+    → map (markIn c) (parts (length ms) v (written (rowCells ms) old)) ≡ map (λ x. x .mark) ms
+unfolding written rowCells
+marks-are w c v ms old e h =
+    let row : Member → List ℕ = λ x. x .row in
+    let cut : parts (length ms) v (written (rowCells ms) old) ≡ map row ms =
+    ap (λ (k : ℕ). parts k v (written (rowCells ms) old)) (sym (length-map ms row))
+    ∙ parts-join v (map row ms) _ (λ y i. let r = in-map row y ms i in ap length (r .2) ∙ h (r .0) (r .1) .0) in
+    ap (map (markIn c)) cut
+    ∙ map-map row (markIn c) ms
+    ∙ map-same (λ x. markIn c (x .row)) (λ x. x .mark) ms (λ x i. e (x .row) ∙ sym (h x i .1))
+
+-- a member is what some flag's candidate gives
+member-from : (w : Setting) (l : List Flag) (x : Member) → In x (membersOf w l) → (F : Flag) × (tested w (candidate w F) ≡ some x)
+unfolding membersOf
+member-from w (F ∷ l) x h = go (sameTypes w F) (tested w (candidate w F)) refl h (λ k. member-from w l x k)
+  where
+    go : (b : Bool) (o : Option Member) → tested w (candidate w F) ≡ o
+        → In x (elim b as (λ z. List Member) [ true ↦ elim o as (λ z. List Member) [ some m ↦ m ∷ membersOf w l | none ↦ membersOf w l ] | false ↦ membersOf w l ])
+        → (In x (membersOf w l) → (F : Flag) × (tested w (candidate w F) ≡ some x)) → (F : Flag) × (tested w (candidate w F) ≡ some x)
+    go false o e k f = f k
+    go true none e k f = f k
+    go true (some m) e (inl q) f = (F, rw q e)
+    go true (some m) e (inr k) f = f k
+
+-- those that fit have room
+fitting-room : (m : Room) (d v n : ℕ) (l : List Member) → Holds m d v n → Holds m d v (length (fitting m d v n l) + n)
+unfolding fitting
+fitting-room m d v n [] h = let q : 0 + n ≡ n = omega arith in rw q h
+fitting-room m d v n (x ∷ l) h = go (haveRoom m d v (suc n)) refl (λ k. fitting-room m d v (suc n) l k)
+  where
+    go : (b : Bool) → haveRoom m d v (suc n) ≡ b → (Holds m d v (suc n) → Holds m d v (length (fitting m d v (suc n) l) + suc n))
+        → Holds m d v (length {A = Member} (elim b as (λ z. List Member) [ true ↦ x ∷ fitting m d v (suc n) l | false ↦ [] ]) + n)
+    go true e f =
+        let q : suc (length (fitting m d v (suc n) l)) + n ≡ length (fitting m d v (suc n) l) + suc n = omega arith in
+        rw q (f (fits-holds m d v (suc n) e))
+    go false e f = let q : 0 + n ≡ n = omega arith in rw q h
+
+-- its row has an entry for each vertex
+tested-row : (w : Setting) (m : Matrix) (x : Member) → tested w m ≡ some x → length (x .row) ≡ length (w .searched .points)
+unfolding tested rowOf
+tested-row w m x = go (every (λ v. ltb v (length (w .searched .points))) (rowOf (w .searched .points) m) && examplesGo (w .searched .abs) (w .types) (rowOf (w .searched .points) m))
+  where
+    go : (b : Bool) → elim b as (λ z. Option Member) [ true ↦ some (record { matrix = m; row = rowOf (w .searched .points) m; mark = markOf w (rowOf (w .searched .points) m) }) | false ↦ none ] ≡ some x
+        → length (x .row) ≡ length (w .searched .points)
+    go true e = subst (λ (y : Member). length (y .row) ≡ length (w .searched .points)) (Option·some-injective _ x e) (length-map (w .searched .points) _)
+    go false e = absurd (Option·none-ne-some x e)
+
+module _ (w : Setting) (rot : Bool) (m : Room) (Fs : List Flag) where
+  abbrev d : ℕ
+  d = w .searched .dimension
+
+  abbrev v : ℕ
+  v = length (w .searched .points)
+
+  abbrev kept : List Member
+  kept = keptIn w rot m Fs
+
+  wanted-in : (b : Bool) (ms : List Member) (x : Member) → In x (wantedOf b ms) → In x ms
+  unfolding wantedOf
+  wanted-in false ms x i = i
+  wanted-in true ms x i = rotation-in ms x i
+
+  kept-in : (x : Member) → In x kept → In x (membersOf w Fs)
+  unfolding keptIn given
+  kept-in x i = wanted-in rot (membersOf w Fs) x (fitting-in m d v 0 (given w rot Fs) x i)
+
+  pub kept-room : Holds m d v (length kept)
+  unfolding keptIn
+  kept-room =
+      let l = given w rot Fs in
+      let q : length (fitting m d v 0 l) + 0 ≡ length (fitting m d v 0 l) = omega arith in
+      rw q at (fitting-room m d v 0 l (none-held m d v))
+
+  -- and their marks are those of the rows that are written
+  pub kept-marks : (c : Concrete) (old : List ℕ) → ((row : List ℕ) → markIn c row ≡ markOf w row)
+      → map (markIn c) (parts (length kept) v (written (rowCells kept) old)) ≡ map (λ x. x .mark) kept
+  kept-marks c old e = marks-are w c v kept old e (λ x i.
+      let k = kept-in x i in
+      let f = member-from w Fs x k in
+      (tested-row w (candidate w (f .0)) x (f .1), member-mark w Fs x k))

@@ -1,0 +1,43 @@
+-- 15, and what is after it.
+-- Assumes nothing.
+use borrow.Author.Needs.{needs}
+use Rattle.symmetry.specs.Tails.{outOf}
+use Rattle.search.proofs.Steps.{unsettled, settled, typed-bench}
+use Rattle.search.proofs.driver.from15.Statement.{statement}
+use Rattle.search.proofs.driver.from15.Tie as tie
+
+entry : (c : tie.After-types-of) → tie.Start
+entry c = c .before .before .before .before .before .before .before .before
+
+pub from15-spec : {M : Type 1} → statement M
+unfolding entry
+from15-spec =
+    tie.close
+    (tie.spec
+    -- types-of-requires, from11-requires
+    (λ c κs. c .before .before .before .before .before .before .before .pre .0)
+    (λ c κs. let i = c .before .before .before .before .before in
+    let t = i .before .before .before .before .before in
+    let s = entry t in
+    let a = s .args in
+    (typed-bench (a .sh) (a .low) _ _ _ _ (a .rotations) (outOf (a .matrices .now) (a .rows .now) (a .marks .now)) _ (t .types-of .ensures) (s .pre .0), (s .pre .1, t .types-of .ensures .numbered)))
+    -- same-length to same-length-5
+    (λ c. search needs)
+    (λ c. search needs)
+    (λ c. search needs)
+    (λ c. search needs)
+    (λ c. search needs)
+    -- returns
+    (λ c. let k = c .before .before .before .before .before .before .before .before .before .before in
+    let i = k .before .before .before .before .before .before in
+    let t = i .before .before .before .before .before in
+    let s = entry t in
+    let a = s .args in
+    settled (a .sh) (a .low) _ _ _ _ (a .rotations) (outOf (a .matrices .now) (a .rows .now) (a .marks .now)) _ (t .types-of .ensures) (i .if1 .taken) (a .f) _ (k .from11 .ensures))
+    -- same-length-6, same-length-7, returns-2
+    (λ c. search needs)
+    (λ c. search needs)
+    (λ c. let t = c .before .before .before .before .before in
+    let s = entry t in
+    let a = s .args in
+    unsettled (a .sh) (a .low) _ _ _ _ (a .rotations) (outOf (a .matrices .now) (a .rows .now) (a .marks .now)) _ (t .types-of .ensures) (c .if1 .left) _))

@@ -1,0 +1,42 @@
+-- 1 to 7, and what is after them.
+-- Assumes nothing.
+use borrow.Author.Needs.{needs}
+use Rattle.symmetry.specs.Tails.{outOf}
+use Rattle.search.proofs.Steps.{refused-call, benched, passed-call}
+use Rattle.search.proofs.driver.run.Statement.{statement}
+use Rattle.search.proofs.driver.run.Tie as tie
+
+entry : (c : tie.After-preflight) → tie.Start
+entry c = c .before .before .before .before .before .before .before .before .before
+
+pub run-spec : {M : Type 1} → statement M
+unfolding entry
+run-spec =
+    tie.close
+    (tie.spec
+    -- preflight-requires, enum-known-verdict, enum-told, from8-requires
+    (λ c κs. search needs)
+    (λ c. search needs)
+    (λ c. search needs)
+    (λ c κs. let v = c .before .before .before .before .before in
+    let p = v .before .before .before .before .before .before .before in
+    let a = entry p .args in
+    benched _ _ _ _ _ _ (p .preflight .ensures) (a .rotations) (outOf (a .matrices .now) (a .rows .now) (a .marks .now)) (v .enum-told .given .1))
+    -- same-length, same-length-2, returns
+    (λ c. search needs)
+    (λ c. search needs)
+    (λ c. let v = c .before in
+    let p = v .before .before .before .before .before .before .before in
+    let a = entry p .args in
+    refused-call _ _ _ _ _ _ (p .preflight .ensures) (a .rotations) (outOf (a .matrices .now) (a .rows .now) (a .marks .now)) _ (v .verdict .given .1))
+    -- same-length-3 to same-length-7, returns-2
+    (λ c. search needs)
+    (λ c. search needs)
+    (λ c. search needs)
+    (λ c. search needs)
+    (λ c. search needs)
+    (λ c. let k = c .before .before .before .before .before .before .before .before .before .before in
+    let v = k .before .before .before .before .before .before in
+    let p = v .before .before .before .before .before .before .before in
+    let a = entry p .args in
+    passed-call _ _ _ _ _ _ (p .preflight .ensures) (a .rotations) (outOf (a .matrices .now) (a .rows .now) (a .marks .now)) (v .enum-told .given .1) _ (k .from8 .ensures)))

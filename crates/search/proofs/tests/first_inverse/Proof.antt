@@ -1,0 +1,33 @@
+-- The first flag, its columns, and their inverse.
+-- Assumes nothing.
+use borrow.Author.Needs.{needs}
+use native.Mathlib.Omega.{arith}
+use mathlib.Core.Path.{ap, _∙_}
+use Rattle.spec.specs.Matrix.{inverse}
+use Rattle.spec.specs.Flags.{IsFlag}
+use Rattle.spec.specs.Search.{flagColumns}
+use Rattle.spec.proofs.FlagList.{every-first}
+use Rattle.ranked.specs.Words.{solidIn}
+use Rattle.distances.specs.Solids.{solidOn}
+use Rattle.flag.specs.Reading.{flagIn}
+use Rattle.search.proofs.tests.first_inverse.Statement.{statement}
+use Rattle.search.proofs.tests.first_inverse.Tie as tie
+
+-- the first flag is one
+is-flag : (c : tie.After-first) → let s = c .before .before .before in IsFlag (solidIn (s .args .sh) (s .args .w .now)) (flagIn (s .args .sh .rank) (c .first .result))
+is-flag c = let s = c .before .before .before in rw (c .first .ensures) (every-first _ (s .pre .0 .sound) (s .pre .0 .filled) .0)
+
+pub first-inverse-spec : {M : Type 1} → statement M
+first-inverse-spec =
+    tie.close
+    (tie.spec
+    -- first-requires, columns-requires, inverse-requires
+    (λ c κs. search needs)
+    (λ c κs. let s = c .before .before .before in (s .pre .0, (s .pre .1 .0, (is-flag c, (omega (arith, s .pre .1 .1 .0), s .pre .1 .1 .1)))))
+    (λ c κs. c .before .before .before .before .pre .0 .wide)
+    -- returns
+    (λ c. let f = c .before .before in
+    let a = f .before .before .before .args in
+    let d = a .sh .dimension in
+    let C = solidOn (a .sh) (a .w .now) (a .points .now) d in
+    c .inverse .ensures ∙ ap inverse (c .before .columns .ensures ∙ ap (flagColumns C) (f .first .ensures))))

@@ -1,0 +1,259 @@
+// "a search call .. with 8, 9, 10, 15, 11, then 12 or 13": one function for each judgement, each going on to the next. The outputs are the parts
+// of the buffers from their first cells on; the workspace afterwards is free.
+use crate::marking::write_marks;
+use crate::tests::Far;
+use crate::tests::first_far;
+use crate::tests::first_inverse;
+use crate::tests::is_full;
+use crate::tests::is_regular;
+use candidates::no_double;
+use exchange::exchange;
+use float::DIMENSION;
+use float::matrix;
+use ranked::Shape;
+use ranked::preflight::preflight;
+use settling::types_of;
+use sheet::Verdict;
+use spec::Answer;
+use spec::Refusal;
+use symmetry::listing::Listing;
+use symmetry::listing::list_members;
+use vertex_sets::printing::write_prints;
+ghost use mathlib.Core.Path.{_≡_};
+ghost use Prim.Native.Nat.{_-_, _≤_, _<_};
+ghost use lib.ListN.{length};
+ghost use Rattle.spec.specs.Judged.{passed};
+ghost use Rattle.spec.specs.Search.{exchanged, setting};
+ghost use Rattle.float.specs.Reading.{corner};
+ghost use Rattle.ranked.specs.Words.{sizeAt};
+ghost use Rattle.ranked.specs.Bench.{solidAt, Bench};
+ghost use Rattle.element_types.specs.State.{stateIn, Countable};
+ghost use Rattle.symmetry.specs.Tails.{settingOf, from9, from10, from15, from11, ends, outOf};
+ghost use Rattle.symmetry.specs.Listing.{answerOf};
+ghost use Rattle.search.specs.Reading.{callOf};
+
+// "then 12 or 13".
+fn answer_of(l: Listing) -> Answer
+    ensures { λ r. ⌜ r ≡ answerOf (l .short) (l .count) ⌝ }
+{
+    let n = l.count;
+    if l.short {
+        return Answer::Refused(Refusal::ShortSheet, n);
+    }
+    if n == 0 {
+        return Answer::Refused(Refusal::Blank, 0);
+    }
+    Answer::Done(n)
+}
+
+// The members, each with its matrix and row, and then their marks: for these the facets go back to their places.
+fn from_inverse(
+    words: &mut [u32],
+    low: usize,
+    sh: Shape,
+    f: usize,
+    floats: &mut [f64],
+    inv: [[f64; DIMENSION]; DIMENSION],
+    rotations: bool,
+    matrices: &mut [f64],
+    rows: &mut [u16],
+    marks: &mut [u8],
+) -> Answer
+    requires { ⌜ Bench sh low (now words) (now floats) ⌝ }
+    requires { ⌜ (2 ≤ sh .rank) × (f < sizeAt sh (sh .rank - 1)) ⌝ }
+    requires { ⌜ Countable sh low (now words) ⌝ }
+    ensures { λ r. ⌜ (r, outOf (now (matrices .exit)) (now (rows .exit)) (now (marks .exit)))
+        ≡ ends rotations (exchanged (solidAt sh low (now (words .entry)) (now (floats .entry))) f)
+        (passed (settingOf (exchanged (solidAt sh low (now (words .entry)) (now (floats .entry))) f) (solidAt sh low (now (words .entry)) (now (floats .entry)))
+        (stateIn sh low (now (words .entry))) (corner (sh .dimension) inv)))
+        (outOf (now (matrices .entry)) (now (rows .entry)) (now (marks .entry))) ⌝ }
+{
+    let last = sh.rank + 1;
+    let at = low + sh.first[last];
+    write_prints(words, low, sh, at);
+    let room = marks.len();
+    let l = list_members(
+        words,
+        low,
+        sh,
+        at,
+        floats,
+        inv,
+        rotations,
+        room,
+        matrices,
+        rows,
+    );
+    let n = l.count;
+    if n == 0 {
+        return answer_of(l);
+    }
+    exchange(words, low, sh, f);
+    let first = sh.first;
+    let v = first[2] - first[1];
+    write_marks(words, low, sh, floats, v, rows, n, marks);
+    answer_of(l)
+}
+
+// 11: the words hold the types of the exchanged solid.
+fn from11(
+    words: &mut [u32],
+    low: usize,
+    sh: Shape,
+    f: usize,
+    floats: &mut [f64],
+    rotations: bool,
+    matrices: &mut [f64],
+    rows: &mut [u16],
+    marks: &mut [u8],
+) -> Answer
+    requires { ⌜ Bench sh low (now words) (now floats) ⌝ }
+    requires { ⌜ (2 ≤ sh .rank) × (f < sizeAt sh (sh .rank - 1)) ⌝ }
+    requires { ⌜ Countable sh low (now words) ⌝ }
+    ensures { λ r. ⌜ (r, outOf (now (matrices .exit)) (now (rows .exit)) (now (marks .exit)))
+        ≡ ends rotations (exchanged (solidAt sh low (now (words .entry)) (now (floats .entry))) f)
+        (from11 (exchanged (solidAt sh low (now (words .entry)) (now (floats .entry))) f) (solidAt sh low (now (words .entry)) (now (floats .entry)))
+        (stateIn sh low (now (words .entry))))
+        (outOf (now (matrices .entry)) (now (rows .entry)) (now (marks .entry))) ⌝ }
+{
+    let inverse = first_inverse(&words[..low], sh, floats);
+    if !is_regular(inverse, sh.dimension) {
+        return Answer::Refused(Refusal::Flat, 0);
+    }
+    let inv = matrix::rows(inverse);
+    from_inverse(
+        words,
+        low,
+        sh,
+        f,
+        floats,
+        inv,
+        rotations,
+        matrices,
+        rows,
+        marks,
+    )
+}
+
+// 15: the words hold the solid with facet f and facet 0 in each other's place.
+fn from15(
+    words: &mut [u32],
+    low: usize,
+    sh: Shape,
+    f: usize,
+    floats: &mut [f64],
+    rotations: bool,
+    matrices: &mut [f64],
+    rows: &mut [u16],
+    marks: &mut [u8],
+) -> Answer
+    requires { ⌜ Bench sh low (now words) (now floats) ⌝ }
+    requires { ⌜ (2 ≤ sh .rank) × (f < sizeAt sh (sh .rank - 1)) ⌝ }
+    ensures { λ r. ⌜ (r, outOf (now (matrices .exit)) (now (rows .exit)) (now (marks .exit)))
+        ≡ ends rotations (exchanged (solidAt sh low (now (words .entry)) (now (floats .entry))) f)
+        (from15 (exchanged (solidAt sh low (now (words .entry)) (now (floats .entry))) f) (solidAt sh low (now (words .entry)) (now (floats .entry))))
+        (outOf (now (matrices .entry)) (now (rows .entry)) (now (marks .entry))) ⌝ }
+{
+    if types_of(words, low, sh, floats) {
+        return from11(words, low, sh, f, floats, rotations, matrices, rows, marks);
+    }
+    Answer::Refused(Refusal::Unsettled, 0)
+}
+
+// 10, and the exchange.
+fn from10(
+    words: &mut [u32],
+    low: usize,
+    sh: Shape,
+    floats: &mut [f64],
+    rotations: bool,
+    matrices: &mut [f64],
+    rows: &mut [u16],
+    marks: &mut [u8],
+) -> Answer
+    requires { ⌜ Bench sh low (now words) (now floats) ⌝ }
+    requires { ⌜ 2 ≤ sh .rank ⌝ }
+    ensures { λ r. ⌜ (r, outOf (now (matrices .exit)) (now (rows .exit)) (now (marks .exit)))
+        ≡ ends rotations (solidAt sh low (now (words .entry)) (now (floats .entry))) (from10 (solidAt sh low (now (words .entry)) (now (floats .entry))))
+        (outOf (now (matrices .entry)) (now (rows .entry)) (now (marks .entry))) ⌝ }
+{
+    let far = first_far(&words[..low], sh, floats);
+    match far {
+        Far::Nothing => Answer::Refused(Refusal::Centred, 0),
+        Far::Facet(f) => {
+            exchange(words, low, sh, f);
+            from15(words, low, sh, f, floats, rotations, matrices, rows, marks)
+        }
+    }
+}
+
+// 9.
+fn from9(
+    words: &mut [u32],
+    low: usize,
+    sh: Shape,
+    floats: &mut [f64],
+    rotations: bool,
+    matrices: &mut [f64],
+    rows: &mut [u16],
+    marks: &mut [u8],
+) -> Answer
+    requires { ⌜ Bench sh low (now words) (now floats) ⌝ }
+    requires { ⌜ 2 ≤ sh .rank ⌝ }
+    ensures { λ r. ⌜ (r, outOf (now (matrices .exit)) (now (rows .exit)) (now (marks .exit)))
+        ≡ ends rotations (solidAt sh low (now (words .entry)) (now (floats .entry))) (from9 (solidAt sh low (now (words .entry)) (now (floats .entry))))
+        (outOf (now (matrices .entry)) (now (rows .entry)) (now (marks .entry))) ⌝ }
+{
+    let first = sh.first;
+    let v = first[2] - first[1];
+    if no_double(floats, sh.dimension, v) {
+        return from10(words, low, sh, floats, rotations, matrices, rows, marks);
+    }
+    Answer::Refused(Refusal::DoubleCorner, 0)
+}
+
+// 8, of the solid that preflight left in the workspace.
+fn from8(
+    words: &mut [u32],
+    low: usize,
+    sh: Shape,
+    floats: &mut [f64],
+    rotations: bool,
+    matrices: &mut [f64],
+    rows: &mut [u16],
+    marks: &mut [u8],
+) -> Answer
+    requires { ⌜ Bench sh low (now words) (now floats) ⌝ }
+    ensures { λ r. ⌜ (r, outOf (now (matrices .exit)) (now (rows .exit)) (now (marks .exit)))
+        ≡ ends rotations (solidAt sh low (now (words .entry)) (now (floats .entry))) (setting (solidAt sh low (now (words .entry)) (now (floats .entry))))
+        (outOf (now (matrices .entry)) (now (rows .entry)) (now (marks .entry))) ⌝ }
+{
+    if is_full(sh) {
+        return from9(words, low, sh, floats, rotations, matrices, rows, marks);
+    }
+    Answer::Refused(Refusal::NotFull, 0)
+}
+
+// The search of a sheet: all members, or the rotations alone.
+pub fn run(
+    sheet: &[u8],
+    words: &mut [u32],
+    floats: &mut [f64],
+    rotations: bool,
+    matrices: &mut [f64],
+    rows: &mut [u16],
+    marks: &mut [u8],
+) -> Answer
+    ensures { λ r. ⌜ (r, outOf (now (matrices .exit)) (now (rows .exit)) (now (marks .exit)))
+        ≡ callOf rotations (now (sheet .entry)) (length (now (words .entry))) (length (now (floats .entry)))
+        (outOf (now (matrices .entry)) (now (rows .entry)) (now (marks .entry))) ⌝ }
+{
+    let ready = preflight(sheet, words, floats);
+    let verdict = ready.verdict;
+    let sh = ready.shape;
+    let low = ready.low;
+    match verdict {
+        Verdict::Refused(why) => Answer::Refused(why, 0),
+        Verdict::Accepted => from8(words, low, sh, floats, rotations, matrices, rows, marks),
+    }
+}

@@ -1,0 +1,46 @@
+// Section 6's calls (conc/symmetry.rs: `get_symmetry_group`, `get_rotation_group`): a sheet's symmetries, each with its matrix, its row and its
+// mark.
+use spec::Answer;
+ghost use mathlib.Core.Path.{_≡_};
+ghost use lib.ListN.{length};
+ghost use Rattle.spec.specs.Calls.{searchCall, rotationsCall};
+ghost use Rattle.symmetry.specs.Tails.{outOf};
+
+pub mod driver;
+pub mod marking;
+pub mod tests;
+
+use crate::driver::run;
+
+// A sheet of any bytes and any length, a workspace of any size, and outputs of any length: D * D floats, V row entries and one mark a member.
+// The workspace afterwards is free, and keeps its length.
+pub fn search(
+    sheet: &[u8],
+    words: &mut [u32],
+    floats: &mut [f64],
+    matrices: &mut [f64],
+    rows: &mut [u16],
+    marks: &mut [u8],
+) -> Answer
+    ensures { λ r. ⌜ (r, outOf (now (matrices .exit)) (now (rows .exit)) (now (marks .exit)))
+        ≡ searchCall (now (sheet .entry)) (length (now (words .entry))) (length (now (floats .entry)))
+        (outOf (now (matrices .entry)) (now (rows .entry)) (now (marks .entry))) ⌝ }
+{
+    run(sheet, words, floats, false, matrices, rows, marks)
+}
+
+// "Rotations are those of determinant above 0": the same, of those members alone.
+pub fn rotations(
+    sheet: &[u8],
+    words: &mut [u32],
+    floats: &mut [f64],
+    matrices: &mut [f64],
+    rows: &mut [u16],
+    marks: &mut [u8],
+) -> Answer
+    ensures { λ r. ⌜ (r, outOf (now (matrices .exit)) (now (rows .exit)) (now (marks .exit)))
+        ≡ rotationsCall (now (sheet .entry)) (length (now (words .entry))) (length (now (floats .entry)))
+        (outOf (now (matrices .entry)) (now (rows .entry)) (now (marks .entry))) ⌝ }
+{
+    run(sheet, words, floats, true, matrices, rows, marks)
+}
