@@ -6,3 +6,5 @@ pub mod Judgements
 pub mod Outcome
 pub mod Flat
 pub mod PCases
+pub mod Apart
+pub mod Bits

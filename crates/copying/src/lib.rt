@@ -9,6 +9,7 @@ use spec::Answer;
 use spec::Refusal;
 
 pub mod axes;
+mod guesses;
 mod joining;
 mod judging;
 mod rows;

@@ -5,7 +5,9 @@ ghost use lib.ListN.{length, replicate};
 ghost use Rattle.spec.specs.Limits.{maxDimension, maxCount};
 ghost use Rattle.spec.specs.Copying.{parts, matrices, copyRow, copyTable, written};
 ghost use Rattle.float.specs.Reading.{corner};
-ghost use Rattle.copying.specs.Post.{Tabled};
+ghost use Rattle.copying.specs.Post.{Apart, Tabled};
+use crate::guesses;
+use crate::guesses::PLACES;
 use float::DIMENSION;
 use float::matrix;
 use float::points;
@@ -18,16 +20,17 @@ fn row(
     copies: &[f64],
     d: usize,
     n: usize,
+    places: &[u16; PLACES],
     m: [[f64; DIMENSION]; DIMENSION],
     out: &mut [u16],
 ) -> bool
-    requires { ⌜ (d ≤ maxDimension) × (n ≤ maxCount) × (n * d ≤ length (now copies)) × (n ≤ length (now out)) ⌝ }
+    requires { ⌜ (1 ≤ d) × (d ≤ maxDimension) × (n ≤ maxCount) × (n * d ≤ length (now copies)) × (n ≤ length (now out)) × Apart (parts n d (now copies)) ⌝ }
     ensures { λ r. ⌜ Tabled n (copyRow (parts n d (now (copies .entry))) (corner d m)) (now (out .entry)) (now (out .exit)) r ⌝ }
 {
     let mut k: usize = 0;
     while k < n {
         let q = matrix::image(m, points::loaded(copies, d, k), d);
-        let at = points::find(copies, d, n, q);
+        let at = guesses::found(copies, d, n, places, q);
         if at == n {
             return false;
         }
@@ -39,15 +42,16 @@ fn row(
 
 // Row after row; whether every image is among the copies.
 pub fn write(copies: &[f64], d: usize, n: usize, turns: &[f64], out: &mut [u16]) -> bool
-    requires { ⌜ (1 ≤ d) × (d ≤ maxDimension) × (n ≤ maxCount) × (n * d ≤ length (now copies)) × (length (now turns) / (d * d) * n ≤ length (now out)) ⌝ }
+    requires { ⌜ (1 ≤ d) × (d ≤ maxDimension) × (n ≤ maxCount) × (n * d ≤ length (now copies)) × (length (now turns) / (d * d) * n ≤ length (now out)) × Apart (parts n d (now copies)) ⌝ }
     ensures { λ r. ⌜ Tabled n (copyTable (matrices d (now (turns .entry))) (parts n d (now (copies .entry)))) (now (out .entry)) (now (out .exit)) r ⌝ }
 {
     let count = turns.len() / (d * d);
+    let places = guesses::all(copies, d, n);
     let mut j: usize = 0;
     while j < count {
         let at = j * n;
         let m = points::matrix_at(turns, d, j);
-        if row(copies, d, n, m, &mut out[at..]) {
+        if row(copies, d, n, &places, m, &mut out[at..]) {
             j += 1;
         } else {
             return false;

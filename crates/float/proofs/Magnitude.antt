@@ -1,14 +1,15 @@
 -- The magnitude by two tests against 0: each public lemma is one of the three ways through the tests.
 -- Assumes nothing.
 use mathlib.Core.Path.{_≡_, refl, sym, ap}
-use mathlib.Core.Bool.{Bool, true, false, _&&_}
+use mathlib.Core.Bool.{Bool, true, false, _&&_, _||_}
 use Prim.Native.Nat.{ℕ, zero, suc, _+_, _*_, _^_, _<_}
 use native.Mathlib.Nat.{zero-mul, mul-pos, zero-lt-suc, pow-suc}
 use native.Mathlib.Omega.{arith}
 use lib.IntN.{ℤ, pos, negsuc}
-use lib.Ieee.{Float, nan, inf, fin, binary64, ofBits, fits, lt, eq, neg, up, down}
+use lib.Ieee.{Float, nan, inf, fin, binary64, ofBits, fits, lt, eq, le, neg, up, down}
+use lib.Dec.{eqb, ltb}
 use lib.Ieee.Fits.{up-pos}
-use borrow.Author.Tests.{eqb-true, ltb-true, ltb-false}
+use borrow.Author.Tests.{eqb-true, eqb-false, eq-eqb, ne-eqb, ltb-true, ltb-false, lt-ltb}
 use Rattle.spec.specs.Float.{absF}
 
 pub below-zero : (x : Float) → lt x (ofBits binary64 0) ≡ true → neg x ≡ absF x
@@ -49,3 +50,30 @@ above-zero (inf true) h k = cc
 above-zero (fin false m e) h k = refl
 above-zero (fin true zero e) h k = let z = simp zero-mul at k in cc
 above-zero (fin true (suc m) e) h k = absurd (omega (arith, ltb-false 0 (suc m * up e * 1 + 0 * down e) h, some m e))
+
+-- ---- at most a bound, by one comparison on each side of 0
+
+-- what is below 0 or 0 is at most what is not below 0
+under : (a b : ℕ) → (ltb 0 (a + b) || (eqb a b && (false || eqb a 0))) ≡ true
+under zero zero = refl
+under zero (suc b) = rw (lt-ltb 0 (zero + suc b) (omega arith))
+under (suc a) b = rw (lt-ltb 0 (suc a + b) (omega arith))
+
+and-true : (p : Bool) → p ≡ (p && true)
+and-true true = refl
+and-true false = refl
+
+eqb-swap : (a b : ℕ) → eqb a b ≡ eqb b a
+eqb-swap a b = go (eqb b a) refl
+  where
+    go : (t : Bool) → eqb b a ≡ t → eqb a b ≡ t
+    go true e = eq-eqb a b (sym (eqb-true b a e))
+    go false e = ne-eqb a b (λ h. eqb-false b a e (sym h))
+
+pub within-is : (x : Float) (n : ℕ) (d : ℤ) → (le x (fin false n d) && le (neg (fin false n d)) x) ≡ le (absF x) (fin false n d)
+unfolding le lt eq neg absF
+within-is nan n d = refl
+within-is (inf false) n d = refl
+within-is (inf true) n d = refl
+within-is (fin false m e) n d = rw (under (n * up d * down e) (m * up e * down d)) (sym (and-true _))
+within-is (fin true m e) n d = rw (under (m * up e * down d) (n * up d * down e), eqb-swap (n * up d * down e) (m * up e * down d))

@@ -1,5 +1,6 @@
 // Floats from and to their bit patterns, for every pattern: the language's own conversions are undefined at a NaN.
 ghost use mathlib.Core.Path.{_≡_};
+ghost use mathlib.Core.Bool.{true};
 ghost use lib.Ieee.{binary64, ofBits, toBits};
 
 // The pattern of the one NaN that the definitions have.
@@ -25,4 +26,11 @@ pub fn pattern(x: f64) -> u64
         return NAN;
     }
     f64::to_bits(x)
+}
+
+// Whether two floats have one pattern. A zero and its negative have two; the one NaN is the same as itself.
+pub fn same(x: f64, y: f64) -> bool
+    ensures { λ r. ⌜ (r ≡ true → x ≡ y) ⌝ }
+{
+    pattern(x) == pattern(y)
 }

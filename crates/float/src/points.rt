@@ -9,7 +9,6 @@ ghost use Rattle.spec.specs.Copying.{near, find, parts, written};
 ghost use Rattle.float.specs.Reading.{corner};
 use crate::DIMENSION;
 use crate::tolerance;
-use crate::tolerance::Tolerance;
 use crate::vector;
 
 // The largest magnitude of a coordinate or a matrix entry.
@@ -61,7 +60,7 @@ pub fn near(p: &[f64], q: [f64; DIMENSION]) -> bool
 {
     let mut i: usize = 0;
     while i < p.len() {
-        if tolerance::magnitude(p[i] - q[i]) <= Tolerance::EPS {
+        if tolerance::within(p[i] - q[i]) {
             i += 1;
         } else {
             return false;
@@ -70,14 +69,28 @@ pub fn near(p: &[f64], q: [f64; DIMENSION]) -> bool
     true
 }
 
-// The lowest of the n points that is near q; n, where none is.
+// The same of point v. Most points are told apart by their first axis, so that comes before all else.
+pub fn near_at(points: &[f64], d: usize, v: usize, q: [f64; DIMENSION]) -> bool
+    requires { ⌜ (1 ≤ d) × (d ≤ maxDimension) × (v * d + d ≤ length (now points)) ⌝ }
+    ensures { λ r. ⌜ r ≡ near (take d (drop (v * d) (now (points .entry)))) (take d q) ⌝ }
+{
+    if tolerance::within(points[v * d] - q[0]) {
+        return near(point(points, d, v), q);
+    }
+    false
+}
+
+// The lowest of the n points that is near q; n, where none is. Points of no axes are near all.
 pub fn find(points: &[f64], d: usize, n: usize, q: [f64; DIMENSION]) -> usize
     requires { ⌜ (d ≤ maxDimension) × (n * d ≤ length (now points)) ⌝ }
     ensures { λ r. ⌜ r ≡ find (parts n d (now (points .entry))) (take d q) ⌝ }
 {
+    if d == 0 {
+        return 0;
+    }
     let mut k: usize = 0;
     while k < n {
-        if near(point(points, d, k), q) {
+        if near_at(points, d, k, q) {
             return k;
         }
         k += 1;

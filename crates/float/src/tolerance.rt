@@ -1,5 +1,6 @@
 // How near is one and the same: the constant, and the magnitude that it is compared with.
 ghost use mathlib.Core.Path.{_≡_};
+ghost use lib.Ieee.{le};
 ghost use Rattle.spec.specs.Float.{eps, absF};
 
 // The type that the constant belongs to.
@@ -27,4 +28,14 @@ pub fn magnitude(x: f64) -> f64
         return 0.0;
     }
     x
+}
+
+// Whether a difference is at most EPS. By two comparisons and no magnitude: its sign can't be foretold.
+pub fn within(x: f64) -> bool
+    ensures { λ r. ⌜ r ≡ le (absF x) eps ⌝ }
+{
+    if x <= Tolerance::EPS {
+        return -Tolerance::EPS <= x;
+    }
+    false
 }

@@ -16,25 +16,25 @@ use Rattle.copying.proofs.rows.row.Statement.{statement}
 use Rattle.copying.proofs.rows.row.Tie as tie
 
 abbrev Inv-loop : tie.InvT-loop
-Inv-loop copies d n m out₀ k₀ out k =
+Inv-loop copies d n places m out₀ k₀ out k =
     (k ≤ n) × (length out ≡ length out₀) × Filled n (copyRow (parts n d copies) (corner d m)) out₀ out k
 
 abbrev μ-loop : tie.MeasureT-loop
-μ-loop copies d n m out₀ k₀ out k = n - k
+μ-loop copies d n places m out₀ k₀ out k = n - k
 
 loaded-requires : tie.Need-loaded-requires Inv-loop μ-loop
 loaded-requires c κs =
     let s = c .before .before .before .before in
-    (s .pre .0, omega (arith, part-end (s .args .n) (s .args .d) (c .before .loop .k) (c .loop-test .taken), s .pre .2))
+    (s .pre .1, omega (arith, part-end (s .args .n) (s .args .d) (c .before .loop .k) (c .loop-test .taken), s .pre .3))
 
 -- the row over the copies
-abbrev whole : (c : tie.After-find Inv-loop μ-loop) → List ℕ
+abbrev whole : (c : tie.After-found Inv-loop μ-loop) → List ℕ
 whole c =
     let a = c .before .before .before .before .before .before .before .args in
     copyRow (parts (a .n) (a .d) (a .copies .now)) (corner (a .d) (a .m))
 
 -- what is found is its cell k
-piece : (c : tie.After-find Inv-loop μ-loop) → Piece (whole c) (c .before .before .before .before .loop .k) 1 (c .find .result ∷ [])
+piece : (c : tie.After-found Inv-loop μ-loop) → Piece (whole c) (c .before .before .before .before .loop .k) 1 (c .found .result ∷ [])
 piece c =
     let a = c .before .before .before .before .before .before .before .args in
     let l = c .before .before .before .before .loop in
@@ -42,22 +42,22 @@ piece c =
     let cs = parts (a .n) (a .d) (a .copies .now) in
     let m = corner (a .d) (a .m) in
     let n = length-parts (a .n) (a .d) (a .copies .now) in
-    cell (whole c) (l .k) (c .find .result) (omega (arith, h, n, length-row cs m))
-    (c .find .ensures
+    cell (whole c) (l .k) (c .found .result) (omega (arith, h, n, length-row cs m))
+    (c .found .ensures
     ∙ ap (find cs) (c .before .image .ensures ∙ ap (mulVec m) (c .before .before .loaded .ensures ∙ sym (part-at (a .n) (a .d) (a .copies .now) (l .k) h)))
     ∙ sym (cell-is cs m (l .k) (omega (arith, h, n))))
 
 returns : tie.Need-returns Inv-loop μ-loop
 returns c =
     let w = c .before in
-    filled-open (w .before .before .before .before .loop .inv .2) (piece w) (one-held _ (w .find .result) (c .if1 .taken)) refl
+    filled-open (w .before .before .before .before .loop .inv .2) (piece w) (one-held _ (w .found .result) (c .if1 .taken)) refl
 
 cast-out : tie.Need-cast-out Inv-loop μ-loop
 cast-out c =
     let w = c .before in
     let s = w .before .before .before .before .before .before .before in
     let cs = parts (s .args .n) (s .args .d) (s .args .copies .now) in
-    omega (arith, w .find .ensures, find-most cs (take (s .args .d) (w .before .image .result)), length-parts (s .args .n) (s .args .d) (s .args .copies .now), s .pre .1)
+    omega (arith, w .found .ensures, find-most cs (take (s .args .d) (w .before .image .result)), length-parts (s .args .n) (s .args .d) (s .args .copies .now), s .pre .2)
 
 loop-again : tie.Need-loop-again Inv-loop μ-loop
 loop-again c =
@@ -67,7 +67,7 @@ loop-again c =
     let h = w .before .before .before .loop-test .taken in (
       omega (arith, h),
       simp length-set (l .inv .1),
-      filled-next (l .inv .2) (piece w) (one-other _ (w .find .result) (c .if1 .left)) (cell-set (l .out) (l .k) (w .find .result) (omega (arith, h, l .inv .1, s .pre .3))),
+      filled-next (l .inv .2) (piece w) (one-other _ (w .found .result) (c .if1 .left)) (cell-set (l .out) (l .k) (w .found .result) (omega (arith, h, l .inv .1, s .pre .4))),
     )
 
 returns-2 : tie.Need-returns-2 Inv-loop μ-loop

@@ -4,11 +4,12 @@ use mathlib.Core.Path.{_≡_, sym, ap, _∙_}
 use Prim.Native.Nat.{_≤_, _-_}
 use mathlib.Core.List.{[]}
 use native.Mathlib.Omega.{arith}
-use lib.ListN.{length, getD, take}
+use lib.ListN.{getD, take}
 use borrow.Author.Needs.{needs}
+use Rattle.spec.specs.Matrix.{Vector}
 use Rattle.spec.specs.Copying.{near, parts}
-use Rattle.float.proofs.Parts.{length-parts, part-end, part-long}
-use Rattle.float.proofs.Nearness.{FoundFrom, found-none, found-here, found-on, found-end, near-part}
+use Rattle.float.proofs.Parts.{length-parts, part-at, part-end}
+use Rattle.float.proofs.Nearness.{FoundFrom, found-none, found-here, found-on, found-end, find-flat}
 use Rattle.float.proofs.points.find.Statement.{statement}
 use Rattle.float.proofs.points.find.Tie as tie
 
@@ -18,43 +19,44 @@ Inv-loop points d n q k₀ k = (k ≤ n) × FoundFrom (parts n d points) (take d
 abbrev μ-loop : tie.MeasureT-loop
 μ-loop points d n q k₀ k = n - k
 
--- what the comparison tells of point k
-near-is : (c : tie.After-near Inv-loop μ-loop) →
-    c .near .result ≡ near (getD (parts (c .before .before .before .before .before .args .n) (c .before .before .before .before .before .args .d) (c .before .before .before .before .before .args .points .now)) (c .before .before .before .loop .k) []) (take (c .before .before .before .before .before .args .d) (c .before .before .before .before .before .args .q))
-near-is c =
-    let a = c .before .before .before .before .before .args in
-    c .near .ensures
-    ∙ near-part (a .n) (a .d) (a .points .now) (a .q) (c .before .before .before .loop .k) _ (c .before .before .loop-test .taken) (c .before .before .before .before .before .pre .1) (c .before .point .ensures)
-
-point-requires : tie.Need-point-requires Inv-loop μ-loop
-point-requires c κs =
-    let a = c .before .before .before .args in
-    omega (arith, part-end (a .n) (a .d) (c .before .loop .k) (c .loop-test .taken))
-
-near-requires : tie.Need-near-requires Inv-loop μ-loop
-near-requires c κs =
-    let a = c .before .before .before .before .args in
-    omega (arith, ap length (c .point .ensures), part-long (a .n) (a .d) (a .points .now) (c .before .before .loop .k) (c .before .loop-test .taken) (c .before .before .before .before .pre .1))
-
 returns : tie.Need-returns Inv-loop μ-loop
 returns c =
-    let a = c .before .before .before .before .before .before .args in
-    let l = c .before .before .before .before .loop in
-    let n = length-parts (a .n) (a .d) (a .points .now) in
-    found-here (omega arith) (l .inv .1) (sym (near-is (c .before)) ∙ c .if1 .taken)
+    let a = c .before .before .args in
+    rw (c .if1 .taken) (find-flat (a .n) (a .points .now) _)
 
-loop-again : tie.Need-loop-again Inv-loop μ-loop
-loop-again c =
-    let a = c .before .before .before .before .before .before .args in
-    let l = c .before .before .before .before .loop in
-    let n = length-parts (a .n) (a .d) (a .points .now) in
-    (search needs, found-on (omega arith) (l .inv .1) (sym (near-is (c .before)) ∙ c .if1 .left))
+near-at-requires : tie.Need-near-at-requires Inv-loop μ-loop
+near-at-requires c κs =
+    let s = c .before .before .before .before in
+    (omega (arith, c .before .before .if1 .left), s .pre .0, omega (arith, part-end (s .args .n) (s .args .d) (c .before .loop .k) (c .loop-test .taken), s .pre .1))
+
+-- what the comparison tells of point k
+near-is : (c : tie.After-near-at Inv-loop μ-loop) →
+    (let a = c .before .before .before .before .before .args in
+    near (getD (parts (a .n) (a .d) (a .points .now)) (c .before .before .loop .k) []) (take (a .d) (a .q)) ≡ c .near-at .result)
+near-is c =
+    let a = c .before .before .before .before .before .args in
+    ap (λ (v : Vector). near v (take (a .d) (a .q))) (part-at (a .n) (a .d) (a .points .now) (c .before .before .loop .k) (c .before .loop-test .taken))
+    ∙ sym (c .near-at .ensures)
 
 returns-2 : tie.Need-returns-2 Inv-loop μ-loop
 returns-2 c =
-    let a = c .before .before .before .args in
+    let w = c .before in
+    let a = w .before .before .before .before .before .args in
     let n = length-parts (a .n) (a .d) (a .points .now) in
-    sym n ∙ found-end (omega arith) (omega arith) (c .before .loop .inv .1)
+    found-here (omega (arith, w .before .loop-test .taken)) (w .before .before .loop .inv .1) (near-is w ∙ c .if2 .taken)
+
+loop-again : tie.Need-loop-again Inv-loop μ-loop
+loop-again c =
+    let w = c .before in
+    let a = w .before .before .before .before .before .args in
+    let n = length-parts (a .n) (a .d) (a .points .now) in
+    (search needs, found-on (omega (arith, w .before .loop-test .taken)) (w .before .before .loop .inv .1) (near-is w ∙ c .if2 .left))
+
+returns-3 : tie.Need-returns-3 Inv-loop μ-loop
+returns-3 c =
+    let a = c .before .before .before .before .args in
+    let n = length-parts (a .n) (a .d) (a .points .now) in
+    sym n ∙ found-end (omega (arith, c .before .loop .inv .0)) (omega (arith, c .loop-test .left)) (c .before .loop .inv .1)
 
 pub find-spec : {M : Type 1} → statement M
 find-spec =
@@ -62,11 +64,11 @@ find-spec =
     (tie.spec
     Inv-loop
     μ-loop
-    (λ c. (search needs, found-none))
-    point-requires
-    near-requires
     returns
+    (λ c. (search needs, found-none))
+    near-at-requires
+    returns-2
     (λ c. search needs)
     (λ c. search needs)
     loop-again
-    returns-2)
+    returns-3)

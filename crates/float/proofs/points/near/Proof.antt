@@ -1,13 +1,11 @@
 -- The loop's invariant: the axes before i are near. The measure is what is left of the axes.
 -- Assumes nothing.
-use mathlib.Core.Path.{_≡_}
+use mathlib.Core.Path.{_≡_, sym, _∙_}
 use Prim.Native.Nat.{_≤_, _-_}
 use native.Mathlib.Omega.{arith}
 use lib.ListN.{length}
-use lib.Ieee.{ofBits}
 use borrow.Author.Needs.{needs}
 use Rattle.spec.specs.Limits.{maxDimension}
-use Rattle.spec.specs.Float.{eps}
 use Rattle.float.proofs.Nearness.{NearTo, near-none, near-on, near-not, near-end}
 use Rattle.float.proofs.points.near.Statement.{statement}
 use Rattle.float.proofs.points.near.Tie as tie
@@ -22,20 +20,18 @@ long : (c : tie.Start Inv-loop μ-loop) → length (c .args .t2) ≡ maxDimensio
 long c = search needs
 
 loop-again : tie.Need-loop-again Inv-loop μ-loop
-unfolding ofBits eps
 loop-again c =
     let s = c .before .before .before .before .before .before in
     let l = c .before .before .before .before .loop in
     let k = long s in
-    (search needs, near-on (c .before .magnitude .result) (omega arith) (omega arith) (c .before .magnitude .ensures) (l .inv .1) (c .if1 .taken))
+    (search needs, near-on (omega arith) (omega arith) (l .inv .1) (sym (c .before .within .ensures) ∙ c .if1 .taken))
 
 returns : tie.Need-returns Inv-loop μ-loop
-unfolding ofBits eps
 returns c =
     let s = c .before .before .before .before .before .before in
     let l = c .before .before .before .before .loop in
     let k = long s in
-    near-not (c .before .magnitude .result) (omega arith) (omega arith) (c .before .magnitude .ensures) (l .inv .1) (c .if1 .left)
+    near-not (omega arith) (omega arith) (l .inv .1) (sym (c .before .within .ensures) ∙ c .if1 .left)
 
 pub near-spec : {M : Type 1} → statement M
 near-spec =
