@@ -1,5 +1,5 @@
 #!/bin/sh
-# bench_sheets.sh: milliseconds of processor time that refusals 1 to 6, storing included, take on the largest sheets (tools/make_largest.py
+# bench_sheets.sh: milliseconds of processor time that refusals 1 to 6, storing included, take on large sheets (tools/make_largest.py
 # says which). Each is judged 64 times, the best of five runs. Needs `rt` and python3.
 set -e
 cd "$(dirname "$0")/.."
@@ -15,7 +15,7 @@ def seconds(sheet, often):
         subprocess.run(["target/bin/sheet_bench", often], stdin=open(sheet, "rb"), stdout=subprocess.DEVNULL, check=True)
         best = min(best, resource.getrusage(resource.RUSAGE_CHILDREN).ru_utime - t)
     return best
-for name in ("full", "cubes", "cells", "wide", "split"):
+for name in ("full", "cubes", "cells", "wide", "split", "squares", "pentagons", "ridges", "longest"):
     sheet = f"{sys.argv[1]}/{name}.sheet"
     print(f"{name}: {(seconds(sheet, '2') - seconds(sheet, '0')) / 63 * 1e3:.2f} ms")
 END

@@ -1,15 +1,21 @@
 #!/usr/bin/env python3
-"""Makes the sheets that crate sheet_bench is timed on: the largest that preflight accepts, R = 5 and D = 4.
+"""Makes the sheets that crate sheet_bench is timed on: large ones with R = 5 and D = 4.
 
     python3 tools/make_largest.py            writes crates/sheet_bench/stdin (the sheet `full`)
     python3 tools/make_largest.py FOLDER     writes all of them there, as NAME.sheet
 
-A face (rank 3) lies in exactly two facets, so that of list entries there are at most 4,096 at rank 2, 8,192 at rank 3 and 4,096 at rank 4.
+Accepted. A face (rank 3) lies in exactly two facets, so that of list entries there are at most 4,096 at rank 2, 8,192 at rank 3 and 4,096 at
+rank 4.
 - full: 512 times four squares on the same four edges, each two neighbours a facet: 2,048 elements at each proper rank, and every entry.
 - cubes: 11 by 2 by 31 cubes that close up in all three directions: 682 vertices and facets, 2,046 edges and faces.
 - cells: 21 times the boundary of the 24-cell: 504 vertices and facets, 2,016 edges and faces.
 - wide: four polygons of 2,048 sides on the same edges: the longest lists.
 - split: three polygons of 682 sides, six faces of two of them each, four facets of three faces: the most entries looked through in vain.
+- squares, pentagons: a cycle of 4 or 5 edges, each edge twice; a face for each choice of one edge of each pair, as often as there is room:
+  the most faces on an edge.
+Refused.
+- ridges (6): two polygons of 2,048 sides on the same edges, both in each of 2,048 facets.
+- longest (6): 2,048 elements and 8,192 entries at every rank: the longest sheet there is.
 """
 import itertools
 import os
@@ -51,6 +57,25 @@ def split(n):
     return points, lists
 
 
+def choices(n, m):
+    """Around a cycle of n edges, each twice: m faces for each choice of one edge of each pair, each two neighbours of equal ones a facet."""
+    points = [(float(k), float(k % 2), 0.0, 0.0) for k in range(n)]
+    edges = [sorted((k, (k + 1) % n)) for k in range(n) for _ in range(2)]
+    faces = [[2 * k + b for k, b in enumerate(bits)] for bits in itertools.product((0, 1), repeat=n) for _ in range(m)]
+    facets = [sorted((at + k, at + (k + 1) % m)) for at in range(0, len(faces), m) for k in range(m)]
+    return points, [edges, faces, facets]
+
+
+def ridges(n):
+    points, lists = fan(n, 2, 0)
+    return points, [lists[0], lists[1], [[0, 1]] * n]
+
+
+def longest(n):
+    points = [(float(k), 0.0, 0.0, 0.0) for k in range(n)]
+    return points, [[sorted((e + k) % n for k in range(4)) for e in range(n)]] * 3
+
+
 def cubes(sizes):
     """Cubes that close up: an element is a place and the axes along which it extends."""
     places = list(itertools.product(*map(range, sizes)))
@@ -87,6 +112,10 @@ def sheets():
     yield "cells", together(cell24(k) for k in range(21))
     yield "wide", fan(2048, 4, 0)
     yield "split", split(682)
+    yield "squares", choices(4, 128)
+    yield "pentagons", choices(5, 51)
+    yield "ridges", ridges(2048)
+    yield "longest", longest(2048)
 
 
 def main():

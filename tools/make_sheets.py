@@ -4,13 +4,15 @@ first, and its bytes; and stdout, for each the number of its refusal among 1 to 
 this file, which was written from document 01's section 2 and table alone, in another language and another shape than the program. Run
 once; the files are kept.
 
-    python3 tools/make_sheets.py SAMPLES         SAMPLES is a folder of valid sheets, NAME.sheet
+    python3 tools/make_sheets.py
 
-The sheets: the samples of up to 1,000 bytes; small solids cut at every byte, with bytes after them, with each filling bit set; every limit
-broken by one and just kept; lists empty, not rising, repeating, with a sub equal to its count; coordinates NaN, infinite, at the limit and
-one above; loose and mitred solids, both at once, and with too little workspace; 400 random damages of samples (Python's random, seed
-20261115).
+The sheets, each once: those of samples/ of up to 1,000 bytes; small solids cut at every byte, with bytes after them, with each filling bit
+set; every limit broken by one and just kept, entries also where the sheet is then cut or has a bad sub; lists empty, not rising, repeating,
+with a sub equal to its count; coordinates NaN of every kind, infinite, at the limit and one above; loose and mitred solids, both at once, at
+every rank up to R = 5, and with too little workspace; both edges of the workspace, words' and floats'; 400 random damages of samples
+(Python's random, seed 20261115).
 """
+import itertools
 import os
 import random
 import struct
@@ -20,7 +22,7 @@ TOP = os.path.dirname(os.path.dirname(os.path.abspath(__file__)))
 sys.path.insert(0, os.path.dirname(os.path.abspath(__file__)))
 from pack_sheet import pack
 
-WORDS, FLOATS = 65536, 8256
+WORDS, FLOATS = 65536, 16448
 
 
 class Refused(Exception):
@@ -115,7 +117,9 @@ def made():
     square = pack(3, 2, [(1, 1), (-1, 1), (-1, -1), (1, -1)], [[[0, 1], [1, 2], [2, 3], [0, 3]]])
     tetra = pack(4, 0, [()] * 4, [[[0, 1], [0, 2], [0, 3], [1, 2], [1, 3], [2, 3]], [[0, 1, 3], [0, 2, 4], [1, 2, 5], [3, 4, 5]]])
     pair = pack(2, 1, [(-1.0,), (1.0,)], [])
-    for whole in (square, tetra, pair, bytes([0]), bytes([0x20]), b""):
+    # the only one here that fills its last byte
+    pentagon = pack(3, 0, [()] * 5, [[[0, 1], [1, 2], [2, 3], [3, 4], [0, 4]]])
+    for whole in (square, tetra, pair, pentagon, bytes([0]), bytes([0x20]), b""):
         yield from (whole[:n] for n in range(len(whole) + 1))
         yield from (whole + tail for tail in (b"\x00", b"\x01", b"\xff", b"\x00\x00"))
         if whole:
@@ -130,6 +134,8 @@ def made():
         yield pack(2, 1, [(x,), (1.0,)], [])
         yield pack(1, 2, [(0.0, x)], [])
         yield pack(2, 1, [(x,), (1.0,)], [])[:10]
+    for pattern in (0x7ff8 << 48, 0xfff8 << 48, (0x7ff0 << 48) + 1, (0xfff0 << 48) + 1, 0x7ff4 << 48, 0xfff4 << 48, (1 << 63) - 1, (1 << 64) - 1):
+        yield packed(head(2, 1, [2]) + f"{pattern:064b}{0:064b}")
     for edges in ([[]], [[0]], [[0, 0]], [[1, 0]], [[0, 2]], [[0, 1], []], [[0, 1], [1, 1]], [[0, 1], [0, 1]], [[0, 1]], [[0, 1], [0, 1], [0, 1]]):
         yield pack(3, 0, [()] * 2, [edges])
     yield pack(3, 0, [()] * 3, [[[0, 1], [0, 1]]])
@@ -137,14 +143,42 @@ def made():
     yield pack(4, 0, [()] * 3, [[[0, 1], [1, 2], [0, 2]], [[0, 1, 2], [0, 1, 2]]])
     yield pack(4, 0, [()] * 3, [[[0, 1], [1, 2], [0, 2]], [[0, 1, 2]]])
     yield pack(4, 0, [()] * 3, [[[0, 1], [1, 2], [0, 2], [0, 1]], [[0, 1, 2], [0, 1, 2]]])
+    yield from cells()
     full = list(range(2048))
     for last in ([0, 1], [0]):
         yield pack(3, 0, [()] * 2048, [[full, full, full, full[:2046], last]])
     yield pack(3, 0, [()] * 2048, [[full, full, full, full[:2047], []]])
     yield pack(3, 0, [()] * 2048, [[full, full, full, full, []]])
     yield pack(3, 0, [()] * 2048, [[full, full, full, full, [0]]])
-    for n in (200, 1000, 1023, 1024, 1025):
+    # entry 8,193, and then the sheet is cut, or a sub repeats
+    over = head(3, 0, [2048, 4]) + "".join(f"{2048:012b}" + "".join(f"{x:011b}" for x in full) for _ in range(3)) + f"{2049:012b}"
+    yield packed(over)
+    yield packed(over + f"{0:011b}" * 2049)
+    # as many as a rank may have, and more in the next rank
+    yield pack(4, 0, [()] * 2048, [[full] * 4, [[0, 1, 2, 3]]])
+    # 1,023 just fit the words; 2,048 elements just fit the floats, where the solid is loose
+    for n in (200, 1023, 1024, 1025):
         yield pack(3, 0, [()] * n, [[[i, i + 1] for i in range(n - 1)] + [[0, n - 1]]])
+    for n in (2046, 2047):
+        yield pack(3, 0, [()] * n, [[[0, 1], [0, 1]]])
+
+
+def cells():
+    """The boundary of the 4-simplex, R = 5; with an element in no list at each rank, and with one sub more or less at each rank."""
+    of = [list(itertools.combinations(range(5), k)) for k in range(1, 5)]
+    lists = [[[at.index(s) for s in itertools.combinations(e, len(e) - 1)] for e in up] for at, up in zip(of, of[1:])]
+    lists = [[sorted(l) for l in ls] for ls in lists]
+    yield pack(5, 0, [()] * 5, lists)
+    yield pack(5, 0, [()] * 6, lists)
+    for r in range(3):
+        spare = lists[:r] + [lists[r] + [lists[r][0]]] + lists[r + 1:]
+        less = lists[:r] + [[lists[r][0][1:]] + lists[r][1:]] + lists[r + 1:]
+        more = lists[:r] + [[sorted({*lists[r][0], lists[r][-1][-1]})] + lists[r][1:]] + lists[r + 1:]
+        yield from (pack(5, 0, [()] * 5, ls) for ls in (spare, less, more))
+    yield pack(5, 0, [()] * 5, lists[:2] + [lists[2][:-1]])
+    # two triangles on the same edges: both in each of so many facets
+    for n in (1, 2, 3):
+        yield pack(5, 0, [()] * 3, [[[0, 1], [1, 2], [0, 2]], [[0, 1, 2]] * 2, [[0, 1]] * n])
 
 
 def damaged(samples):
@@ -162,10 +196,10 @@ def damaged(samples):
 
 
 def main():
-    folder = sys.argv[1]
+    folder = f"{TOP}/samples"
     samples = [open(f"{folder}/{f}", "rb").read() for f in sorted(os.listdir(folder)) if f.endswith(".sheet")]
     samples = [s for s in samples if len(s) <= 1000]
-    sheets = samples + list(made()) + list(damaged(samples))
+    sheets = list(dict.fromkeys(samples + list(made()) + list(damaged(samples))))
     crate = f"{TOP}/crates/sheet_replay"
     os.makedirs(crate, exist_ok=True)
     numbers = [judge(s) for s in sheets]

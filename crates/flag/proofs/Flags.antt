@@ -17,7 +17,7 @@ use Rattle.spec.specs.Solid.{between}
 use Rattle.spec.specs.Flags.{IsFlag, elementAt, firstTo, firstFlag, other, change}
 use Rattle.spec.proofs.Lists.{in-getD}
 use Rattle.ranked.specs.declared.Shape.{Shape}
-use Rattle.ranked.specs.Words.{firstAt, sizeAt, listAt, solidIn, Held}
+use Rattle.ranked.specs.Words.{firstAt, sizeAt, solidIn, Held}
 use Rattle.ranked.specs.Reading.{Lies, subsWord, Each, holding}
 use Rattle.ranked.proofs.Solids.{top-is, size-is, subs-lie, sups-lie, subs-listed, sub-in}
 use Rattle.ranked.proofs.Judged.{down-is}
@@ -26,9 +26,9 @@ use Rattle.ranked.proofs.Judged.{down-is}
 
 -- a list of subs is not empty, and its first is of the rank below
 module _ (sh : Shape) (w : List ℕ) (h : Held sh w) where
-  pub some-sub : (r e : ℕ) → 0 < r → r ≤ sh .rank → e < sizeAt sh r → 0 < length (listAt w (subsWord (firstAt sh r) e))
+  pub some-sub : (r e : ℕ) → 0 < r → r ≤ sh .rank → e < sizeAt sh r → 0 < length (subs (solidIn sh w) r e)
   some-sub zero e a b k = absurd (omega arith)
-  some-sub (suc r) e a b k = rw (subs-listed sh w h (suc r) e b k) (h .filled r e (rw (size-is sh w (suc r) b) k))
+  some-sub (suc r) e a b k = h .filled r e (rw (size-is sh w (suc r) b) k)
 
   first-in : (r e : ℕ) → suc r ≤ sh .rank → e < sizeAt sh (suc r) → getD (subs (solidIn sh w) (suc r) e) 0 0 < sizeAt sh r
   first-in r e b k =

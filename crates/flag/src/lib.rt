@@ -30,8 +30,7 @@ fn first_sub(w: &[u32], sh: Shape, r: usize, e: usize) -> usize
     requires { ⌜ (0 < r) × (r ≤ sh .rank) × (e < sizeAt sh r) ⌝ }
     ensures { λ f. ⌜ f ≡ getD (subs (solidIn sh (now (w .entry))) r e) 0 0 ⌝ }
 {
-    let first = sh.first;
-    lists::entry_at(w, lists::subs_at(first[r], e), 0)
+    lists::sub(w, sh, r, e, 0)
 }
 
 // The first entry y of the list at word i, but for e, that has x in its list at word base + 4 * y; e where there is none.

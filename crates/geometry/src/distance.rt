@@ -2,23 +2,14 @@
 ghost use mathlib.Core.Path.{_≡_};
 ghost use mathlib.Core.List.{map};
 ghost use Prim.Native.Nat.{ℕ, _+_, _*_, _≤_, _<_};
-ghost use lib.ListN.{length, take, drop, getD};
+ghost use lib.ListN.{length, take, getD};
 ghost use Rattle.spec.specs.Limits.{maxDimension};
 ghost use Rattle.spec.specs.Hull.{hullOf, distance};
 ghost use Rattle.geometry.specs.Reading.{pointAt};
 use crate::hull::Hull;
 use crate::hull::Joined;
+use float::points::point;
 use float::vector;
-
-// The coordinates of point v, as a part of the slice.
-fn point(points: &[f64], d: usize, v: usize) -> &[f64]
-    requires { ⌜ (v + 1) * d ≤ length (now points) ⌝ }
-    ensures { λ r. ⌜ now r ≡ take d (drop (v * d) (now (points .entry))) ⌝ }
-{
-    let at = v * d;
-    let end = at + d;
-    &points[at..end]
-}
 
 // The number at i.
 fn number(list: &[u16], i: usize) -> usize

@@ -14,7 +14,7 @@ use Rattle.spec.specs.Solid.{bound, between, diamond}
 use Rattle.spec.proofs.Lists.{of-range}
 use Rattle.ranked.specs.declared.Shape.{Shape}
 use Rattle.ranked.specs.Words.{firstAt, sizeAt, listAt, solidIn, Held}
-use Rattle.ranked.specs.Reading.{subsWord, supsWord, boundIn, holding, Fork, twoUnder, Tier, twoAt, twoRank}
+use Rattle.ranked.specs.Reading.{subsWord, supsWord, boundIn, holding, Fork, twoUnder, Tier, twoAt, twoRank, twoFrom}
 use Rattle.ranked.proofs.Solids.{top-is, size-is, subs-lie, sups-lie, subs-listed, sups-listed, sub-in, sup-in}
 use Rattle.ranked.proofs.Between.{upward, between-upward}
 
@@ -29,6 +29,17 @@ pub keep-same : (p q : ℕ → Bool) (l : List ℕ) → ((x : ℕ) → In x l �
 unfolding keep
 keep-same p q [] f = refl
 keep-same p q (x ∷ l) f = rw (f x (inl refl), keep) (ap (λ (m : List ℕ). elim (q x) [ true ↦ x ∷ m | false ↦ m ]) (keep-same p q l (λ y m. f y (inr m))))
+
+-- what fails among the later numbers of a range fails among all
+range-later : (p : ℕ → Bool) (k a m b n : ℕ) → b ≡ k + a → n ≡ k + m → every p (range b m) ≡ false → every p (range a n) ≡ false
+unfolding every range
+range-later p zero a m b n eb en e = let x : b ≡ a = omega arith in let y : n ≡ m = omega arith in rw y (rw x at e)
+range-later p (suc k) a m b zero eb en e = absurd (omega arith)
+range-later p (suc k) a m b (suc n) eb en e = go (p a) (range-later p k (suc a) m b n (omega arith) (omega arith) e)
+  where
+    go : (t : Bool) → every p (range (suc a) n) ≡ false → elim t as (λ c. Bool) [ true ↦ every p (range (suc a) n) | false ↦ false ] ≡ false
+    go true f = f
+    go false f = refl
 
 module _ (sh : Shape) (w : List ℕ) (h : Held sh w) where
   abbrev s : Solid
@@ -162,3 +173,12 @@ module _ (sh : Shape) (w : List ℕ) (h : Held sh w) where
           ≡ twoRank w (firstAt sh r) (firstAt sh (suc r)) (sizeAt sh (suc r))
       go zero a b = absurd (omega arith)
       go (suc q) a b = mitre-is q b
+
+  -- the whole, and a part of it
+  pub diamond-whole : twoFrom sh w 0 ≡ diamond s
+  unfolding twoFrom
+  diamond-whole = let q : sh .rank - 1 - 0 ≡ sh .rank - 1 = omega arith in rw q (sym diamond-is)
+
+  pub diamond-not : (k : ℕ) → k < sh .rank → twoFrom sh w k ≡ false → diamond s ≡ false
+  unfolding twoFrom
+  diamond-not k m e = diamond-is ∙ range-later _ k 1 (sh .rank - 1 - k) (suc k) (sh .rank - 1) (omega arith) (omega arith) e

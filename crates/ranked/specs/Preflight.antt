@@ -38,8 +38,8 @@ pub record Settled (p : Parsed) (r : Ready) (ws : List ℕ) (fs : List Float) : 
   pub kept : Kept p (r .shape) ws fs
   pub low : r .low ≡ lowOf (r .shape) (entries (solidOf p))
 
--- of the sheet b, in n words and m floats: the answer, and where it passes the solid is placed. What the words and floats hold where it is
--- refused is free
+-- of the sheet b, in n words and m floats: the answer, and where it passes the solid is placed. Where it is refused, the shape and low that
+-- are answered are free, and so is what the words and floats hold
 pub record Preflighted (b : List ℕ) (n m : ℕ) (r : Ready) (ws : List ℕ) (fs : List Float) : Type 0 where
   pub verdict : r .verdict ≡ verdictOf (preflight b n m)
   pub lengths : (length ws ≡ n) × (length fs ≡ m)

@@ -2,12 +2,13 @@
 -- Assumes nothing.
 use mathlib.Core.Path.{_≡_}
 use mathlib.Core.Bool.{Bool}
-use Prim.Native.Nat.{ℕ, _+_, _*_, _≤_, _<_}
+use Prim.Native.Nat.{ℕ, suc, _+_, _-_, _*_, _≤_, _<_}
 use mathlib.Core.List.{List}
 use lib.ListN.{length}
 use lib.Dec.{eqb, ltb}
 use Rattle.spec.specs.Lists.{In, range, holds, keep, every}
-use Rattle.ranked.specs.Words.{listAt, Inside}
+use Rattle.ranked.specs.declared.Shape.{Shape}
+use Rattle.ranked.specs.Words.{firstAt, sizeAt, listAt, Inside}
 
 -- the two words that say where the list at word i is, and the list, lie within the words
 pub record Lies (w : List ℕ) (i : ℕ) : Type 0 where
@@ -66,3 +67,7 @@ pub record Tier (w : List ℕ) (below at above g : ℕ) : Type 0 where
 -- and for each of the n elements above
 unfoldable pub twoRank : List ℕ → ℕ → ℕ → ℕ → Bool
 twoRank w at above n = every (twoAt w at above) (range 0 n)
+
+-- and for each rank from k + 1 to R - 1, with the ranks below and above it
+unfoldable pub twoFrom : Shape → List ℕ → ℕ → Bool
+twoFrom sh w k = every (λ r. twoRank w (firstAt sh r) (firstAt sh (suc r)) (sizeAt sh (suc r))) (range (suc k) (sh .rank - 1 - k))

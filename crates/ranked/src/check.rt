@@ -6,12 +6,12 @@ use crate::lists::holds_at;
 use crate::lists::subs_at;
 use crate::lists::sups_at;
 ghost use mathlib.Core.Path.{_≡_};
-ghost use Prim.Native.Nat.{ℕ, _+_, _*_, _<_};
+ghost use Prim.Native.Nat.{ℕ, _+_, _*_, _≤_, _<_};
 ghost use lib.ListN.{length};
 ghost use Rattle.spec.specs.Lists.{In};
 ghost use Rattle.spec.specs.Solid.{bound, diamond};
 ghost use Rattle.ranked.specs.Words.{listAt, solidIn, Held};
-ghost use Rattle.ranked.specs.Reading.{Lies, supsWord, boundIn, Each, holding, Fork, twoUnder, Tier, twoAt, twoRank};
+ghost use Rattle.ranked.specs.Reading.{Lies, supsWord, boundIn, Each, holding, Fork, twoUnder, Tier, twoAt, twoRank, twoFrom};
 
 // Is each of the n elements of a rank that starts at `first` in a list?
 fn bound_rank(w: &[u32], first: usize, n: usize) -> bool
@@ -70,7 +70,7 @@ fn between(w: &[u32], i: usize, j: usize, base: usize, g: usize, h: usize) -> us
     requires { ⌜ Fork (now w) i j base g h ⌝ }
     ensures { λ res. ⌜ res ≡ length (holding (now (w .entry)) i base h) ⌝ }
 {
-    if count_at(w, i) < count_at(w, j) {
+    if count_at(w, i) <= count_at(w, j) {
         counting(w, i, base, h)
     } else {
         counting(w, j, base + 2, g)
@@ -129,13 +129,13 @@ fn diamond_rank(w: &[u32], below: usize, at: usize, above: usize, n: usize) -> b
     true
 }
 
-// Not 6: exactly two elements between every element and every sub of its subs, the least and the top included?
-pub fn is_diamond(w: &[u32], sh: Shape) -> bool
-    requires { ⌜ Held sh (now w) ⌝ }
-    ensures { λ res. ⌜ res ≡ diamond (solidIn sh (now (w .entry))) ⌝ }
+// The same for the ranks above `from` and the one after it, from the bottom up.
+fn diamond_from(w: &[u32], sh: Shape, from: usize) -> bool
+    requires { ⌜ (Held sh (now w)) × (from ≤ sh .rank) ⌝ }
+    ensures { λ res. ⌜ res ≡ twoFrom sh (now (w .entry)) from ⌝ }
 {
     let rank = sh.rank;
-    let mut low: usize = 0;
+    let mut low = from;
     while low + 1 < rank {
         let below = sh.first[low];
         let at = sh.first[low + 1];
@@ -147,4 +147,19 @@ pub fn is_diamond(w: &[u32], sh: Shape) -> bool
         low += 1;
     }
     true
+}
+
+// Not 6: exactly two elements between every element and every sub of its subs, the least and the top included? The top comes first: once
+// every ridge is known to lie in just two facets, what the ranks below cost is bounded by the sheet's length.
+pub fn is_diamond(w: &[u32], sh: Shape) -> bool
+    requires { ⌜ Held sh (now w) ⌝ }
+    ensures { λ res. ⌜ res ≡ diamond (solidIn sh (now (w .entry))) ⌝ }
+{
+    let rank = sh.rank;
+    if rank >= 2 {
+        if !diamond_from(w, sh, rank - 2) {
+            return false;
+        }
+    }
+    diamond_from(w, sh, 0)
 }

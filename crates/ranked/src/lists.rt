@@ -1,10 +1,12 @@
-// Lists at offsets in lent words, read one word at a time.
+// Lists at offsets in lent words, read one word at a time; and the subs and sups of the solid that they hold.
+use crate::Shape;
 ghost use mathlib.Core.Path.{_≡_};
-ghost use Prim.Native.Nat.{_+_, _*_, _^_, _<_};
+ghost use Prim.Native.Nat.{_+_, _*_, _^_, _≤_, _<_};
 ghost use lib.ListN.{length, getD};
 ghost use lib.Dec.{eqb};
 ghost use Rattle.spec.specs.Lists.{holds};
-ghost use Rattle.ranked.specs.Words.{listAt};
+ghost use Rattle.spec.specs.Types.{subs, sups};
+ghost use Rattle.ranked.specs.Words.{sizeAt, listAt, solidIn, Held};
 ghost use Rattle.ranked.specs.Reading.{Lies};
 
 // The word at p.
@@ -63,4 +65,44 @@ pub fn holds_at(w: &[u32], i: usize, x: usize) -> bool
         k += 1;
     }
     false
+}
+
+// How many subs element e of rank r has.
+pub fn sub_count(w: &[u32], sh: Shape, r: usize, e: usize) -> usize
+    requires { ⌜ Held sh (now w) ⌝ }
+    requires { ⌜ (r ≤ sh .rank) × (e < sizeAt sh r) ⌝ }
+    ensures { λ n. ⌜ n ≡ length (subs (solidIn sh (now (w .entry))) r e) ⌝ }
+{
+    let first = sh.first;
+    count_at(w, subs_at(first[r], e))
+}
+
+// Its sub k.
+pub fn sub(w: &[u32], sh: Shape, r: usize, e: usize, k: usize) -> usize
+    requires { ⌜ Held sh (now w) ⌝ }
+    requires { ⌜ (r ≤ sh .rank) × (e < sizeAt sh r) × (k < length (subs (solidIn sh (now w)) r e)) ⌝ }
+    ensures { λ x. ⌜ x ≡ getD (subs (solidIn sh (now (w .entry))) r e) k 0 ⌝ }
+{
+    let first = sh.first;
+    entry_at(w, subs_at(first[r], e), k)
+}
+
+// How many sups element e of rank r has.
+pub fn sup_count(w: &[u32], sh: Shape, r: usize, e: usize) -> usize
+    requires { ⌜ Held sh (now w) ⌝ }
+    requires { ⌜ (r ≤ sh .rank) × (e < sizeAt sh r) ⌝ }
+    ensures { λ n. ⌜ n ≡ length (sups (solidIn sh (now (w .entry))) r e) ⌝ }
+{
+    let first = sh.first;
+    count_at(w, sups_at(first[r], e))
+}
+
+// Its sup k.
+pub fn sup(w: &[u32], sh: Shape, r: usize, e: usize, k: usize) -> usize
+    requires { ⌜ Held sh (now w) ⌝ }
+    requires { ⌜ (r ≤ sh .rank) × (e < sizeAt sh r) × (k < length (sups (solidIn sh (now w)) r e)) ⌝ }
+    ensures { λ x. ⌜ x ≡ getD (sups (solidIn sh (now (w .entry))) r e) k 0 ⌝ }
+{
+    let first = sh.first;
+    entry_at(w, sups_at(first[r], e), k)
 }

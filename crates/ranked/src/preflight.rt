@@ -86,7 +86,8 @@ fn settle(sheet: &[u8], header: Header, words: &mut [u32], floats: &mut [f64]) -
     }
 }
 
-// A sheet of any bytes and any length, and a workspace of any size. What the workspace holds where a refusal is answered is free.
+// A sheet of any bytes and any length, and a workspace of any size. Where a refusal is answered, shape and low are free,
+// and so is what the workspace holds.
 pub fn preflight(sheet: &[u8], words: &mut [u32], floats: &mut [f64]) -> Ready
     ensures { λ r. ⌜ Preflighted (now (sheet .entry)) (length (now (words .entry))) (length (now (floats .entry))) r
         (now (words .exit)) (now (floats .exit)) ⌝ }

@@ -9,7 +9,7 @@ use native.Mathlib.Omega.{arith}
 use lib.ListN.{length, take, drop, length-drop}
 use lib.Seq.{take-all}
 use lib.Ieee.{Float}
-use Rattle.spec.specs.Types.{top, size, up}
+use Rattle.spec.specs.Types.{top, size, start, up}
 use Rattle.spec.specs.Classes.{classTable, byTable, typesOf}
 use Rattle.ranked.specs.declared.Shape.{Shape}
 use Rattle.ranked.specs.Words.{firstAt, sizeAt, total, solidIn, Held}
@@ -20,12 +20,12 @@ use Rattle.distances.specs.Solids.{vertexCount, coordinates, proper}
 use Rattle.distances.specs.Listed.{Classed}
 use Rattle.distances.proofs.Ranks.{in-order}
 use Rattle.distances.proofs.Room.{proper-is, roomy-floats}
-use Rattle.element_types.specs.State.{needed, Sweepable}
+use Rattle.element_types.specs.State.{stateIn, needed, Sweepable}
 use Rattle.element_types.proofs.Room.{elements-few, sweepable}
 use Rattle.element_types.proofs.Sweeps.{sweepable-kept}
 use Rattle.settling.specs.Start.{Startable, Begins}
-use Rattle.settling.specs.Settle.{Started, Settles}
-use Rattle.settling.specs.Typed.{Typed}
+use Rattle.settling.specs.Settle.{Settles}
+use Rattle.settling.specs.Typed.{AtStart, Typed}
 
 -- ---- offsets
 
@@ -100,21 +100,33 @@ module _ (sh : Shape) (low : ℕ) (w : List ℕ) (fs : List Float) (b : Bench sh
     }
 
     module _ (v : List ℕ) (long : length v ≡ length w) (begins : Begins sh low w v cells) where
-      pub started : Started sh low v
-      started = record {
-        sweepable = sweepable-kept sh low w v long (begins .lists) can-sweep;
-        room = omega (arith, types-room);
-        classes = byTable (classTable (solidAt sh low w fs));
-        state = rw (begins .lists) (begins .state fs (rw d (c .cells)));
+      begun : stateIn sh low v ≡ start (solidIn sh (take low w)) (byTable (classTable (solidAt sh low w fs)))
+      begun = begins .state fs (rw d (c .cells))
+
+      pub at-start : AtStart sh low w v fs gs
+      at-start = record {
+        lists = begins .lists;
+        points = c .same;
+        lengths = (long, c .long);
+        cells = c .cells;
+        state = begun;
+        started = record {
+          sweepable = sweepable-kept sh low w v long (begins .lists) can-sweep;
+          room = omega (arith, types-room);
+          classes = byTable (classTable (solidAt sh low w fs));
+          state = rw (begins .lists) begun;
+        };
       }
 
-      pub typed : (u : List ℕ) (settled : Bool) → length u ≡ length v → Settles sh low v u settled → Typed sh low w u fs gs settled
-      unfolding typesOf started
-      typed u settled k s = record {
-        lists = s .lists ∙ begins .lists;
-        points = c .same;
-        lengths = (k ∙ long, c .long);
-        cells = c .cells;
-        result = rw (begins .lists) at (s .ends (byTable (classTable (solidAt sh low w fs))) (started .state));
-        numbered = s .numbered;
-      }
+-- the sweeps, from the start
+pub typed : (sh : Shape) (low : ℕ) (w v u : List ℕ) (fs gs : List Float) (settled : Bool) → AtStart sh low w v fs gs → length u ≡ length v → Settles sh low v u settled
+    → Typed sh low w u fs gs settled
+unfolding typesOf
+typed sh low w v u fs gs settled b k s = record {
+  lists = s .lists ∙ b .lists;
+  points = b .points;
+  lengths = (k ∙ b .lengths .0, b .lengths .1);
+  cells = b .cells;
+  result = rw (b .lists) at (s .ends (byTable (classTable (solidAt sh low w fs))) (rw (b .lists) (b .state)));
+  numbered = s .numbered;
+}

@@ -1,4 +1,4 @@
--- What the types of a solid that lies in lent words and floats are.
+-- What the start state and the types of a solid that lies in lent words and floats are.
 -- Assumes nothing.
 use mathlib.Core.Path.{_≡_}
 use mathlib.Core.Bool.{Bool, true, false}
@@ -7,12 +7,26 @@ use mathlib.Core.List.{List}
 use Prim.Native.Nat.{ℕ, _+_}
 use lib.ListN.{length, take, drop}
 use lib.Ieee.{Float}
+use Rattle.spec.specs.Types.{start}
 use Rattle.spec.specs.Hull.{classes}
-use Rattle.spec.specs.Classes.{distances, typesOf}
+use Rattle.spec.specs.Classes.{distances, classTable, byTable, typesOf}
 use Rattle.ranked.specs.declared.Shape.{Shape}
+use Rattle.ranked.specs.Words.{solidIn}
 use Rattle.ranked.specs.Bench.{solidAt}
 use Rattle.distances.specs.Solids.{coordinates, proper}
 use Rattle.element_types.specs.State.{stateIn, Countable}
+use Rattle.settling.specs.Settle.{Started}
+
+-- the start state of the solid that lies in words w and floats fs, made in the words v and floats gs
+pub record AtStart (sh : Shape) (low : ℕ) (w v : List ℕ) (fs gs : List Float) : Type 0 where
+  pub lists : take low v ≡ take low w
+  pub points : take (coordinates sh (take low w)) gs ≡ take (coordinates sh (take low w)) fs
+  pub lengths : (length v ≡ length w) × (length gs ≡ length fs)
+  -- every proper element's class, where all_classes leaves them
+  pub cells : take (proper sh) (drop (coordinates sh (take low w) + proper sh) gs) ≡ classes (distances (solidAt sh low w fs))
+  pub state : stateIn sh low v ≡ start (solidIn sh (take low w)) (byTable (classTable (solidAt sh low w fs)))
+  -- any step can be done, and the sweeps
+  pub started : Started sh low v
 
 -- the types of the solid that lies in words w and floats fs, worked out into the words v and floats gs
 pub record Typed (sh : Shape) (low : ℕ) (w v : List ℕ) (fs gs : List Float) (settled : Bool) : Type 0 where

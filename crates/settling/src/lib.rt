@@ -8,7 +8,7 @@ ghost use Prim.Native.Nat.{ℕ, _+_};
 ghost use Rattle.ranked.specs.Words.{Held};
 ghost use Rattle.ranked.specs.Bench.{Bench};
 ghost use Rattle.distances.specs.Solids.{coordinates, proper};
-ghost use Rattle.settling.specs.Typed.{Typed};
+ghost use Rattle.settling.specs.Typed.{AtStart, Typed};
 
 pub mod numbering;
 pub mod settled;
@@ -31,13 +31,22 @@ fn class_cells(sh: Shape) -> usize
     (first[2] - first[1]) * d + (first[rank] - first[1])
 }
 
-// The types of the solid that lies in the words and floats: its elements' distance classes, section 4's start, and the sweeps. False is refusal 15.
-pub fn types_of(words: &mut [u32], low: usize, sh: Shape, floats: &mut [f64]) -> bool
+// The start state of the solid that lies in the words and floats, by its elements' distance classes. Any list of steps can be played from it, and
+// the sweeps are one.
+pub fn begin(words: &mut [u32], low: usize, sh: Shape, floats: &mut [f64])
     requires { ⌜ Bench sh low (now words) (now floats) ⌝ }
-    ensures { λ r. ⌜ Typed sh low (now (words .entry)) (now (words .exit)) (now (floats .entry)) (now (floats .exit)) r ⌝ }
+    ensures { λ _. ⌜ AtStart sh low (now (words .entry)) (now (words .exit)) (now (floats .entry)) (now (floats .exit)) ⌝ }
 {
     all_classes(&words[..low], sh, floats);
     let cell = class_cells(sh);
     start(words, low, sh, &floats[cell..]);
+}
+
+// The types of the solid that lies in the words and floats: section 4's start, and the sweeps. False is refusal 15.
+pub fn types_of(words: &mut [u32], low: usize, sh: Shape, floats: &mut [f64]) -> bool
+    requires { ⌜ Bench sh low (now words) (now floats) ⌝ }
+    ensures { λ r. ⌜ Typed sh low (now (words .entry)) (now (words .exit)) (now (floats .entry)) (now (floats .exit)) r ⌝ }
+{
+    begin(words, low, sh, floats);
     settle(words, low, sh)
 }

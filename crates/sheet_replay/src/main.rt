@@ -8,7 +8,7 @@ const BYTES: usize = 65536;
 
 const WORDS: usize = 65536;
 
-const FLOATS: usize = 8256;
+const FLOATS: usize = 16448;
 
 fn wide(x: u8) -> usize
     ensures { λ r. ⌜ r < 256 ⌝ }

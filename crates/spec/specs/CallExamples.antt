@@ -172,12 +172,13 @@ repeat-clause = refl
 
 -- ---- single rules
 
--- "a list's length counts as entries when it is read": entry 8,192 passes, entry 8,193 is refused 2, and a length of 0 only then 4
+-- "a list's length counts as entries when it is read": entry 8,192 passes, entry 8,193 is refused 2 before the cut after it is seen, and a
+-- length of 0 only then 4
 pub entries-full : list (0 ∷ 16 ∷ 0 ∷ []) 1 8191 0 ≡ passed (0 ∷ [], 23)
 unfolding evaluate
 entries-full = refl
 
-pub entries-over : list (0 ∷ 16 ∷ 0 ∷ []) 1 8192 0 ≡ refused Format
+pub entries-over : list (0 ∷ 16 ∷ []) 1 8192 0 ≡ refused Format
 unfolding evaluate
 entries-over = refl
 

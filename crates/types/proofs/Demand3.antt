@@ -8,16 +8,17 @@ use native.Mathlib.Nat.{add-zero}
 use lib.ListN.{length, getD, drop, List·getD-append}
 use lib.Seq.{getD-append-add}
 use Rattle.spec.specs.declared.Answer.{Answer}
+use Rattle.spec.specs.declared.Answer.the-variants.{Done}
 use Rattle.spec.specs.Lists.{range, sum, join}
 use Rattle.spec.specs.Types.{Solid, top, size, properRanks, State, typesAt, typeOf, given}
 use Rattle.spec.specs.Demand.{Proper}
 use Rattle.spec.specs.Copying.{written}
-use Rattle.spec.specs.Calls.{TypesOut}
+use Rattle.spec.specs.Calls.{TypesOut, typesCall}
 use Rattle.spec.proofs.Lists.{map-same}
 use Rattle.spec.proofs.TypeLaws.{type-laws}
 use Rattle.spec.proofs.Demand3Calls.{demand3-calls}
 use Rattle.distances.specs.Solids.{beforeIn}
-use Rattle.types.specs.Demand3.{typeCell, Demand3Outputs}
+use Rattle.types.specs.Demand3.{typeCell, Demand3Cells, Demand3Outputs}
 
 -- member e of list k among lists one after another
 join-cell : (g : ℕ → List ℕ) (rest : List ℕ) (a n k e : ℕ) → k < n → e < length (g (a + k))
@@ -65,3 +66,8 @@ demand3-outputs b words floats old new n done =
             final = λ still r e p h. at r e p h ∙ sym (g .final still r e p h);
           };
     }
+
+-- both claims of the call, whatever its answer
+pub told : (b : List ℕ) (words floats : ℕ) (old new : TypesOut) (r : Answer) → (r, new) ≡ typesCall b words floats old
+    → ((r, new) ≡ typesCall b words floats old) × ((n : ℕ) → r ≡ Done n → Demand3Cells b words floats (new .elements))
+told b words floats old new r e = (e, λ n done. demand3-outputs b words floats old new n (ap (λ (x : Answer). (x, new)) (sym done) ∙ e))

@@ -6,10 +6,13 @@ use sheet::Verdict;
 use spec::Answer;
 use spec::Refusal;
 ghost use mathlib.Core.Path.{_≡_};
+ghost use Prim.Native.Nat.{ℕ};
 ghost use lib.ListN.{length};
+ghost use Rattle.spec.specs.declared.Answer.the-variants.{Done};
 ghost use Rattle.spec.specs.Calls.{typesCall};
 ghost use Rattle.ranked.specs.Bench.{solidAt, Bench};
 ghost use Rattle.types.specs.Call.{answered};
+ghost use Rattle.types.specs.Demand3.{Demand3Cells};
 
 pub mod giving;
 
@@ -35,7 +38,8 @@ fn types_given(
 }
 
 // A sheet of any bytes and any length, a workspace of any size, and outputs of any length: one cell a proper element, and four a type. The
-// workspace afterwards is free, and keeps its length.
+// workspace afterwards is free, and keeps its length. Where the call is done, the cells are as fine as any list of steps, and hold the numbers of
+// one that no step would part more.
 pub fn element_types(
     sheet: &[u8],
     words: &mut [u32],
@@ -46,6 +50,8 @@ pub fn element_types(
     ensures { λ r. ⌜ (r, record { elements = now (of .exit); types = now (table .exit) })
         ≡ typesCall (now (sheet .entry)) (length (now (words .entry))) (length (now (floats .entry)))
         (record { elements = now (of .entry); types = now (table .entry) }) ⌝ }
+    ensures { λ r. ⌜ ((n : ℕ) → r ≡ Done n
+        → Demand3Cells (now (sheet .entry)) (length (now (words .entry))) (length (now (floats .entry))) (now (of .exit))) ⌝ }
 {
     let ready = preflight(sheet, words, floats);
     let verdict = ready.verdict;

@@ -7,7 +7,7 @@ use Rattle.sheet_replay.proofs.main.Statement.{statement}
 use Rattle.sheet_replay.proofs.main.Tie as tie
 
 abbrev Inv-loop : tie.InvT-loop
-Inv-loop bytes₀ words₀ floats₀ left₀ bytes words floats left = (length bytes ≡ 65536) × (length words ≡ 65536) × (length floats ≡ 8256)
+Inv-loop bytes₀ words₀ floats₀ left₀ bytes words floats left = (length bytes ≡ 65536) × (length words ≡ 65536) × (length floats ≡ 16448)
 
 abbrev μ-loop : tie.MeasureT-loop
 μ-loop bytes₀ words₀ floats₀ left₀ bytes words floats left = left

@@ -3,6 +3,7 @@
 use borrow.Author.Needs.{needs}
 use Rattle.spec.specs.Calls.{TypesOut}
 use Rattle.types.proofs.Placed.{refused-call, benched, passed-call}
+use Rattle.types.proofs.Demand3.{told}
 use Rattle.types.proofs.element_types.Statement.{statement}
 use Rattle.types.proofs.element_types.Tie as tie
 
@@ -28,7 +29,7 @@ element-types-spec =
     -- returns
     (λ c. let v = c .before in
     let p = v .before .before .before .before .before .before .before in
-    refused-call _ _ _ _ _ _ (p .preflight .ensures) _ (v .verdict .given .1) (old p))
+    told _ _ _ (old p) (old p) _ (refused-call _ _ _ _ _ _ (p .preflight .ensures) _ (v .verdict .given .1) (old p)))
     -- same-length, for each slice
     (λ c. search needs)
     (λ c. search needs)
@@ -38,4 +39,4 @@ element-types-spec =
     (λ c. let g = c .before .before .before .before .before .before .before .before in
     let t = g .before .before .before .before .before in
     let p = t .before .before .before .before .before .before .before in
-    passed-call _ _ _ _ _ _ (p .preflight .ensures) (t .enum-told .given .1) (old p) _ (g .types-given .ensures)))
+    told _ _ _ (old p) _ _ (passed-call _ _ _ _ _ _ (p .preflight .ensures) (t .enum-told .given .1) (old p) _ (g .types-given .ensures))))

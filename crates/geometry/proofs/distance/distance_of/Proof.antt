@@ -45,7 +45,7 @@ part-next c =
     part-is (s .args .d) (s .args .n) (s .args .points .now) (s .args .list .now) (t .before .loop .i) (c .before .number2 .result) _ (s .pre .3) (t .loop-test .taken) (c .before .number2 .ensures) (c .point2 .ensures)
 
 point-requires : tie.Need-point-requires Inv-loop μ-loop
-point-requires c κs = rw (c .number .ensures) (c .before .before .before .pre .3 0 (omega arith))
+point-requires c κs = rw (c .number .ensures) (omega (arith, c .before .before .before .pre .3 0 (omega arith)))
 
 load-requires : tie.Need-load-requires Inv-loop μ-loop
 load-requires c κs = let k = part-first c .1 in omega arith
@@ -69,7 +69,7 @@ returns c =
 point-requires-2 : tie.Need-point-requires-2 Inv-loop μ-loop
 point-requires-2 c κs =
     let t = c .before .before in
-    rw (c .number2 .ensures) (entry (t .before) .pre .3 (t .before .loop .i) (t .loop-test .taken))
+    rw (c .number2 .ensures) (omega (arith, entry (t .before) .pre .3 (t .before .loop .i) (t .loop-test .taken)))
 
 load-requires-2 : tie.Need-load-requires-2 Inv-loop μ-loop
 load-requires-2 c κs = let k = part-next c .1 in omega arith

@@ -1,87 +1,21 @@
--- What is left of the ranks passes exactly if all do.
+-- The ranks at the top are a part of all; then all are judged.
 -- Assumes nothing.
 use borrow.Author.Needs.{needs}
-use borrow.Author.Tests.{not-true, not-false}
+use borrow.Author.Tests.{not-true}
 use native.Mathlib.Omega.{arith}
-use mathlib.Core.Path.{_≡_, refl, sym, _∙_}
-use mathlib.Core.Bool.{Bool}
-use mathlib.Core.List.{List}
-use Prim.Native.Nat.{ℕ, suc, _+_, _≤_, _<_, _-_}
-use native.Mathlib.Numerals.{add-one}
-use Rattle.spec.specs.Lists.{range}
-use Rattle.ranked.specs.declared.Shape.{Shape}
-use Rattle.ranked.specs.Words.{firstAt, sizeAt, Held}
-use Rattle.ranked.specs.Reading.{Tier, twoRank}
-use Rattle.ranked.proofs.Turns.{Every, range-yes, range-no, range-end}
-use Rattle.ranked.proofs.Judged.{tier, diamond-is}
+use mathlib.Core.Path.{sym, _∙_}
+use Rattle.ranked.proofs.Judged.{diamond-whole, diamond-not}
 use Rattle.ranked.proofs.check.is_diamond.Statement.{statement}
 use Rattle.ranked.proofs.check.is_diamond.Tie as tie
-
-abbrev p : Shape → List ℕ → ℕ → Bool
-p sh w r = twoRank w (firstAt sh r) (firstAt sh (suc r)) (sizeAt sh (suc r))
-
-abbrev Inv : tie.InvT-loop
-Inv w sh rank low₀ low = (low ≤ rank) × Every (p sh w) (range 1 (rank - 1)) low
-
-abbrev μ : tie.MeasureT-loop
-μ w sh rank low₀ low = rank - low
-
--- ranks k to k + 2, as the code has them
-module _ (sh : Shape) (w : List ℕ) (k : ℕ) where
-  two-is : k + 2 ≡ suc (suc k)
-  two-is = omega arith
-
-  three-is : k + 3 ≡ suc (suc (suc k))
-  three-is = omega arith
-
-  rising : Held sh w → k + 1 < sh .rank → firstAt sh (k + 2) ≤ firstAt sh (k + 3)
-  rising h m = rw (two-is, three-is) (omega (arith, h .some (suc (suc k)) (omega arith)))
-
-  tiers : Held sh w → k + 1 < sh .rank → (g : ℕ) → g < firstAt sh (k + 3) - firstAt sh (k + 2)
-      → Tier w (firstAt sh k) (firstAt sh (k + 1)) (firstAt sh (k + 2)) g
-  tiers h m g = rw (two-is, three-is, add-one k) (λ q. tier sh w h k (omega arith) g q)
-
-  said : (b : Bool) → b ≡ twoRank w (firstAt sh (k + 1)) (firstAt sh (k + 2)) (firstAt sh (k + 3) - firstAt sh (k + 2)) → p sh w (suc k) ≡ b
-  said b e = sym (rw (two-is, three-is, add-one k) at e)
 
 pub is-diamond-spec : {M : Type 1} → statement M
 is-diamond-spec =
     tie.close
-    (tie.spec Inv μ
-    -- loop-holds, add-loop
-    (λ c. (search needs, refl))
-    (λ c. search needs)
-    -- the shape's numbers: mul, element-copy-out; and add before them, three times
-    (λ c. omega (arith, c .before .before .before .pre .tall))
-    (λ c. omega (arith, c .before .before .before .pre .tall))
-    (λ c. search needs)
-    (λ c. omega (arith, c .before .before .before .before .pre .tall))
-    (λ c. omega (arith, c .before .before .before .before .pre .tall))
-    (λ c. search needs)
-    (λ c. omega (arith, c .before .before .before .before .before .pre .tall))
-    (λ c. omega (arith, c .before .before .before .before .before .pre .tall))
-    (λ c. search needs)
-    (λ c. omega (arith, c .before .before .before .before .before .before .pre .tall))
-    (λ c. omega (arith, c .before .before .before .before .before .before .pre .tall))
-    -- sub-diamond-rank, diamond-rank-requires
-    (λ c. let l = c .before .before .before .before .before in let s = l .before .before in
-    rising (s .args .t2) (s .args .w .now) (l .loop .low) (s .pre) (omega (arith, c .before .before .before .before .loop-test .taken)))
-    (λ c κs. let l = c .before .before .before .before .before in let s = l .before .before in
-    tiers (s .args .t2) (s .args .w .now) (l .loop .low) (s .pre) (omega (arith, c .before .before .before .before .loop-test .taken)))
-    -- returns, add-low, loop-less, loop-again, returns-2
-    (λ c. let b = c .before in let i = b .before .before .before .before .before in let l = i .before in let s = l .before .before in
-    let more = i .loop-test .taken in
-    range-no (p (s .args .t2) (s .args .w .now)) 1 _ (l .loop .low) (suc (l .loop .low)) (omega arith) (omega arith) (l .loop .inv .1)
-    (said (s .args .t2) (s .args .w .now) (l .loop .low) _ (b .diamond-rank .ensures) ∙ not-true _ (c .if1 .taken))
-    ∙ sym (diamond-is (s .args .t2) (s .args .w .now) (s .pre)))
-    (λ c. search needs)
-    (λ c. search needs)
-    (λ c. let b = c .before in let i = b .before .before .before .before .before in let l = i .before in let s = l .before .before in
-    let more = i .loop-test .taken in (
-      omega arith,
-      range-yes (p (s .args .t2) (s .args .w .now)) 1 _ (l .loop .low) (suc (l .loop .low)) (omega arith) (omega arith) (l .loop .inv .1)
-          (said (s .args .t2) (s .args .w .now) (l .loop .low) _ (b .diamond-rank .ensures) ∙ not-false _ (c .if1 .left)),
-    ))
-    (λ c. let l = c .before in let s = l .before .before in
-    range-end (p (s .args .t2) (s .args .w .now)) 1 _ (l .loop .low) (omega (arith, c .loop-test .left)) (l .loop .inv .1)
-    ∙ sym (diamond-is (s .args .t2) (s .args .w .now) (s .pre))))
+    (tie.spec
+    -- diamond-from-requires, returns
+    (λ c κs. search needs)
+    (λ c. let b = c .before in let s = b .before .before .before in
+    sym (diamond-not (s .args .sh) (s .args .w .now) (s .pre) _ (omega (arith, b .before .if1 .taken)) (sym (b .diamond-from .ensures) ∙ not-true _ (c .if2 .taken))))
+    -- diamond-from-requires-2, returns-2
+    (λ c κs. search needs)
+    (λ c. let s = c .before .before .before in c .diamond-from2 .ensures ∙ diamond-whole (s .args .sh) (s .args .w .now) (s .pre)))
