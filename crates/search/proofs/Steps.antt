@@ -49,8 +49,8 @@ use Rattle.symmetry.specs.Tails.{settingOf, from9, from10, from15, from11, ends
 use Rattle.symmetry.specs.Listing.{Listed, answerOf, outsOf, keptIn}
 use Rattle.symmetry.proofs.Tails.{judge-no, judge-yes, wanted-no, wanted-yes, from8, refusal-ends, after, search-after, rotations-after}
 use Rattle.symmetry.proofs.Running.{ends-listed}
-use Rattle.search.specs.declared.tests.Far.{Far}
-use Rattle.search.specs.declared.tests.Far.the-variants.{Facet, Nothing}
+use Rattle.search.specs.declared.judging.Far.{Far}
+use Rattle.search.specs.declared.judging.Far.the-variants.{Facet, Nothing}
 use Rattle.search.specs.Reading.{farOf, regular, markIn, callOf}
 use Rattle.search.proofs.Tested.{solid-on, solid-kept, full-is, facets-are, far-low}
 use Rattle.search.proofs.Benched.{exchanged-back}

@@ -16,8 +16,8 @@ use Rattle.spec.specs.Calls.{SearchOut, searchCall, rotationsCall}
 use Rattle.ranked.specs.declared.Shape.{Shape}
 use Rattle.ranked.specs.Words.{total, solidIn, Held}
 use Rattle.marks.specs.Rows.{setsApart, ClassesIn}
-use Rattle.search.specs.declared.tests.Far.{Far}
-use Rattle.search.specs.declared.tests.Far.the-variants.{Facet, Nothing}
+use Rattle.search.specs.declared.judging.Far.{Far}
+use Rattle.search.specs.declared.judging.Far.the-variants.{Facet, Nothing}
 
 -- the facet, if there is one
 unfoldable pub farOf : Far → Option ℕ

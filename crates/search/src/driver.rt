@@ -1,11 +1,11 @@
-// "a search call .. with 8, 9, 10, 15, 11, then 12 or 13": one function for each judgement, each going on to the next. The outputs are the parts
-// of the buffers from their first cells on; the workspace afterwards is free.
+// "a search call .. with 8, 9, 10, 15, 11, then 12 or 13": one function for each judgement, each going on to the next. What the words and floats
+// hold afterwards is free; they keep their lengths.
+use crate::judging::Far;
+use crate::judging::first_far;
+use crate::judging::first_inverse;
+use crate::judging::is_full;
+use crate::judging::is_regular;
 use crate::marking::write_marks;
-use crate::tests::Far;
-use crate::tests::first_far;
-use crate::tests::first_inverse;
-use crate::tests::is_full;
-use crate::tests::is_regular;
 use candidates::no_double;
 use exchange::exchange;
 use float::DIMENSION;

@@ -7,8 +7,8 @@ ghost use Rattle.spec.specs.Calls.{searchCall, rotationsCall};
 ghost use Rattle.symmetry.specs.Tails.{outOf};
 
 pub mod driver;
+pub mod judging;
 pub mod marking;
-pub mod tests;
 
 use crate::driver::run;
 

@@ -10,8 +10,8 @@ use Rattle.spec.proofs.FlagList.{every-first}
 use Rattle.ranked.specs.Words.{solidIn}
 use Rattle.distances.specs.Solids.{solidOn}
 use Rattle.flag.specs.Reading.{flagIn}
-use Rattle.search.proofs.tests.first_inverse.Statement.{statement}
-use Rattle.search.proofs.tests.first_inverse.Tie as tie
+use Rattle.search.proofs.judging.first_inverse.Statement.{statement}
+use Rattle.search.proofs.judging.first_inverse.Tie as tie
 
 -- the first flag is one
 is-flag : (c : tie.After-first) → let s = c .before .before .before in IsFlag (solidIn (s .args .sh) (s .args .w .now)) (flagIn (s .args .sh .rank) (c .first .result))

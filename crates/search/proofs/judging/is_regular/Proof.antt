@@ -8,8 +8,8 @@ use Rattle.spec.specs.Search.{allFinite}
 use Rattle.float.specs.Reading.{corner}
 use Rattle.float.proofs.Inverses.{regular-is, singular-is}
 use Rattle.search.specs.Reading.{regular}
-use Rattle.search.proofs.tests.is_regular.Statement.{statement}
-use Rattle.search.proofs.tests.is_regular.Tie as tie
+use Rattle.search.proofs.judging.is_regular.Statement.{statement}
+use Rattle.search.proofs.judging.is_regular.Tie as tie
 
 pub is-regular-spec : {M : Type 1} → statement M
 unfolding regular

@@ -2,8 +2,8 @@
 -- Assumes nothing.
 use borrow.Author.Needs.{needs}
 use borrow.Author.Tests.{le-leb, lt-leb}
-use Rattle.search.proofs.tests.is_full.Statement.{statement}
-use Rattle.search.proofs.tests.is_full.Tie as tie
+use Rattle.search.proofs.judging.is_full.Statement.{statement}
+use Rattle.search.proofs.judging.is_full.Tie as tie
 
 pub is-full-spec : {M : Type 1} → statement M
 is-full-spec =

@@ -13,8 +13,8 @@ use Rattle.ranked.specs.Words.{firstAt, sizeAt}
 use Rattle.distances.specs.Solids.{solidOn}
 use Rattle.search.specs.Reading.{farOf}
 use Rattle.search.proofs.Tested.{Left, far-found, far-next, far-end, test-is}
-use Rattle.search.proofs.tests.first_far.Statement.{statement}
-use Rattle.search.proofs.tests.first_far.Tie as tie
+use Rattle.search.proofs.judging.first_far.Statement.{statement}
+use Rattle.search.proofs.judging.first_far.Tie as tie
 
 abbrev Inv : tie.InvT-loop
 Inv w sh points r n f₀ f = (f ≤ n) × Left (solidOn sh w points (sh .dimension)) n f
