@@ -299,14 +299,14 @@ const AXIS_ORDERS: [[[f64; DIMENSION]; DIMENSION]; 48] = [
     ],
 ];
 
-// The table.
+// The table. It is made anew at each call: a caller keeps it in a local and lends that.
 pub fn axis_orders() -> [[[f64; DIMENSION]; DIMENSION]; 48]
     ensures { λ r. ⌜ map (corner 3) r ≡ axisOrders ⌝ }
 {
     AXIS_ORDERS
 }
 
-// The table as copying takes its matrices: nine floats each, row by row.
+// The table as copying takes its matrices: nine floats each, row by row. It too is kept in a local and lent to every `copy`.
 pub fn axis_turns() -> [f64; 432]
     ensures { λ r. ⌜ r ≡ join (join axisOrders) ⌝ }
 {
