@@ -29,7 +29,7 @@ class Refused(Exception):
     pass
 
 
-def judge(data):
+def judge(data, words=WORDS, floats=FLOATS):
     """The refusal's number, or 0: fields as they come, the end, 7, 5, 6."""
     bits = "".join(f"{b:08b}" for b in data)
     at = 0
@@ -80,7 +80,7 @@ def judge(data):
         if len(bits) - at >= 8 or "1" in bits[at:]:
             raise Refused(1)
         elements, entries = sum(counts), sum(len(l) for r in lists for l in r)
-        if WORDS < 16 * (elements + entries + 4) or FLOATS < 8 * (elements + 8):
+        if words < 16 * (elements + entries + 4) or floats < 8 * (elements + 8):
             raise Refused(7)
         solid = [[[]]]
         if rank > 1:

@@ -1,0 +1,45 @@
+-- Lends parts that lie within the buffers. Assumes nothing.
+use mathlib.Core.Path.{sym}
+use lib.Seq.{length-take-le}
+use borrow.Author.Needs.{needs}
+use native.Mathlib.Omega.{arith}
+use Rattle.search_replay.proofs.replay_one.Statement.{statement}
+use Rattle.search_replay.proofs.replay_one.Tie as tie
+
+pub replay-one-spec : {M : Type 1} → statement M
+replay-one-spec =
+    tie.close
+    (tie.spec
+    (λ c κs. search needs)
+    (λ c κs. search needs)
+    (λ c κs. search needs)
+    (λ c κs. search needs)
+    (λ c κs. search needs)
+    (λ c κs. search needs)
+    (λ c κs. search needs)
+    (λ c. search needs)
+    (λ c. search needs)
+    (λ c. search needs)
+    (λ c. search needs)
+    (λ c. search needs)
+    (λ c. search needs)
+    (λ c. search needs)
+    (λ c. sym (length-take-le _ _ (omega arith)))
+    (λ c. search needs)
+    (λ c. sym (length-take-le _ _ (omega arith)))
+    (λ c. search needs)
+    (λ c. sym (length-take-le _ _ (omega arith)))
+    (λ c. search needs)
+    (λ c. sym (length-take-le _ _ (omega arith)))
+    (λ c. search needs)
+    (λ c. sym (length-take-le _ _ (omega arith)))
+    (λ c. search needs)
+    (λ c. sym (length-take-le _ _ (omega arith)))
+    (λ c κs. search needs)
+    (λ c. search needs)
+    (λ c. search needs)
+    (λ c. search needs)
+    (λ c. search needs)
+    (λ c. search needs)
+    (λ c. search needs)
+    (λ c. search needs))

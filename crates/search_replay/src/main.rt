@@ -1,0 +1,270 @@
+// Replays stored searches: reads records and writes each answer with a digest of every cell of the three outputs. All numbers are whole,
+// eight bytes each, highest byte first. A record is which call it is (0 search, 1 rotations), how long the sheet is, how many words and
+// floats the workspace has, how long the outputs of matrices, rows and marks are, and then the sheet's bytes. Its answer is the refusal's
+// number, or 0; the count; a digest of each output. The outputs are filled with numbers of the place beforehand, so that a cell that is to
+// stay is seen to stay. tools/make_searches.py made stdin and stdout.
+//
+// A digest goes by pieces of 16 bits, a float as the four pieces of its pattern, highest first: multiply by BASE, add the piece, take the
+// rest by PRIME, from 1 on. Each step is one to one in either number, so a change in one piece alone always shows.
+ghost use Prim.Native.Nat.{_<_, _≤_, _^_};
+ghost use lib.ListN.{length};
+use float::bits;
+use spec::Answer;
+
+// The longest sheet, the largest workspace and the longest outputs that a record may ask for.
+const BYTES: usize = 8192;
+
+const WORDS: usize = 16384;
+
+const FLOATS: usize = 2048;
+
+const MATRICES: usize = 20480;
+
+const ROWS: usize = 32768;
+
+const MARKS: usize = 2048;
+
+const BASE: u64 = 65521;
+
+const PRIME: u64 = 281_474_976_710_597;
+
+// What stands at the end of the input: no record may ask for so much.
+const END: u64 = 0xffff_ffff_ffff_fffe;
+
+fn wide(x: u8) -> u64
+    ensures { λ r. ⌜ r < 256 ⌝ }
+{
+    x as u64
+}
+
+fn wider(x: u16) -> u64
+    ensures { λ r. ⌜ r < 65536 ⌝ }
+{
+    x as u64
+}
+
+fn half(a: u8, b: u8, c: u8, d: u8) -> u64
+    ensures { λ r. ⌜ r < 2 ^ 32 ⌝ }
+{
+    wide(a) * 0x100_0000 + wide(b) * 0x1_0000 + wide(c) * 0x100 + wide(d)
+}
+
+// The next number of the input, or END.
+fn next() -> u64 {
+    let mut b = [0u8; 8];
+    let got = io::read_full(0, &mut b);
+    if got < 8 {
+        return END;
+    }
+    half(b[0], b[1], b[2], b[3]) * 0x1_0000_0000 + half(b[4], b[5], b[6], b[7])
+}
+
+fn write(n: u64) -> bool {
+    let b = [
+        (n / 0x100_0000_0000_0000 % 256) as u8,
+        (n / 0x1_0000_0000_0000 % 256) as u8,
+        (n / 0x100_0000_0000 % 256) as u8,
+        (n / 0x1_0000_0000 % 256) as u8,
+        (n / 0x100_0000 % 256) as u8,
+        (n / 0x1_0000 % 256) as u8,
+        (n / 0x100 % 256) as u8,
+        (n % 256) as u8,
+    ];
+    io::write_all(1, &b)
+}
+
+// Floats that no member has, another in each cell.
+fn fill_floats(out: &mut [f64]) {
+    let mut i: usize = 0;
+    while i < out.len() {
+        out[i] = bits::from_pattern(0x7000_0000_0000_0000 + (i % 65536) as u64);
+        i += 1;
+    }
+}
+
+// Numbers that no vertex has.
+fn fill_cells(out: &mut [u16]) {
+    let mut i: usize = 0;
+    while i < out.len() {
+        out[i] = (60000 + i % 4096) as u16;
+        i += 1;
+    }
+}
+
+// Bytes that no mark is.
+fn fill_bytes(out: &mut [u8]) {
+    let mut i: usize = 0;
+    while i < out.len() {
+        out[i] = (2 + i % 250) as u8;
+        i += 1;
+    }
+}
+
+// The digest after one more piece.
+fn digest(state: u64, piece: u64) -> u64
+    requires { ⌜ (state < 2 ^ 48) × (piece < 65536) ⌝ }
+    ensures { λ r. ⌜ r < 2 ^ 48 ⌝ }
+{
+    (state * BASE + piece) % PRIME
+}
+
+fn digest_pattern(state: u64, n: u64) -> u64
+    requires { ⌜ state < 2 ^ 48 ⌝ }
+    ensures { λ r. ⌜ r < 2 ^ 48 ⌝ }
+{
+    let a = digest(state, n / 0x1_0000_0000_0000 % 65536);
+    let b = digest(a, n / 0x1_0000_0000 % 65536);
+    let c = digest(b, n / 0x1_0000 % 65536);
+    digest(c, n % 65536)
+}
+
+fn digest_floats(s: &[f64]) -> u64 {
+    let mut state: u64 = 1;
+    let mut i: usize = 0;
+    while i < s.len() {
+        state = digest_pattern(state, bits::pattern(s[i]));
+        i += 1;
+    }
+    state
+}
+
+fn digest_cells(s: &[u16]) -> u64 {
+    let mut state: u64 = 1;
+    let mut i: usize = 0;
+    while i < s.len() {
+        state = digest(state, wider(s[i]));
+        i += 1;
+    }
+    state
+}
+
+fn digest_bytes(s: &[u8]) -> u64 {
+    let mut state: u64 = 1;
+    let mut i: usize = 0;
+    while i < s.len() {
+        state = digest(state, wide(s[i]));
+        i += 1;
+    }
+    state
+}
+
+fn write_answer(answer: Answer) -> bool {
+    match answer {
+        Answer::Done(n) => write(0) && write(n as u64),
+        Answer::Refused(why, n) => write(why.number() as u64) && write(n as u64),
+    }
+}
+
+fn call(
+    rotations: bool,
+    sheet: &[u8],
+    words: &mut [u32],
+    floats: &mut [f64],
+    matrices: &mut [f64],
+    rows: &mut [u16],
+    marks: &mut [u8],
+) -> Answer {
+    if rotations {
+        return search::rotations(sheet, words, floats, matrices, rows, marks);
+    }
+    search::search(sheet, words, floats, matrices, rows, marks)
+}
+
+// Reads a sheet that just fills its slice, and searches.
+fn replay(
+    rotations: bool,
+    sheet: &mut [u8],
+    words: &mut [u32],
+    floats: &mut [f64],
+    matrices: &mut [f64],
+    rows: &mut [u16],
+    marks: &mut [u8],
+) -> bool {
+    io::read_full(0, sheet);
+    fill_floats(matrices);
+    fill_cells(rows);
+    fill_bytes(marks);
+    let answer = call(rotations, sheet, words, floats, matrices, rows, marks);
+    write_answer(answer)
+        && write(digest_floats(matrices))
+        && write(digest_cells(rows))
+        && write(digest_bytes(marks))
+}
+
+// A length that the input asks for, of at most the limit given; or one above it.
+fn next_length(limit: usize) -> usize
+    requires { ⌜ limit < 2 ^ 32 ⌝ }
+{
+    let n = next();
+    if n <= limit as u64 {
+        return n as usize;
+    }
+    limit + 1
+}
+
+// One record; whether there may be more.
+fn replay_one(
+    sheet: &mut [u8],
+    words: &mut [u32],
+    floats: &mut [f64],
+    matrices: &mut [f64],
+    rows: &mut [u16],
+    marks: &mut [u8],
+) -> bool {
+    let call = next();
+    let s = next_length(BYTES);
+    let w = next_length(WORDS);
+    let f = next_length(FLOATS);
+    let m = next_length(MATRICES);
+    let r = next_length(ROWS);
+    let k = next_length(MARKS);
+    if sheet.len() < s {
+        return false;
+    }
+    if words.len() < w {
+        return false;
+    }
+    if floats.len() < f {
+        return false;
+    }
+    if matrices.len() < m {
+        return false;
+    }
+    if rows.len() < r {
+        return false;
+    }
+    if marks.len() < k {
+        return false;
+    }
+    replay(
+        call == 1,
+        &mut sheet[..s],
+        &mut words[..w],
+        &mut floats[..f],
+        &mut matrices[..m],
+        &mut rows[..r],
+        &mut marks[..k],
+    )
+}
+
+fn main() {
+    let mut sheet = [0u8; BYTES];
+    let mut words = [0u32; WORDS];
+    let mut floats = [0.0; FLOATS];
+    let mut matrices = [0.0; MATRICES];
+    let mut rows = [0u16; ROWS];
+    let mut marks = [0u8; MARKS];
+    let mut left = 100_000u64;
+    while left > 0
+        && replay_one(
+            &mut sheet,
+            &mut words,
+            &mut floats,
+            &mut matrices,
+            &mut rows,
+            &mut marks,
+        )
+    {
+        left -= 1;
+    }
+}
