@@ -1,8 +1,7 @@
--- The first text as a part of the whole, and by the outcomes of the types call.
+-- The whole text, by the sheet's length and the types call's answer.
 -- Assumes nothing.
 use mathlib.Core.Path.{_≡_, refl, sym, ap, _∙_}
-use mathlib.Core.Bool.{Bool, true, false}
-use mathlib.Core.List.{List, [], _++_, map, append-nil}
+use mathlib.Core.List.{List, _++_, map}
 use Prim.Native.Nat.{ℕ, _*_, _≤_, _<_}
 use native.Mathlib.Omega.{arith}
 use borrow.Author.Tests.{lt-ltb, le-ltb}
@@ -16,36 +15,15 @@ use Rattle.spec.specs.Lists.{join}
 use Rattle.spec.specs.Types.{ElementType}
 use Rattle.spec.specs.Judged.{Judged, refused, passed}
 use Rattle.spec.specs.Copying.{written}
-use Rattle.spec.specs.Calls.{Given, typeCells, TypesOut, typesGiven, typesWritten, typesCall}
-use Rattle.spec.specs.KitText.{refusedLine, typesLines, afterTypes, kitText, elementCells, typeRecords, workWords, workFloats, longest}
+use Rattle.spec.specs.Calls.{Given, typeCells, TypesOut, typesGiven, typesWritten, typesCall, outcome, membersIn}
+use Rattle.spec.specs.KitText.{refusedLine, typesLines, lastLine, afterTypes, kitText, elementCells, typeRecords, lent, workWords, workFloats, longest}
 use Rattle.spec.proofs.CallProofs.{behind}
 use Rattle.text.specs.Cells.{typesFrom}
 use Rattle.text.proofs.Outputs.{types-out}
-use Rattle.kit.specs.FirstText.{typesPart, firstText, lastPart, lastText}
 
--- ---- a part of the whole
-
-parts-of : (j : Judged Given) (b : List ℕ) → afterTypes j b ≡ typesPart j ++ lastPart j b
-unfolding afterTypes typesPart lastPart
-parts-of (refused why) b = sym (append-nil (refusedLine why))
-parts-of (passed g) b = refl
-
--- what `kit` prints begins with the first text, and the last line follows
-pub first-part : (b : List ℕ) → kitText b ≡ firstText b ++ lastText b
-unfolding kitText firstText lastText
-first-part b = go (ltb longest (length b)) (typesGiven b workWords workFloats elementCells typeRecords)
-  where
-    go : (t : Bool) (j : Judged Given)
-        → _≡_ {A = List ℕ} (elim t as (λ _. List ℕ) [ true ↦ refusedLine CutSheet | false ↦ afterTypes j b ])
-        (_++_ {A = ℕ} (elim t as (λ _. List ℕ) [ true ↦ refusedLine CutSheet | false ↦ typesPart j ]) (elim t as (λ _. List ℕ) [ true ↦ [] | false ↦ lastPart j b ]))
-    go true j = sym (append-nil (refusedLine CutSheet))
-    go false j = parts-of j b
-
--- ---- the first text
-
-pub cut-text : (b : List ℕ) → longest < length b → refusedLine CutSheet ≡ firstText b
-unfolding firstText
-cut-text b h = rw (lt-ltb longest (length b) h, firstText) refl
+pub cut-text : (b : List ℕ) → longest < length b → refusedLine CutSheet ≡ kitText b
+unfolding kitText
+cut-text b h = rw (lt-ltb longest (length b) h, kitText) refl
 
 -- of a sheet that is not too long, whose types call answered a
 module _ (b : List ℕ) (old new : TypesOut) (a : Answer) (words floats : ℕ) (e : (a, new) ≡ typesCall b words floats old) (short : length b ≤ longest)
@@ -53,19 +31,22 @@ module _ (b : List ℕ) (old new : TypesOut) (a : Answer) (words floats : ℕ) (
   abbrev judged : Judged Given
   judged = typesGiven b workWords workFloats elementCells typeRecords
 
-  part-text : typesPart judged ≡ firstText b
-  unfolding firstText
-  part-text = rw (le-ltb longest (length b) short, firstText) refl
+  abbrev last : List ℕ
+  last = lastLine (outcome (membersIn b workWords workFloats) lent)
+
+  part-text : afterTypes judged b ≡ kitText b
+  unfolding kitText
+  part-text = rw (le-ltb longest (length b) short, kitText) refl
 
   wrote : (a, new) ≡ typesWritten judged old
   unfolding typesCall
   wrote = rw (w, f, m, t) at e
 
-  pub done-text : (n : ℕ) → a ≡ Done n → (n ≤ 256) × (typesLines (typesFrom (take (4 * n) (new .types))) ≡ firstText b)
-  unfolding typesWritten typesPart
+  pub done-text : (n : ℕ) → a ≡ Done n → (n ≤ 256) × (typesLines (typesFrom (take (4 * n) (new .types))) ++ last ≡ kitText b)
+  unfolding typesWritten afterTypes
   done-text n d = let r = go judged refl wrote in (r .0, r .1 ∙ part-text)
     where
-      go : (j : Judged Given) → judged ≡ j → (a, new) ≡ typesWritten j old → (n ≤ 256) × (typesLines (typesFrom (take (4 * n) (new .types))) ≡ typesPart j)
+      go : (j : Judged Given) → judged ≡ j → (a, new) ≡ typesWritten j old → (n ≤ 256) × (typesLines (typesFrom (take (4 * n) (new .types))) ++ last ≡ afterTypes j b)
       go (refused why) q p =
           let r : Done n ≡ Refused why 0 = sym d ∙ ap (λ (x : Answer × TypesOut). x .0) p in
           let z : _≡_ {A = ℕ} 0 1 = cc in
@@ -75,14 +56,14 @@ module _ (b : List ℕ) (old new : TypesOut) (a : Answer) (words floats : ℕ) (
           let k : n ≡ length (g .types) = cc in
           let l : new .types ≡ written (join (map typeCells (g .types))) (old .types) = ap (λ (x : Answer × TypesOut). x .1 .types) p in (
             omega (arith, behind b workWords workFloats elementCells typeRecords g q .types),
-            rw (k, l) (ap typesLines (types-out (g .types) (old .types))),
+            rw (k, l) (ap (λ (ks : List ElementType). typesLines ks ++ last) (types-out (g .types) (old .types))),
           )
 
-  pub refused-text : (why : Refusal) (k : ℕ) → a ≡ Refused why k → refusedLine why ≡ firstText b
-  unfolding typesWritten typesPart
+  pub refused-text : (why : Refusal) (k : ℕ) → a ≡ Refused why k → refusedLine why ≡ kitText b
+  unfolding typesWritten afterTypes
   refused-text why k d = go judged wrote ∙ part-text
     where
-      go : (j : Judged Given) → (a, new) ≡ typesWritten j old → refusedLine why ≡ typesPart j
+      go : (j : Judged Given) → (a, new) ≡ typesWritten j old → refusedLine why ≡ afterTypes j b
       go (refused other) p =
           let r : Refused why k ≡ Refused other 0 = sym d ∙ ap (λ (x : Answer × TypesOut). x .0) p in
           let z : why ≡ other = cc in

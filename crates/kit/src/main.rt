@@ -1,41 +1,90 @@
-// Document 01's program `kit`: reads a sheet from standard input and prints its types, or the refusal. The text grows in one buffer, the
-// types first.
-ghost use Prim.Native.Nat.{_*_, _≤_};
+// Document 01's program `kit`: reads a sheet from standard input and prints its types and what the search found, or the refusal. The text grows
+// in one buffer, the types first.
+ghost use mathlib.Core.Path.{_≡_};
+ghost use Prim.Native.Nat.{_+_, _*_, _≤_};
 ghost use lib.ListN.{length, take};
-ghost use Rattle.spec.specs.KitText.{typesLines};
+ghost use Rattle.spec.specs.Sheet.{readSheet};
+ghost use Rattle.spec.specs.Calls.{outcome, membersIn};
+ghost use Rattle.spec.specs.KitText.{typesLines, lastLine, lent, workWords, workFloats, kitText};
+ghost use Rattle.sheet.specs.Judge.{judgementOf};
 ghost use Rattle.text.specs.Puts.{Puts};
 ghost use Rattle.text.specs.Cells.{typesFrom};
-ghost use Rattle.kit.specs.FirstText.{firstText};
 use spec::Answer;
 use spec::Refusal;
+use text::counting;
 use text::lines;
 
 // "input past 8,192 bytes is refused 1".
 const LONGEST: usize = 8192;
 
-// What `kit` lends to the types call.
+// What `kit` lends to both calls.
 const WORDS: usize = 4096;
 
 const FLOATS: usize = 2048;
 
+// To the types call.
 const ELEMENTS: usize = 256;
 
 const TYPES: usize = 256;
 
+// To the search.
+const MATRICES: usize = 1024;
+
+const ROWS: usize = 8192;
+
+const MARKS: usize = 512;
+
 // The longest text: the line that counts the types has at most 27 bytes, a type's 24, and the last line 91.
 const TEXT: usize = 6262;
 
-// The lines of the n types that the table begins with: cells of 16 bits, so that the buffer has room.
+// The lines of the n types that the table begins with: cells of 16 bits, so that the buffer has room, and for the last line too.
 fn put_types(out: &mut [u8; TEXT], table: &[u16], n: usize) -> usize
     requires { ⌜ (4 * n ≤ length (now table)) × (n ≤ 256) ⌝ }
-    ensures { λ r. ⌜ Puts 0 (typesLines (typesFrom (take (4 * n) (now (table .entry))))) (now (out .entry)) (now (out .exit)) r ⌝ }
+    ensures { λ r. ⌜ Puts 0 (typesLines (typesFrom (take (4 * n) (now (table .entry))))) (now (out .entry)) (now (out .exit)) r × (r + 91 ≤ 6262) ⌝ }
 {
     lines::element_types(out, 0, table, n)
 }
 
-// The text up to the types, from the buffer's first byte on. Says where it ends.
-fn first_text(sheet: &[u8], out: &mut [u8; TEXT]) -> usize
-    ensures { λ r. ⌜ Puts 0 (firstText (now (sheet .entry))) (now (out .entry)) (now (out .exit)) r ⌝ }
+// The sheet's D.
+fn dimension(sheet: &[u8]) -> usize
+    ensures { λ r. ⌜ r ≡ (judgementOf (readSheet (now (sheet .entry)))) .header .dimension ⌝ }
+{
+    let judgement = sheet::judge(sheet);
+    judgement.header.dimension
+}
+
+// The last line, behind the types: what the search found, or its refusal.
+fn last_line(sheet: &[u8], out: &mut [u8; TEXT], at: usize) -> usize
+    requires { ⌜ at + 91 ≤ 6262 ⌝ }
+    ensures { λ r. ⌜ Puts at (lastLine (outcome (membersIn (now (sheet .entry)) workWords workFloats) lent)) (now (out .entry)) (now (out .exit)) r ⌝ }
+{
+    let mut words = [0u32; WORDS];
+    let mut floats = [0.0; FLOATS];
+    let mut matrices = [0.0; MATRICES];
+    let mut rows = [0u16; ROWS];
+    let mut marks = [0u8; MARKS];
+    let answer = search::search(
+        sheet,
+        &mut words,
+        &mut floats,
+        &mut matrices,
+        &mut rows,
+        &mut marks,
+    );
+    match answer {
+        Answer::Done(n) => {
+            let d = dimension(sheet);
+            let confirmed = counting::confirmed(&marks, n);
+            let rotations = counting::rotations(&matrices, d, n);
+            lines::members(out, at, n, confirmed, rotations)
+        }
+        Answer::Refused(why, _) => lines::refused(out, at, why),
+    }
+}
+
+// The whole text, from the buffer's first byte on. Says where it ends.
+fn kit_text(sheet: &[u8], out: &mut [u8; TEXT]) -> usize
+    ensures { λ r. ⌜ Puts 0 (kitText (now (sheet .entry))) (now (out .entry)) (now (out .exit)) r ⌝ }
 {
     if LONGEST < sheet.len() {
         return lines::refused(out, 0, Refusal::CutSheet);
@@ -46,7 +95,10 @@ fn first_text(sheet: &[u8], out: &mut [u8; TEXT]) -> usize
     let mut table = [0u16; 4 * TYPES];
     let answer = types::element_types(sheet, &mut words, &mut floats, &mut of, &mut table);
     match answer {
-        Answer::Done(n) => put_types(out, &table, n),
+        Answer::Done(n) => {
+            let end = put_types(out, &table, n);
+            last_line(sheet, out, end)
+        }
         Answer::Refused(why, _) => lines::refused(out, 0, why),
     }
 }
@@ -55,6 +107,6 @@ fn main() {
     let mut bytes = [0u8; LONGEST + 1];
     let got = io::read_full(0, &mut bytes);
     let mut out = [0u8; TEXT];
-    let end = first_text(&bytes[..got], &mut out);
+    let end = kit_text(&bytes[..got], &mut out);
     io::write_all(1, &out[..end]);
 }

@@ -9,7 +9,7 @@ use Rattle.kit.proofs.main.Statement.{statement}
 use Rattle.kit.proofs.main.Tie as tie
 
 array-share-prefix-out : tie.Need-array-share-prefix-out
-array-share-prefix-out c = let p = c .first-text .ensures in omega (arith, p .room, p .stop, puts-long p)
+array-share-prefix-out c = let p = c .kit-text .ensures in omega (arith, p .room, p .stop, puts-long p)
 
 pub main-spec : {M : Type 1} → statement M
 main-spec =

@@ -15,4 +15,7 @@ put-types-spec =
     let s = k .before in
     (s .pre .0, omega (arith, types-long (s .args .table .now) (λ i. omega (arith, k .shared-slice-known .given i)) (s .args .n) (s .pre .0) (omega arith))))
     -- returns
-    (λ c. search needs))
+    (λ c. let k = c .before .before in
+    let s = k .before in
+    let p = c .element-types .ensures in
+    (p, omega (arith, p .stop, types-long (s .args .table .now) (λ i. omega (arith, k .shared-slice-known .given i)) (s .args .n) (s .pre .0) (omega arith)))))

@@ -4,14 +4,14 @@ use mathlib.Core.Path.{refl}
 use native.Mathlib.Omega.{arith}
 use borrow.Author.Needs.{needs}
 use Rattle.spec.specs.declared.Refusal.the-variants.{CutSheet}
-use Rattle.text.proofs.Growing.{puts-is}
+use Rattle.text.proofs.Growing.{puts-is, puts-then}
 use Rattle.text.proofs.Pieces.{refused-long}
 use Rattle.kit.proofs.Parts.{cut-text, done-text, refused-text}
-use Rattle.kit.proofs.first_text.Statement.{statement}
-use Rattle.kit.proofs.first_text.Tie as tie
+use Rattle.kit.proofs.kit_text.Statement.{statement}
+use Rattle.kit.proofs.kit_text.Tie as tie
 
-pub first-text-spec : {M : Type 1} → statement M
-first-text-spec =
+pub kit-text-spec : {M : Type 1} → statement M
+kit-text-spec =
     tie.close
     (tie.spec
     -- refused-requires, returns: the sheet is too long
@@ -32,15 +32,18 @@ first-text-spec =
     let l = e .before .before .before .before .before in
     let d = done-text _ _ _ _ _ _ (e .element-types .ensures) (l .if1 .left) refl refl refl refl _ (a .answer .given .1) in
     (omega arith, d .0))
+    -- last-line-requires
+    (λ c κs. c .before .put-types .ensures .1)
     -- enum-known-answer-2, refused-requires-2
     (λ c. search needs)
     (λ c κs. omega (arith, refused-long (c .before .before .answer2 .given .0 .0)))
     -- returns-2
-    (λ c. let a = c .before .before .before .before in
+    (λ c. let b = c .before .before in
+    let a = b .before .before .before .before in
     let e = a .before .before .before .before .before .before in
     let l = e .before .before .before .before .before in
     let d = done-text _ _ _ _ _ _ (e .element-types .ensures) (l .if1 .left) refl refl refl refl _ (a .answer .given .1) in
-    puts-is (c .put-types .ensures) (d .1))
+    puts-is (puts-then (b .put-types .ensures .0) (c .last-line .ensures)) (d .1))
     -- returns-3
     (λ c. let a = c .before .before .before in
     let e = a .before .before .before .before .before .before in
