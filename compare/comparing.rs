@@ -16,7 +16,11 @@ pub struct Tally {
 
 impl Tally {
     pub fn count(&mut self, what: &str) {
-        *self.counts.entry(what.to_owned()).or_default() += 1;
+        self.add(what, 1);
+    }
+
+    pub fn add(&mut self, what: &str, n: usize) {
+        *self.counts.entry(what.to_owned()).or_default() += n;
     }
 
     pub fn differs(&mut self, what: String) {
@@ -191,6 +195,8 @@ mod on_solids {
     use crate::model;
     use crate::model::Judged;
     use crate::random::Random;
+    #[cfg(solids)]
+    use crate::solids::{centred_facet, Solid};
 
     fn hex(sheet: &[u8]) -> String {
         sheet.iter().map(|b| format!("{:02x}", b)).collect()
@@ -217,7 +223,7 @@ mod on_solids {
             let mut out = Members { matrices: Lent::new(random.below(40)), rows: Lent::new(random.below(40)), marks: Lent::new(random.below(40)) };
             let answer = library::search(sheet, &mut space, &mut out, only_rotations);
             let same = out.matrices.is(&[]) && out.rows.is(&[]) && out.marks.is(&[]) && space.guarded();
-            tell(tally, "search", same, answer, (number, 0), sheet);
+            tell(tally, if only_rotations { "rotations" } else { "search" }, same, answer, (number, 0), sheet);
         }
     }
 
@@ -280,5 +286,19 @@ mod on_solids {
         let rows: Vec<u16> = found.rows[..fit * v].iter().map(|x| *x as u16).collect();
         let same = out.matrices.is(&found.matrices[..fit * d * d]) && out.rows.is(&rows) && out.marks.is(&marks) && space.guarded();
         tell(tally, call, same, answer, expected, sheet);
+        if let (true, Some(solid)) = (n > 0, &judged.solid) {
+            covered(tally, call, solid, n, &marks);
+        }
+    }
+
+    /// What was met by a call that found n members, those with these marks written.
+    #[cfg(solids)]
+    fn covered(tally: &mut Tally, call: &str, solid: &Solid, n: usize, marks: &[u8]) {
+        let exchanged = if centred_facet(solid) == Some(0) { ", facets exchanged" } else { "" };
+        tally.count(&format!("{} of rank {}{}", call, solid.rank(), exchanged));
+        let many = [1, 2, 10, 100, 1000].into_iter().rev().find(|m| n >= *m);
+        tally.count(&format!("{} that found {} members or more", call, many.unwrap_or(0)));
+        tally.add(&format!("members written by {}", call), marks.len());
+        tally.add(&format!("members written by {} and confirmed", call), marks.iter().filter(|m| **m == 1).count());
     }
 }

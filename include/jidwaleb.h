@@ -8,7 +8,7 @@
  * gives (crates/jidwaleb). Nothing checks these declarations against the source: they stand in its order.
  *
  * An answer is one number: JIDWALEB_REFUSAL(answer) is 0 where the call gave its result, and else one of the refusals below;
- * JIDWALEB_COUNT(answer) is how many types or copies it gave out.
+ * JIDWALEB_COUNT(answer) is how many types, members or copies it gave out.
  */
 #ifndef JIDWALEB_H
 #define JIDWALEB_H
@@ -63,6 +63,34 @@ uint64_t jidwaleb_types(const uint8_t *sheet, size_t sheet_length,
                         double *floats, size_t floats_length,
                         uint16_t *of, size_t of_length,
                         uint16_t *table, size_t table_length);
+
+/* The symmetries of a solid: its members (document 01, section 6), and those of determinant above 0, its rotations.
+ *
+ * sheet, words, floats  as for the types. D is the sheet's dimension, and V its number of vertices.
+ * matrices       the members' matrices, D * D floats each, row by row.
+ * rows           V cells a member: the vertex that each vertex goes to.
+ * marks          a cell a member: 1 where it is confirmed, and else 0. A confirmed member takes every proper element to one of its rank and
+ *                distance class, and its subs onto that one's subs; and no two elements of a rank have the same vertices.
+ *
+ * There is at most one member for each flag of the solid. Members come in the order of flags; the rotations are those members, in that order.
+ *
+ * The count is the number of members. Refusals, in the order in which they are judged: 1 to 4 as the fields come, 7, 5, 6, 8, 9, 10, 15, 11,
+ * 12, 13. At 13 the count is how many whole members fitted, and these are written. At each of the others it is 0, and the outputs are as they
+ * were. Cells behind what is written are as they were.
+ */
+uint64_t jidwaleb_search(const uint8_t *sheet, size_t sheet_length,
+                         uint32_t *words, size_t words_length,
+                         double *floats, size_t floats_length,
+                         double *matrices, size_t matrices_length,
+                         uint16_t *rows, size_t rows_length,
+                         uint8_t *marks, size_t marks_length);
+
+uint64_t jidwaleb_rotations(const uint8_t *sheet, size_t sheet_length,
+                            uint32_t *words, size_t words_length,
+                            double *floats, size_t floats_length,
+                            double *matrices, size_t matrices_length,
+                            uint16_t *rows, size_t rows_length,
+                            uint8_t *marks, size_t marks_length);
 
 /* Points copied by matrices (document 01, section 7).
  *

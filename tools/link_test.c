@@ -1,4 +1,4 @@
-/* link_test SHEET: the lines that `kit` prints for the types of a sheet, in the space that `kit` lends.
+/* link_test SHEET: what `kit` prints for a sheet, in the space that `kit` lends.
  * link_test: a point copied by quarter turns, and by one of them alone. */
 #include <stdio.h>
 #include "jidwaleb.h"
@@ -7,8 +7,24 @@ static uint8_t sheet[8193];
 static uint32_t words[4096];
 static double floats[2048];
 static uint16_t of[256], table[4 * 256];
+static double matrices[1024];
+static uint16_t rows[8192];
+static uint8_t marks[512];
 
-static int types(const char *path) {
+static int members(size_t length) {
+    uint64_t answer = jidwaleb_search(sheet, length, words, 4096, floats, 2048, matrices, 1024, rows, 8192, marks, 512);
+    if (JIDWALEB_REFUSAL(answer)) {
+        printf("refused %u\n", JIDWALEB_REFUSAL(answer));
+        return 0;
+    }
+    unsigned confirmed = 0;
+    for (unsigned k = 0; k < JIDWALEB_COUNT(answer); k++) confirmed += marks[k];
+    uint64_t rotations = jidwaleb_rotations(sheet, length, words, 4096, floats, 2048, matrices, 1024, rows, 8192, marks, 512);
+    printf("members %u confirmed %u rotations %u\n", JIDWALEB_COUNT(answer), confirmed, JIDWALEB_COUNT(rotations));
+    return 0;
+}
+
+static int kit(const char *path) {
     FILE *file = fopen(path, "rb");
     if (!file) return 1;
     size_t length = fread(sheet, 1, sizeof sheet, file);
@@ -21,7 +37,7 @@ static int types(const char *path) {
     printf("types %u\n", JIDWALEB_COUNT(answer));
     for (const uint16_t *t = table; t < table + 4 * JIDWALEB_COUNT(answer); t += 4)
         printf("%u %u %u %u\n", t[0], t[1], t[2], t[3]);
-    return 0;
+    return members(length);
 }
 
 static int copies(void) {
@@ -37,5 +53,5 @@ static int copies(void) {
 }
 
 int main(int count, char **words_given) {
-    return count > 1 ? types(words_given[1]) : copies();
+    return count > 1 ? kit(words_given[1]) : copies();
 }

@@ -1,6 +1,6 @@
 #!/bin/sh
-# link_test.sh: links the static library from C (include/) and from Rust (rust/), and holds what both print for the sample sheets to the types
-# of the samples' .kit files. Needs rt, cc and rustc. The last line counts.
+# link_test.sh: links the static library from C (include/) and from Rust (rust/), and holds what both print for the sample sheets to the
+# samples' .kit files. Needs rt, cc and rustc. The last line counts.
 set -e
 cd "$(dirname "$0")/.."
 work=target/link
@@ -8,7 +8,7 @@ mkdir -p "$work"
 rt staticlib jidwaleb > "$work/staticlib.log" 2>&1 || { cat "$work/staticlib.log"; exit 1; }
 cc -std=c99 -Wall -Wextra -Werror -I include -o "$work/from_c" tools/link_test.c target/staticlib/libjidwaleb.a
 rustc --edition 2021 -D warnings -O --crate-type rlib --crate-name jidwaleb -L target/staticlib -o "$work/libjidwaleb.rlib" rust/src/lib.rs
-rustc --edition 2021 -D warnings -O --extern jidwaleb="$work/libjidwaleb.rlib" -o "$work/from_rust" rust/examples/types.rs
+rustc --edition 2021 -D warnings -O --extern jidwaleb="$work/libjidwaleb.rlib" -o "$work/from_rust" rust/examples/kit.rs
 alike=0 failed=0
 # hold NAME WORDS..: what both programs print, given the words, is what is expected
 hold() {
@@ -23,8 +23,7 @@ hold() {
     done
 }
 for sheet in samples/*.sheet; do
-    # the last line is the search's, but for a sheet that is refused
-    sed '1!{$d;}' "${sheet%.sheet}.kit" > "$work/expected"
+    cp "${sheet%.sheet}.kit" "$work/expected"
     hold "$sheet" "$sheet"
 done
 printf 'copies 4\nquarter turn 1 2 3 0\nrefused 14: open\n' > "$work/expected"

@@ -13,7 +13,8 @@ The solids: dyads; polygons, stars, isogons, boxes; the regular, some uniform an
 duoprisms, also over stars; compounds; solids with facet 0 through the origin, of rank 3, 4 and 5; disphenoids; dihedra and pleated
 solids, where two elements have one vertex set; all regular polychora of up to 24 vertices; many of these turned, scaled, moved and
 relabelled (Python's random, seed 20261115). Then each refusal: those before 8 by a few sheets, 8 to 12 by several each and at their
-boundaries, 13 with each output one short, empty and just enough. Each sheet goes through both calls.
+boundaries, 13 with each output one short, empty and just enough; and corners and distances about EPS apart. Each sheet goes through both
+calls.
 """
 import functools
 import itertools
@@ -278,6 +279,8 @@ def plane_solids(rng):
     yield compound(*(polygon(3, 1, (1.0,), k / 3) for k in range(3)))
     yield from (polygon(n).sunk(0) for n in (3, 4, 5, 7))
     yield compound(polygon(4).sunk(0), polygon(3).scaled(5))
+    yield compound(polygon(4).scaled(3), ring([(1, 1), (-1, 1), (1, -1), (-1, -1)]))
+    yield compound(polygon(8), polygon(8, 3).scaled(0.5), ring([(3, 0), (-3, 0), (0, 3), (0, -3)]))
 
 
 def round_solids():
@@ -340,8 +343,12 @@ def space_solids(rng, named):
     yield compound(cube, cube.turned([[math.sqrt(0.5), -math.sqrt(0.5), 0], [math.sqrt(0.5), math.sqrt(0.5), 0], [0, 0, 1]]))
     yield compound(disphenoid(1, 1, 1.4), disphenoid(1, 1, 1.4).scaled(-1))
     yield compound(tetrahedron, tetrahedron.turned(turn(rng, 3)), tetrahedron.turned(turn(rng, 3)))
+    # corners of more symmetry than the edges or the faces on them, beside a cube
+    hemi, bow = tetrahemihexahedron(), ring([(1, 1), (-1, 1), (1, -1), (-1, -1)])
+    yield compound(cube.scaled(3), hemi)
+    yield compound(cube.scaled(3), prism(bow))
+    yield compound(octahedron.scaled(5), cube, tetrahedron.scaled(0.5))
     # facets through the origin
-    hemi = tetrahemihexahedron()
     yield from (hemi, hemi.facet_first(3), hemi.renumbered(3, [6, 5, 4, 3, 2, 1, 0]), hemi.relabelled(rng), hemi.relabelled(rng), hemi.scaled(1, 2, 3))
     yield from (p.sunk(0) for p in (cube, tetrahedron, octahedron, named["cuboctahedron"], named["dodecahedron"], antiprism(4, 0.5)))
     yield prism(polygon(5)).sunk(0)
@@ -466,6 +473,14 @@ def unclean():
     yield dyad(1 + 0.9e-7, -1).sheet()
     yield ring([(1048576, 0), (1048576, 1e-308), (0, 1)]).sheet()
     yield polygon(21).sheet()
+    # distances that differ by just EPS, and one that is near two listed ones: the marks tell
+    yield compound(polygon(4), ring([(5, 0), (0, EPS), (-5, 0), (0, -2 * EPS)])).sheet()
+    yield compound(polygon(4), ring([(0, 2 * EPS), (3.6 * EPS, 0), (0, -2.8 * EPS), (-3.6 * EPS, 0)])).sheet()
+    # a corner just EPS off the line of the others; edges nearer than EPS whose listed distance is further
+    yield dihedron(ring([(2 * EPS, 0), (2 * EPS, 1), (EPS, 0.5)]), 0.0).sheet()
+    yield polygon(3).scaled(1.5 * EPS).sheet()
+    # the mirror takes both triangles to the first: all elements go well, but the row repeats vertices
+    yield compound(polygon(4).scaled(3), polygon(3).shifted((0, -0.3 * EPS)), polygon(3).shifted((0, 0.8 * EPS))).sheet()
     # members that shrink what parts the two: their rows repeat vertices
     for abc, apart in (((1, 1, 1.4), (0, 0, 1.2e-7)), ((1, 1, 0.5), (0, 1.2e-7, 0))):
         yield compound(disphenoid(*abc), disphenoid(*abc).shifted(apart)).sheet()

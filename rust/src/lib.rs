@@ -1,6 +1,7 @@
 //! A safe wrapper over libjidwaleb.a, which `rt staticlib jidwaleb` writes (../include/jidwaleb.h says what the calls do).
 //!
-//! `types` and `copy` take slices and give Vecs. `types_into` and `copy_into` write into buffers that the caller lends, and allocate nothing.
+//! `types`, `search`, `rotations` and `copy` take slices and give Vecs. `types_into` and the like write into buffers that the caller lends, and
+//! allocate nothing.
 
 use std::fmt;
 
@@ -17,6 +18,34 @@ extern "C" {
         of_length: usize,
         table: *mut u16,
         table_length: usize,
+    ) -> u64;
+    fn jidwaleb_search(
+        sheet: *const u8,
+        sheet_length: usize,
+        words: *mut u32,
+        words_length: usize,
+        floats: *mut f64,
+        floats_length: usize,
+        matrices: *mut f64,
+        matrices_length: usize,
+        rows: *mut u16,
+        rows_length: usize,
+        marks: *mut u8,
+        marks_length: usize,
+    ) -> u64;
+    fn jidwaleb_rotations(
+        sheet: *const u8,
+        sheet_length: usize,
+        words: *mut u32,
+        words_length: usize,
+        floats: *mut f64,
+        floats_length: usize,
+        matrices: *mut f64,
+        matrices_length: usize,
+        rows: *mut u16,
+        rows_length: usize,
+        marks: *mut u8,
+        marks_length: usize,
     ) -> u64;
     fn jidwaleb_copy(
         dimension: u64,
@@ -86,7 +115,7 @@ impl fmt::Display for Refusal {
     }
 }
 
-/// A refusal, and how many copies were written all the same (0 but for copying's 13 and 14).
+/// A refusal, and how many members or copies were written all the same (0 but for 13 of search and copying, and copying's 14).
 #[derive(Clone, Copy, Debug, PartialEq, Eq)]
 pub struct Refused {
     pub why: Refusal,
@@ -147,12 +176,17 @@ pub struct Types {
     pub types: Vec<ElementType>,
 }
 
-pub fn types(sheet: &[u8]) -> Result<Types> {
+/// At least as many elements as the sheet can have; and a workspace of words and floats that is enough for it.
+fn workspace(sheet: &[u8]) -> (usize, Vec<u32>, Vec<f64>) {
     // An element but a vertex takes 12 bits of the sheet at least and an entry takes 11. There are at most 2,048 elements a rank, of four
     // ranks, and 8,192 entries a rank, of three.
     let elements = (2048 + sheet.len()).min(4 * 2048);
     let entries = sheet.len().min(3 * 8192);
-    let (mut words, mut floats) = (vec![0; 16 * (elements + entries + 4)], vec![0.0; 8 * (elements + 8)]);
+    (elements, vec![0; 16 * (elements + entries + 4)], vec![0.0; 8 * (elements + 8)])
+}
+
+pub fn types(sheet: &[u8]) -> Result<Types> {
+    let (elements, mut words, mut floats) = workspace(sheet);
     let (mut of, mut table) = (vec![0; elements], vec![0; 4 * elements]);
     let n = types_into(sheet, &mut words, &mut floats, &mut of, &mut table)?;
     let types: Vec<ElementType> = table[..4 * n]
@@ -161,6 +195,85 @@ pub fn types(sheet: &[u8]) -> Result<Types> {
         .collect();
     of.truncate(types.iter().map(|t| usize::from(t.count)).sum());
     Ok(Types { of, types })
+}
+
+/// The lent outputs of a search: so many floats a member as the dimension's square, so many cells as there are vertices, and one.
+pub struct Outputs<'a> {
+    pub matrices: &'a mut [f64],
+    pub rows: &'a mut [u16],
+    pub marks: &'a mut [u8],
+}
+
+type Search =
+    unsafe extern "C" fn(*const u8, usize, *mut u32, usize, *mut f64, usize, *mut f64, usize, *mut u16, usize, *mut u8, usize) -> u64;
+
+fn members_into(call: Search, sheet: &[u8], words: &mut [u32], floats: &mut [f64], out: Outputs) -> Result<usize> {
+    answered(unsafe {
+        call(
+            sheet.as_ptr(),
+            sheet.len(),
+            words.as_mut_ptr(),
+            words.len(),
+            floats.as_mut_ptr(),
+            floats.len(),
+            out.matrices.as_mut_ptr(),
+            out.matrices.len(),
+            out.rows.as_mut_ptr(),
+            out.rows.len(),
+            out.marks.as_mut_ptr(),
+            out.marks.len(),
+        )
+    })
+}
+
+/// The symmetries of a sheet's solid, into the lent outputs. Says how many there are. The workspace, words and floats, may hold anything.
+pub fn search_into(sheet: &[u8], words: &mut [u32], floats: &mut [f64], out: Outputs) -> Result<usize> {
+    members_into(jidwaleb_search, sheet, words, floats, out)
+}
+
+/// The same, of the rotations alone.
+pub fn rotations_into(sheet: &[u8], words: &mut [u32], floats: &mut [f64], out: Outputs) -> Result<usize> {
+    members_into(jidwaleb_rotations, sheet, words, floats, out)
+}
+
+/// Members of a solid: their matrices row by row, the vertex that each vertex goes to, and 1 for each that is confirmed.
+#[derive(Clone, Debug, PartialEq)]
+pub struct Members {
+    pub matrices: Vec<f64>,
+    pub rows: Vec<u16>,
+    pub marks: Vec<u8>,
+}
+
+fn members(call: Search, sheet: &[u8]) -> Result<Members> {
+    let (_, mut words, mut floats) = workspace(sheet);
+    // the sheet's first fields: the rank, 3 bits; the dimension, 3; the number of vertices, 12, of a solid that can be searched
+    let byte = |i: usize| sheet.get(i).map_or(0, |b| usize::from(*b));
+    let (d, v) = (byte(0) >> 2 & 7, (byte(0) & 3) << 10 | byte(1) << 2 | byte(2) >> 6);
+    let mut room = 128;
+    loop {
+        let (mut matrices, mut rows, mut marks) = (vec![0.0; room * d * d], vec![0; room * v], vec![0; room]);
+        let out = Outputs { matrices: &mut matrices, rows: &mut rows, marks: &mut marks };
+        match members_into(call, sheet, &mut words, &mut floats, out) {
+            Err(Refused { why: Refusal::ShortSheet, .. }) => room *= 8,
+            answer => {
+                let n = answer?;
+                matrices.truncate(n * d * d);
+                rows.truncate(n * v);
+                marks.truncate(n);
+                return Ok(Members { matrices, rows, marks });
+            }
+        }
+    }
+}
+
+/// All symmetries. There is at most one for each flag of the solid.
+pub fn search(sheet: &[u8]) -> Result<Members> {
+    members(jidwaleb_search, sheet)
+}
+
+/// Those of determinant above 0.
+pub fn rotations(sheet: &[u8]) -> Result<Members> {
+    members(jidwaleb_rotations, sheet)
 }
 
 /// Copies of the points under the matrices, into `copies`, and their images into `table`, a row for each matrix. Says how many copies there are.

@@ -1,2 +1,4 @@
 pub mod Coded
+pub mod Flagged
+pub mod Members
 pub mod Counted

@@ -78,7 +78,7 @@ module _ (c : Concrete) (old : TypesOut) where
 
 -- ---- how many cells are given out
 
-length-join : {A : Type 0} (g : ℕ → List A) (l : List ℕ) → length (join (map g l)) ≡ sum (map (λ r. length (g r)) l)
+pub length-join : {A : Type 0} (g : ℕ → List A) (l : List ℕ) → length (join (map g l)) ≡ sum (map (λ r. length (g r)) l)
 unfolding join sum
 length-join g [] = refl
 length-join g (r ∷ l) = length-append (g r) (join (map g l)) ∙ ap (λ (n : ℕ). length (g r) + n) (length-join g l)

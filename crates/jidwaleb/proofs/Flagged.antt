@@ -1,0 +1,124 @@
+-- How many flags a sheet's solid can have: from one rank to the second above it, at most the entries between times as many.
+-- Assumes nothing.
+use mathlib.Core.Path.{_≡_, refl, sym, ap, _∙_}
+use mathlib.Core.Logic.{inl, inr}
+use mathlib.Core.List.{List, [], _∷_, _++_, map}
+use Prim.Native.Nat.{ℕ, zero, suc, _+_, _-_, _*_, _^_, _≤_, _<_, zero-le}
+use native.Mathlib.Nat.{le-refl, le-trans, zero-mul, add-mul, mul-le-mul}
+use native.Mathlib.Decide.{ℕ-discrete}
+use native.Mathlib.Omega.{arith}
+use lib.Dec.{eqb}
+use lib.ListN.{length, getD, length-map}
+use lib.Seq.{ext-getD}
+use Rattle.spec.specs.Limits.{maxRank, maxCount, maxEntries}
+use Rattle.spec.specs.Lists.{In, range, sum}
+use Rattle.spec.specs.Types.{Solid, top, size, subs}
+use Rattle.spec.specs.Demand.{RisingAbove, Rising, Sound}
+use Rattle.spec.specs.Solid.{entries}
+use Rattle.spec.specs.Flags.{Flag, flagsTo, flags}
+use Rattle.spec.proofs.Lists.{length-range, in-range, map-same, getD-map, getD-table, length-table}
+use Rattle.spec.proofs.Distinct.{pigeons}
+use Rattle.spec.proofs.Counts.{numbers, sum-le}
+use Rattle.spec.proofs.Carry.{rising-once}
+use Rattle.spec.proofs.Accepted.{From}
+use Rattle.element_types.proofs.Room.{sum-under}
+use Rattle.types.proofs.Call.{length-join}
+
+-- ---- sums
+
+-- over a rising list, at most the sum over all numbers that it lies among
+sum-some : (g : ℕ → ℕ) (c a n : ℕ) (l : List ℕ) → From a c l → c ≤ a + n → sum (map g l) ≤ sum (map g (range a n))
+unfolding sum range From
+sum-some g c a n [] h k = zero-le
+sum-some g c a zero (x ∷ l) h k = absurd (omega (arith, h .0, h .1))
+sum-some g c a (suc n) (x ∷ l) h k = go (ℕ-discrete x a) (λ w. sum-some g c (suc a) n l w (omega arith)) (λ w. sum-some g c (suc a) n (x ∷ l) w (omega arith))
+  where
+    go : Dec (x ≡ a) → (From (suc a) c l → sum (map g l) ≤ sum (map g (range (suc a) n)))
+        → (From (suc a) c (x ∷ l) → g x + sum (map g l) ≤ sum (map g (range (suc a) n)))
+        → g x + sum (map g l) ≤ g a + sum (map g (range (suc a) n))
+    go (yes p) here later = omega (arith, ap g p, here (rw p at (h .2)))
+    go (no m) here later = omega (arith, later (omega (arith, h .0), h .1, h .2))
+
+rising-from : (c x : ℕ) (l : List ℕ) → RisingAbove x l → ((y : ℕ) → In y l → y < c) → From (suc x) c l
+unfolding From
+rising-from c x [] r b = tt
+rising-from c x (y ∷ l) r b = (r .0, b y (inl refl), rising-from c y l (r .1) (λ z m. b z (inr m)))
+
+from-zero : (c : ℕ) (l : List ℕ) → Rising l → ((y : ℕ) → In y l → y < c) → From 0 c l
+unfolding From
+from-zero c [] r b = tt
+from-zero c (x ∷ l) r b = (zero-le, b x (inl refl), rising-from c x l r (λ z m. b z (inr m)))
+
+sum-times : (g : ℕ → ℕ) (k : ℕ) (l : List ℕ) → sum (map (λ x. g x * k) l) ≡ sum (map g l) * k
+unfolding sum
+sum-times g k [] = sym (zero-mul k)
+sum-times g k (x ∷ l) = ap (λ (n : ℕ). g x * k + n) (sum-times g k l) ∙ sym (add-mul (g x) (sum (map g l)) k)
+
+by-number : (ls : List (List ℕ)) → sum (map (λ e. length (getD ls e [])) (range 0 (length ls))) ≡ sum (map length ls)
+by-number ls =
+    let n = length-table (λ e. length (getD ls e [])) (length ls) in
+    ap sum (ext-getD 0 _ (map length ls) (n ∙ sym (length-map ls length)) λ e h.
+    let k : e < length ls = omega (arith, n) in
+    getD-table (λ i. length (getD ls i [])) 0 (length ls) e k ∙ sym (getD-map length [] 0 ls e k))
+
+-- ---- flags up to an element
+
+module _ (s : Solid) (v : Sound s) where
+  abbrev many : ℕ → ℕ → ℕ
+  many r e = length (flagsTo s r e)
+
+  many-sum : (r e : ℕ) → many (suc r) e ≡ sum (map (many r) (subs s (suc r) e))
+  unfolding flagsTo
+  many-sum r e =
+      length-join _ (subs s (suc r) e) ∙ ap sum (map-same _ (many r) (subs s (suc r) e) (λ f m. length-map (flagsTo s r f) (λ (F : Flag). F ++ (e ∷ []))))
+
+  subs-few : (r e : ℕ) → length (subs s (suc r) e) ≤ size s r
+  subs-few r e =
+      rw (length-range 0 (size s r)) at
+      (pigeons eqb numbers (subs s (suc r) e) (range 0 (size s r)) (rising-once (subs s (suc r) e) (v .rising (suc r) e))
+      (λ x m. in-range 0 (size s r) x (omega arith) (omega (arith, v .below r e x m))))
+
+  -- one rank up
+  next : (r k : ℕ) → ((f : ℕ) → many r f ≤ k) → (e : ℕ) → many (suc r) e ≤ length (subs s (suc r) e) * k
+  next r k h e = rw (many-sum r e) (sum-under (many r) k (subs s (suc r) e) (λ f m. h f))
+
+  -- two ranks up: each pair of an element between and a sub of it is met once
+  over : (r k : ℕ) → ((f : ℕ) → many r f ≤ k) → (e : ℕ) → many (suc (suc r)) e ≤ sum (map length (getD s (suc r) [])) * k
+  unfolding subs
+  over r k h e =
+      let g : ℕ → ℕ = λ f. length (subs s (suc r) f) * k in
+      let l = subs s (suc (suc r)) e in
+      let a = sum-le (many (suc r)) g l (λ f m. next r k h f) in
+      let b = sum-some g (size s (suc r)) 0 (size s (suc r)) l (from-zero (size s (suc r)) l (v .rising (suc (suc r)) e) (v .below (suc r) e)) (omega arith) in
+      let c = sum-times (λ f. length (subs s (suc r) f)) k (range 0 (size s (suc r))) ∙ ap (λ (n : ℕ). n * k) (by-number (getD s (suc r) [])) in
+      omega (arith, many-sum (suc r) e, a, b, c)
+
+-- ---- the flags of a solid
+
+module _ (s : Solid) (v : Sound s) (sizes : (r : ℕ) → r ≤ top s → size s r ≤ maxCount) (few : entries s ≤ 4 * maxEntries) where
+  entries-in : (r : ℕ) → 2 ≤ r → r < top s → sum (map length (getD s r [])) ≤ 4 * maxEntries
+  unfolding entries sum From
+  entries-in r a b = omega (arith, few, sum-some (λ q. sum (map length (getD s q []))) (suc r) 2 (top s - 2) (r ∷ []) (a, omega arith, tt) (omega arith))
+
+  at-one : (e : ℕ) → many s v 1 e ≤ 1
+  unfolding flagsTo
+  at-one e = omega (arith, next s v 0 1 (λ f. omega arith) e, subs-few s v 0 e, ap length (v .least))
+
+  at-two : 2 ≤ top s → (e : ℕ) → many s v 2 e ≤ maxCount
+  at-two h e = omega (arith, next s v 1 1 at-one e, subs-few s v 1 e, sizes 1 (omega arith))
+
+  above : (r k : ℕ) → 1 ≤ r → suc r < top s → ((f : ℕ) → many s v r f ≤ k) → (e : ℕ) → many s v (suc (suc r)) e ≤ 4 * maxEntries * k
+  above r k a b h e = le-trans (over s v r k h e) (mul-le-mul (entries-in (suc r) (omega arith) b) (le-refl k))
+
+  pub few-flags : top s ≤ maxRank → length (flags s) ≤ 2 ^ 30
+  unfolding flags flagsTo
+  few-flags h = go (top s) refl
+    where
+      go : (R : ℕ) → top s ≡ R → many s v R 0 ≤ 2 ^ 30
+      go zero e = omega arith
+      go (suc zero) e = omega (arith, at-one 0)
+      go (suc (suc zero)) e = omega (arith, at-two (omega arith) 0)
+      go (suc (suc (suc zero))) e = omega (arith, above 1 1 (omega arith) (omega arith) at-one 0)
+      go (suc (suc (suc (suc zero)))) e = omega (arith, above 2 maxCount (omega arith) (omega arith) (at-two (omega arith)) 0)
+      go (suc (suc (suc (suc (suc zero))))) e = omega (arith, above 3 (4 * maxEntries) (omega arith) (omega arith) (λ f. omega (arith, above 1 1 (omega arith) (omega arith) at-one f)) 0)
+      go (suc (suc (suc (suc (suc (suc R)))))) e = absurd (omega arith)

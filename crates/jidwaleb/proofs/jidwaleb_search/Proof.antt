@@ -1,0 +1,23 @@
+-- The answer of `search::search`, as its code; the outputs are its own.
+-- Assumes nothing.
+use borrow.Author.Needs.{needs}
+use Rattle.jidwaleb.proofs.Coded.{fits, handed}
+use Rattle.jidwaleb.proofs.Members.{search-count}
+use Rattle.jidwaleb.proofs.jidwaleb_search.Statement.{statement}
+use Rattle.jidwaleb.proofs.jidwaleb_search.Tie as tie
+
+pub jidwaleb-search-spec : {M : Type 1} → statement M
+jidwaleb-search-spec =
+    tie.close
+    (tie.spec
+    -- search-requires, code-requires
+    (λ c κs. search needs)
+    (λ c κs. fits _ _ _ (c .before .before .before .before .before .before .before .before .before .before .search .ensures) (search-count _ _ _ _))
+    -- same-length, for each slice
+    (λ c. search needs)
+    (λ c. search needs)
+    (λ c. search needs)
+    (λ c. search needs)
+    (λ c. search needs)
+    -- returns
+    (λ c. handed _ _ _ (c .before .before .before .before .before .before .before .before .before .before .before .search .ensures) _ (c .code .ensures)))

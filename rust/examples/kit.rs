@@ -1,0 +1,64 @@
+//! kit SHEET: what `kit` prints for a sheet, in the space that `kit` lends.
+//! kit: a point copied by quarter turns, and by one of them alone.
+
+use jidwaleb::{copy, rotations, rotations_into, search, search_into, types, types_into, Outputs, Refusal, Result};
+
+/// The count of types, and a line for each: rank, type, example, count.
+fn type_lines(sheet: &[u8]) -> Result<String> {
+    let (mut words, mut floats) = ([0; 4096], [0.0; 2048]);
+    let (mut of, mut table) = ([0; 256], [0; 4 * 256]);
+    let n = types_into(sheet, &mut words, &mut floats, &mut of, &mut table)?;
+    // with enough space for every sheet the same comes out
+    let all = types(sheet)?;
+    assert_eq!(all.of, of[..all.of.len()]);
+    let mut text = format!("types {}\n", n);
+    for (t, cells) in all.types.iter().zip(table.chunks(4)) {
+        assert_eq!([t.rank, t.number, t.example, t.count], cells);
+        text += &format!("{} {} {} {}\n", t.rank, t.number, t.example, t.count);
+    }
+    assert_eq!(all.types.len(), n);
+    Ok(text)
+}
+
+/// How many members there are, how many of them are confirmed, and how many are rotations.
+fn members_line(sheet: &[u8]) -> Result<String> {
+    let (mut words, mut floats) = ([0; 4096], [0.0; 2048]);
+    let (mut matrices, mut rows, mut marks) = ([0.0; 1024], [0; 8192], [0; 512]);
+    let out = Outputs { matrices: &mut matrices, rows: &mut rows, marks: &mut marks };
+    let n = search_into(sheet, &mut words, &mut floats, out)?;
+    // with enough space for every member the same comes out
+    let all = search(sheet)?;
+    assert_eq!(all.matrices, matrices[..all.matrices.len()]);
+    assert_eq!(all.rows, rows[..all.rows.len()]);
+    assert_eq!(all.marks, marks[..n]);
+    let confirmed = marks[..n].iter().filter(|m| **m == 1).count();
+    let out = Outputs { matrices: &mut matrices, rows: &mut rows, marks: &mut marks };
+    let turning = match rotations_into(sheet, &mut words, &mut floats, out) {
+        Err(refused) if refused.why == Refusal::Blank => 0,
+        answer => answer?,
+    };
+    assert!(rotations(sheet).map_or(turning == 0, |r| r.rows == rows[..r.rows.len()] && r.marks.len() == turning));
+    Ok(format!("members {} confirmed {} rotations {}\n", n, confirmed, turning))
+}
+
+fn main() {
+    if let Some(path) = std::env::args().nth(1) {
+        let sheet = std::fs::read(&path).expect("a sheet");
+        for lines in [type_lines, members_line] {
+            match lines(&sheet) {
+                Ok(text) => print!("{}", text),
+                Err(refused) => return println!("refused {}", refused.why.number()),
+            }
+        }
+        return;
+    }
+    let turns = [1.0, 0.0, 0.0, 1.0, 0.0, -1.0, 1.0, 0.0, -1.0, 0.0, 0.0, -1.0, 0.0, 1.0, -1.0, 0.0];
+    let copies = copy(2, &[1.0, 0.0], &turns).expect("four copies");
+    assert_eq!(copies.points.len(), 8);
+    println!("copies {}", copies.points.len() / 2);
+    let row: Vec<String> = copies.table[4..8].iter().map(u16::to_string).collect();
+    println!("quarter turn {}", row.join(" "));
+    let alone = copy(2, &[1.0, 0.0], &turns[4..8]).expect_err("one image");
+    assert_eq!(alone.why, Refusal::Open);
+    println!("{}", alone);
+}
