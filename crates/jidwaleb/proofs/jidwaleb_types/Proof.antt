@@ -12,11 +12,11 @@ jidwaleb-types-spec =
     (tie.spec
     -- element-types-requires, code-requires
     (λ c κs. search needs)
-    (λ c κs. fits _ _ _ (c .before .before .before .before .before .before .before .before .element-types .ensures) (types-count _ _ _ _))
+    (λ c κs. fits _ _ _ (c .before .before .before .before .before .before .before .before .element-types .ensures .0) (types-count _ _ _ _))
     -- same-length, for each slice
     (λ c. search needs)
     (λ c. search needs)
     (λ c. search needs)
     (λ c. search needs)
     -- returns
-    (λ c. handed _ _ _ (c .before .before .before .before .before .before .before .before .before .element-types .ensures) _ (c .code .ensures)))
+    (λ c. handed _ _ _ (c .before .before .before .before .before .before .before .before .before .element-types .ensures .0) _ (c .code .ensures)))

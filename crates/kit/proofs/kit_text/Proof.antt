@@ -30,7 +30,7 @@ kit-text-spec =
     (λ c κs. let a = c .before .before .before in
     let e = a .before .before .before .before .before .before in
     let l = e .before .before .before .before .before in
-    let d = done-text _ _ _ _ _ _ (e .element-types .ensures) (l .if1 .left) refl refl refl refl _ (a .answer .given .1) in
+    let d = done-text _ _ _ _ _ _ (e .element-types .ensures .0) (l .if1 .left) refl refl refl refl _ (a .answer .given .1) in
     (omega arith, d .0))
     -- last-line-requires
     (λ c κs. c .before .put-types .ensures .1)
@@ -42,10 +42,10 @@ kit-text-spec =
     let a = b .before .before .before .before in
     let e = a .before .before .before .before .before .before in
     let l = e .before .before .before .before .before in
-    let d = done-text _ _ _ _ _ _ (e .element-types .ensures) (l .if1 .left) refl refl refl refl _ (a .answer .given .1) in
+    let d = done-text _ _ _ _ _ _ (e .element-types .ensures .0) (l .if1 .left) refl refl refl refl _ (a .answer .given .1) in
     puts-is (puts-then (b .put-types .ensures .0) (c .last-line .ensures)) (d .1))
     -- returns-3
     (λ c. let a = c .before .before .before in
     let e = a .before .before .before .before .before .before in
     let l = e .before .before .before .before .before in
-    puts-is (c .refused2 .ensures) (refused-text _ _ _ _ _ _ (e .element-types .ensures) (l .if1 .left) refl refl refl refl _ _ (a .answer2 .given .1))))
+    puts-is (c .refused2 .ensures) (refused-text _ _ _ _ _ _ (e .element-types .ensures .0) (l .if1 .left) refl refl refl refl _ _ (a .answer2 .given .1))))
