@@ -9,7 +9,6 @@ use spec::Answer;
 use spec::Refusal;
 
 pub mod axes;
-mod guesses;
 mod joining;
 mod judging;
 mod rows;

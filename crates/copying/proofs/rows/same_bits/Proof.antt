@@ -8,8 +8,8 @@ use lib.ListN.{length}
 use borrow.Author.Needs.{needs}
 use Rattle.spec.specs.Limits.{maxDimension}
 use Rattle.copying.proofs.Bits.{SameTo, same-none, same-next, same-end}
-use Rattle.copying.proofs.guesses.same_bits.Statement.{statement}
-use Rattle.copying.proofs.guesses.same_bits.Tie as tie
+use Rattle.copying.proofs.rows.same_bits.Statement.{statement}
+use Rattle.copying.proofs.rows.same_bits.Tie as tie
 
 abbrev Inv-loop : tie.InvT-loop
 Inv-loop p q i₀ i = (i ≤ length p) × SameTo p q i

@@ -4,8 +4,8 @@ use Prim.Native.Nat.{_≤_, _-_}
 use native.Mathlib.Omega.{arith}
 use borrow.Author.Needs.{needs}
 use Rattle.float.proofs.Parts.{part-end}
-use Rattle.copying.proofs.guesses.all.Statement.{statement}
-use Rattle.copying.proofs.guesses.all.Tie as tie
+use Rattle.copying.proofs.rows.all.Statement.{statement}
+use Rattle.copying.proofs.rows.all.Tie as tie
 
 abbrev Inv-loop : tie.InvT-loop
 Inv-loop copies d n guesses₀ k₀ guesses k = k ≤ n

@@ -2,8 +2,8 @@
 -- Assumes nothing.
 use Prim.Native.Nat.{_≤_, _<_, _-_}
 use borrow.Author.Needs.{needs}
-use Rattle.copying.proofs.guesses.place.Statement.{statement}
-use Rattle.copying.proofs.guesses.place.Tie as tie
+use Rattle.copying.proofs.rows.place.Statement.{statement}
+use Rattle.copying.proofs.rows.place.Tie as tie
 
 abbrev Inv-loop : tie.InvT-loop
 Inv-loop d q h₀ i₀ h i = (i ≤ d) × (h < 0x1000_0000_0000)

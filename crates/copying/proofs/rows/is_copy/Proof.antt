@@ -6,8 +6,8 @@ use lib.ListN.{length}
 use borrow.Author.Needs.{needs}
 use Rattle.float.proofs.Nearness.{part-wide}
 use Rattle.copying.proofs.Bits.{same-part}
-use Rattle.copying.proofs.guesses.is_copy.Statement.{statement}
-use Rattle.copying.proofs.guesses.is_copy.Tie as tie
+use Rattle.copying.proofs.rows.is_copy.Statement.{statement}
+use Rattle.copying.proofs.rows.is_copy.Tie as tie
 
 same-bits-requires : tie.Need-same-bits-requires
 same-bits-requires c κs =

@@ -5,8 +5,8 @@ use native.Mathlib.Omega.{arith}
 use borrow.Author.Needs.{needs}
 use Rattle.float.proofs.Parts.{part-end}
 use Rattle.copying.proofs.Apart.{own-number}
-use Rattle.copying.proofs.guesses.guess.Statement.{statement}
-use Rattle.copying.proofs.guesses.guess.Tie as tie
+use Rattle.copying.proofs.rows.guess.Statement.{statement}
+use Rattle.copying.proofs.rows.guess.Tie as tie
 
 abbrev Inv-loop : tie.InvT-loop
 Inv-loop copies d n guesses q at i₀ i = i ≤ 16

@@ -2,8 +2,8 @@
 -- Assumes nothing.
 use Prim.Native.Nat.{_≤_, _-_}
 use borrow.Author.Needs.{needs}
-use Rattle.copying.proofs.guesses.keep.Statement.{statement}
-use Rattle.copying.proofs.guesses.keep.Tie as tie
+use Rattle.copying.proofs.rows.keep.Statement.{statement}
+use Rattle.copying.proofs.rows.keep.Tie as tie
 
 abbrev Inv-loop : tie.InvT-loop
 Inv-loop guesses₀ at k i₀ guesses i = i ≤ 16

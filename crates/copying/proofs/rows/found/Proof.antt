@@ -1,7 +1,7 @@
 -- Assumes nothing.
 use borrow.Author.Needs.{needs}
-use Rattle.copying.proofs.guesses.found.Statement.{statement}
-use Rattle.copying.proofs.guesses.found.Tie as tie
+use Rattle.copying.proofs.rows.found.Statement.{statement}
+use Rattle.copying.proofs.rows.found.Tie as tie
 
 pub found-spec : {M : Type 1} → statement M
 found-spec =
