@@ -155,8 +155,8 @@ pub fn solid(random: &mut Random, tally: &mut Tally) {
     }
 }
 
-/// A solid that is not clean (01, section 6) may differ by right (docs/DIFFERENCES.md). The generator hardly makes any, so nothing is left
-/// out here: a difference prints its sheet, to be looked at.
+/// A solid that is not clean (01, section 6) may differ by right (docs/DIFFERENCES.md). Those whose distances are not are left out. Images that
+/// are not clean are hardly ever made, so they are not looked for: a difference prints its sheet, to be looked at.
 #[cfg(types)]
 pub fn solid(random: &mut Random, tally: &mut Tally) {
     let solid = solids::some_solid(random);
@@ -175,6 +175,7 @@ pub fn solid(random: &mut Random, tally: &mut Tally) {
     }
     match model::judged(&sheet, words, floats) {
         Err(n) => on_solids::refused(random, tally, &sheet, words, floats, n),
+        Ok(judged) if !judged.solid.as_ref().map_or(true, model::has_clean_distances) => tally.count("solids left out: distances not clean"),
         Ok(judged) => {
             on_solids::types(random, tally, &sheet, words, floats, &judged);
             #[cfg(solids)]

@@ -166,25 +166,34 @@ impl Hull {
     }
 }
 
+/// The distance from the origin of each proper element's hull, by rank; none at rank 0.
+fn distances(s: &Solid) -> Vec<Vec<f64>> {
+    let distance = |r: usize, i: usize| {
+        let mut hull = Hull::empty(s.dimension);
+        s.vertices(r, i).iter().for_each(|v| hull.add(&s.points[*v]));
+        hull.distance()
+    };
+    (0..s.rank()).map(|r| if r == 0 { vec![] } else { (0..s.count(r)).map(|i| distance(r, i)).collect() }).collect()
+}
+
+/// Clean as far as distances go: "differ by at most EPS" is transitive among them, so that none is near two listed values, in whatever order
+/// they are listed.
+pub fn has_clean_distances(s: &Solid) -> bool {
+    is_clean(1, &distances(s).concat())
+}
+
 /// The distance class of each proper element, by rank.
 fn classes(s: &Solid) -> Vec<Vec<f64>> {
     let mut listed: Vec<f64> = Vec::new();
-    let mut all = vec![Vec::new()];
-    for r in 1..s.rank() {
-        let mut of_rank = Vec::new();
-        for i in 0..s.count(r) {
-            let mut hull = Hull::empty(s.dimension);
-            s.vertices(r, i).iter().for_each(|v| hull.add(&s.points[*v]));
-            let d = hull.distance();
-            let near = listed.iter().copied().filter(|l| (l - d).abs() < EPS).fold(f64::INFINITY, f64::min);
-            if near.is_infinite() {
-                listed.push(d);
-            }
-            of_rank.push(if near.is_infinite() { d } else { near });
+    let mut class = |d: f64| {
+        let near = listed.iter().copied().filter(|l| (l - d).abs() < EPS).fold(f64::INFINITY, f64::min);
+        if near.is_infinite() {
+            listed.push(d);
+            return d;
         }
-        all.push(of_rank);
-    }
-    all
+        near
+    };
+    distances(s).into_iter().map(|of_rank| of_rank.into_iter().map(&mut class).collect()).collect()
 }
 
 /// The marks of these rows, V numbers each.

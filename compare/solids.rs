@@ -337,7 +337,7 @@ fn some_polychoron(random: &mut Random) -> Solid {
     }
 }
 
-/// A solid of any rank from 2 to 5, mostly 4 and 5. Half of the latter have a facet through the origin as facet 0.
+/// A solid of any rank from 2 to 5, mostly 4 and 5. Half of those above rank 2 have a facet through the origin as facet 0.
 pub fn some_solid(random: &mut Random) -> Solid {
     let mut solid = match random.below(20) {
         0 => dyad(-1.0, if random.once_in(2) { 1.0 } else { 1.0 + random.unit() }),
@@ -354,7 +354,7 @@ pub fn some_solid(random: &mut Random) -> Solid {
         };
         solid = compound(&solid, &other);
     }
-    let sunk = solid.rank() > 3 && random.once_in(2);
+    let sunk = solid.rank() > 2 && random.once_in(2);
     if sunk {
         let facet = random.below(solid.count(solid.rank() - 1));
         solid = solid.sunk(facet);
