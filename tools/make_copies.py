@@ -21,6 +21,8 @@ import struct
 import subprocess
 import sys
 
+from search_model import transitive
+
 TOP = os.path.dirname(os.path.dirname(os.path.abspath(__file__)))
 EPS = 1e-7
 LIMIT = 1048576.0
@@ -101,15 +103,7 @@ def answer(d, points, turns, copies_out, table_out, rust):
 def is_clean(points, matrices, copies):
     """"differ by at most EPS" is transitive among points, copies and images on each axis, and images are finite."""
     every = points + copies + [image(m, p) for m in matrices for p in points + copies]
-    for axis in zip(*every):
-        if not all(math.isfinite(x) for x in axis):
-            return False
-        run = None
-        for a, b in itertools.pairwise(sorted(set(axis))):
-            run = (a if run is None else run) if b - a <= EPS else None
-            if run is not None and not b - run <= EPS:
-                return False
-    return True
+    return transitive(every)
 
 
 def oracle(program):

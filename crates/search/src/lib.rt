@@ -6,9 +6,9 @@ ghost use lib.ListN.{length};
 ghost use Rattle.spec.specs.Calls.{searchCall, rotationsCall};
 ghost use Rattle.symmetry.specs.Tails.{outOf};
 
-pub mod driver;
-pub mod judging;
-pub mod marking;
+mod driver;
+mod judging;
+mod marking;
 
 use crate::driver::run;
 

@@ -14,7 +14,7 @@ ghost use Rattle.ranked.specs.Bench.{solidAt, Bench};
 ghost use Rattle.types.specs.Call.{answered};
 ghost use Rattle.types.specs.Demand3.{Demand3Cells};
 
-pub mod giving;
+mod giving;
 
 use crate::giving::give_out;
 
