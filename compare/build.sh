@@ -17,8 +17,4 @@ lib nalgebra oracle/standins/nalgebra.rs $(ext approx)
 cp -r oracle/src/. "$work/oracle"
 cat oracle/src/main.rs compare/oracle.rs > "$work/oracle/lib.rs"
 lib oracle "$work/oracle/lib.rs" $(ext approx) $(ext ordered_float) $(ext vec_like) $(ext nalgebra)
-calls=""
-has() { nm target/staticlib/libjidwaleb.a 2> /dev/null | grep -q " T $1\$"; }
-has jidwaleb_types && calls="--cfg types"
-has jidwaleb_search && calls="$calls --cfg solids"
-rustc --edition 2021 -C opt-level=3 $calls -L "$work" -L target/staticlib -l static=jidwaleb $(ext oracle) -o "$work/compare" compare/main.rs
+rustc --edition 2021 -D warnings -C opt-level=3 -L "$work" -L target/staticlib -l static=jidwaleb $(ext oracle) -o "$work/compare" compare/main.rs

@@ -1,29 +1,64 @@
 //! The two sides held against each other.
 
 use crate::copyings::{some_copying, Given};
-use crate::library::{self, Lent};
-use crate::model;
+use crate::library::{self, Answer, Lent, Members, Workspace};
+use crate::model::{self, Judged};
 use crate::random::Random;
 use crate::solids::{self, Solid};
 use std::collections::BTreeMap;
 
+/// What is counted by rank.
+#[derive(Clone, Copy)]
+enum Row {
+    Solids,
+    Exchanged,
+    Members,
+    Confirmed,
+}
+
+const ROWS: [&str; 4] = ["solids compared by all three calls", "- those with facets exchanged", "- their members", "- those confirmed"];
+
+/// What is counted by the answer that was expected.
+#[derive(Clone, Copy)]
+enum Call {
+    Sheets,
+    Types,
+    Search,
+    Rotations,
+    Copying,
+}
+
+const CALLS: [&str; 5] =
+    ["sheets broken on purpose", "types, cell by cell", "searches, to the bit", "rotations, to the bit", "copyings, to the bit"];
+
 /// How many of each kind of answer were compared, and what differed.
 #[derive(Default)]
 pub struct Tally {
-    counts: BTreeMap<String, usize>,
+    by_rank: [[usize; 6]; 4],
+    by_answer: [[usize; 16]; 5],
+    left_out: BTreeMap<String, usize>,
     pub differences: usize,
 }
 
 impl Tally {
-    pub fn count(&mut self, what: &str) {
-        self.add(what, 1);
+    /// How many clean solids both sides have answered: types, search and rotations, each compared whole. Broken sheets are not among them.
+    pub fn solids(&self) -> u64 {
+        self.by_rank[Row::Solids as usize].iter().sum::<usize>() as u64
     }
 
-    pub fn add(&mut self, what: &str, n: usize) {
-        *self.counts.entry(what.to_owned()).or_default() += n;
+    fn of_rank(&mut self, row: Row, rank: usize, n: usize) {
+        self.by_rank[row as usize][rank] += n;
     }
 
-    pub fn differs(&mut self, what: String) {
+    fn answered(&mut self, call: Call, refusal: u64) {
+        self.by_answer[call as usize][refusal as usize] += 1;
+    }
+
+    fn left_out(&mut self, what: &str) {
+        *self.left_out.entry(what.to_owned()).or_default() += 1;
+    }
+
+    fn differs(&mut self, what: String) {
         self.differences += 1;
         if self.differences <= 20 {
             println!("DIFFERS {}", what);
@@ -31,23 +66,39 @@ impl Tally {
     }
 
     pub fn print(&self) {
-        for (what, n) in &self.counts {
-            println!("{} {}", n, what);
+        let line = |label: &str, cells: Vec<String>| println!("{:<38}{}", label, cells.iter().map(|c| format!("{:>7}", c)).collect::<String>());
+        let text = |n: &usize| if *n == 0 { "-".to_owned() } else { n.to_string() };
+        let mut heads: Vec<String> = (2..6).map(|r| format!("rank {}", r)).collect();
+        heads.push("all".to_owned());
+        line("", heads);
+        for (label, counts) in ROWS.iter().zip(&self.by_rank) {
+            let all = counts.iter().sum::<usize>();
+            line(label, counts[2..].iter().chain([&all]).map(text).collect());
+        }
+        // 15 is never met: no sheet brings it about
+        let shown = (0..15).filter(|n| *n == 0 || self.by_answer.iter().any(|counts| counts[*n] > 0)).collect::<Vec<usize>>();
+        line("refused (13: what fits is compared)", shown.iter().map(|n| if *n == 0 { "not".to_owned() } else { n.to_string() }).collect());
+        for (label, counts) in CALLS.iter().zip(&self.by_answer) {
+            line(label, shown.iter().map(|n| text(&counts[*n])).collect());
+        }
+        for (what, n) in &self.left_out {
+            println!("{} left out: {}", n, what);
         }
         println!("{} differences", self.differences);
     }
 }
 
-/// A length near one that matters.
-fn near(random: &mut Random, n: usize) -> usize {
-    match random.below(12) {
-        0 => n,
-        1 => n.saturating_sub(1),
-        2 => n + 1,
-        3 => random.below(n + 1),
-        _ => n + random.below(40),
-    }
+/// A length that is enough, and often just enough.
+fn enough(random: &mut Random, n: usize) -> usize {
+    n + if random.once_in(4) { 0 } else { random.below(40) }
 }
+
+/// A length that is too short, and often just so.
+fn too_short(random: &mut Random, n: usize) -> usize {
+    if random.once_in(2) { n - 1 } else { random.below(n) }
+}
+
+// ---- copying
 
 /// Input that is refused: a wrong dimension, a length that is not whole, a float that is not finite or too large, nothing at all.
 fn spoilt(random: &mut Random, mut given: Given) -> (u64, Given) {
@@ -79,227 +130,231 @@ pub fn copying(random: &mut Random, tally: &mut Tally) {
     }
     let Given { points, turns, .. } = given;
     let early = model::refused_early(d, &points, &turns);
-    let expected = if early > 0 {
-        model::Copied { refusal: early, count: 0, copies: vec![], table: vec![] }
-    } else {
-        let d = d as usize;
-        let (copies, table) = oracle::Copying::new(d, &points, &turns).copied();
-        let mut all = [&points[..], &copies[..]].concat();
-        all.extend(model::images(d, &all, &turns));
-        if !model::is_clean(d, &all) {
-            return tally.count("copyings left out: not clean");
-        }
-        let count = turns.len() / (d * d);
-        let cells = near(random, count * (copies.len() / d));
-        let floats = near(random, copies.len());
-        let expected = model::copied(d, count, &copies, table.as_deref(), floats, cells);
-        return compare_copying(tally, d as u64, &points, &turns, floats, cells, expected);
+    if early > 0 {
+        let expected = model::Copied { refusal: early, count: 0, copies: vec![], table: vec![] };
+        return compare_copying(tally, d, &points, &turns, [random.below(20), random.below(20)], expected);
+    }
+    let d = d as usize;
+    let (copies, table) = match oracle::Copying::new(d, &points, &turns).copied() {
+        Err(why) => return tally.left_out(&format!("copyings at which the Rust panics, {}", why)),
+        Ok(answer) => answer,
     };
-    compare_copying(tally, d, &points, &turns, random.below(20), random.below(20), expected)
+    let mut all = [&points[..], &copies[..]].concat();
+    all.extend(model::images(d, &all, &turns));
+    if !model::is_clean(d, &all) {
+        return tally.left_out("copyings that are not clean");
+    }
+    let count = turns.len() / (d * d);
+    let wanted = [copies.len(), count * (copies.len() / d)];
+    let mut lengths = wanted.map(|n| enough(random, n));
+    if random.once_in(5) {
+        let k = random.below(2);
+        lengths[k] = too_short(random, wanted[k]);
+    }
+    let expected = model::copied(d, count, &copies, table.as_deref(), lengths[0], lengths[1]);
+    compare_copying(tally, d as u64, &points, &turns, lengths, expected)
 }
 
-fn compare_copying(tally: &mut Tally, d: u64, points: &[f64], turns: &[f64], floats: usize, cells: usize, expected: model::Copied) {
-    let (mut copies, mut table) = (Lent::new(floats), Lent::new(cells));
-    let (from, by) = (Lent::holding(points), Lent::holding(turns));
-    let answer = library::copy(d, from.cells(), by.cells(), &mut copies, &mut table);
+fn compare_copying(tally: &mut Tally, d: u64, points: &[f64], turns: &[f64], lengths: [usize; 2], expected: model::Copied) {
+    let (mut copies, mut table) = (Lent::new(lengths[0]), Lent::new(lengths[1]));
+    let (mut from, mut by) = (Lent::holding(points), Lent::holding(turns));
+    let answer = library::copy(d, &mut from, &mut by, &mut copies, &mut table);
     let same = answer.refusal == expected.refusal && answer.count == expected.count && copies.is(&expected.copies) && table.is(&expected.table);
     let kept = from.is(points) && by.is(turns);
     if !same || !kept {
         let text = |l: &[f64]| l.iter().map(|x| format!("{:016x}", x.to_bits())).collect::<Vec<_>>().join(" ");
         tally.differs(format!(
-            "copying D {} floats {} cells {}: {:?}, expected {} and {}\n{}\n{}",
+            "copying D {} lengths {:?}: {:?}, expected {} and {}, input {}\n{}\n{}",
             d,
-            floats,
-            cells,
+            lengths,
             answer,
             expected.refusal,
             expected.count,
+            if kept { "kept" } else { "changed" },
             text(points),
             text(turns)
         ));
     }
-    match expected.refusal {
-        0 => tally.count("copyings done"),
-        n => tally.count(&format!("copyings refused {}", n)),
+    tally.answered(Call::Copying, expected.refusal);
+}
+
+// ---- solids
+
+/// A sheet, and how many words and floats are lent to a call on it.
+struct Sheet<'a> {
+    bytes: &'a [u8],
+    words: usize,
+    floats: usize,
+}
+
+impl Sheet<'_> {
+    /// The types call: is its answer this one, and are the outputs' first cells these, all others and the sheet untouched?
+    fn types(&self, tally: &mut Tally, lengths: [usize; 2], expected: (u64, usize), cells: [&[u16]; 2]) {
+        let (mut sheet, mut space) = (Lent::holding(self.bytes), Workspace::new(self.words, self.floats));
+        let [mut of, mut table] = lengths.map(Lent::new);
+        let answer = library::types(&mut sheet, &mut space, &mut of, &mut table);
+        let alike = of.is(cells[0]) && table.is(cells[1]) && space.guarded() && sheet.is(self.bytes);
+        self.tell(tally, "types", lengths, answer, expected, alike);
+    }
+
+    /// The same of search or rotations: matrices, rows and marks.
+    fn members(&self, tally: &mut Tally, only_rotations: bool, lengths: [usize; 3], expected: (u64, usize), cells: (&[f64], &[u16], &[u8])) {
+        let (mut sheet, mut space) = (Lent::holding(self.bytes), Workspace::new(self.words, self.floats));
+        let mut out = Members { matrices: Lent::new(lengths[0]), rows: Lent::new(lengths[1]), marks: Lent::new(lengths[2]) };
+        let answer = library::search(&mut sheet, &mut space, &mut out, only_rotations);
+        let alike = out.matrices.is(cells.0) && out.rows.is(cells.1) && out.marks.is(cells.2) && space.guarded() && sheet.is(self.bytes);
+        self.tell(tally, if only_rotations { "rotations" } else { "search" }, lengths, answer, expected, alike);
+    }
+
+    fn tell<const N: usize>(&self, tally: &mut Tally, call: &str, lengths: [usize; N], answer: Answer, expected: (u64, usize), alike: bool) {
+        if !alike || (answer.refusal, answer.count) != expected {
+            let hex: String = self.bytes.iter().map(|b| format!("{:02x}", b)).collect();
+            let cells = if alike { "alike" } else { "not alike" };
+            let lent = (self.words, self.floats, lengths);
+            tally.differs(format!("{} {:?}, expected {:?}, cells {}, lent {:?}\n{}", call, answer, expected, cells, lent, hex));
+        }
     }
 }
 
 /// The sheet with bits or bytes wrong, that of the solid broken, or one of a low rank.
-fn spoilt_sheet(random: &mut Random, solid: Solid, sheet: Vec<u8>) -> Vec<u8> {
+fn broken_sheet(random: &mut Random, solid: Solid, sheet: &[u8]) -> Vec<u8> {
     match random.below(10) {
         0 => solids::low_sheet(random),
         1..=5 => solids::broken(random, solid).pack(),
-        _ => solids::damaged(random, sheet),
+        _ => solids::damaged(random, sheet.to_vec()),
     }
 }
 
-/// A solid: where the library has no call on solids, its sheet is only judged, so that the generator is known to be sound.
-#[cfg(not(types))]
+/// A solid; beside some, its sheet broken, or a workspace that is a cell too short. A solid that is not clean (01, section 6) may differ by
+/// right (docs/DIFFERENCES.md) and is left out. Images under a candidate that is no member are not looked at: a difference prints its sheet.
 pub fn solid(random: &mut Random, tally: &mut Tally) {
     let solid = solids::some_solid(random);
     if !solid.within_limits() {
-        return tally.count("solids left out: too large");
+        return tally.left_out("solids that are too large");
     }
-    let sheet = solid.pack();
-    let exchanged = solids::centred_facet(&solid) == Some(0);
-    match model::judged(&sheet, usize::MAX, usize::MAX) {
-        Err(n) => tally.differs(format!("a solid of rank {} is refused {}", solid.rank(), n)),
-        Ok(judged) if judged.solid.is_none() => tally.differs("a solid has no rank".to_owned()),
-        Ok(_) if exchanged => tally.count(&format!("solids of rank {} with facet 0 through the origin", solid.rank())),
-        Ok(_) => tally.count(&format!("solids of rank {}", solid.rank())),
-    }
-    let sheet = spoilt_sheet(random, solid, sheet);
-    match model::judged(&sheet, 1 << 20, 1 << 20) {
-        Err(n) => tally.count(&format!("spoilt sheets refused {}", n)),
-        Ok(_) => tally.count("spoilt sheets that still pass"),
-    }
-}
-
-/// A solid that is not clean (01, section 6) may differ by right (docs/DIFFERENCES.md). Those whose distances are not are left out. Images that
-/// are not clean are hardly ever made, so they are not looked for: a difference prints its sheet, to be looked at.
-#[cfg(types)]
-pub fn solid(random: &mut Random, tally: &mut Tally) {
-    let solid = solids::some_solid(random);
-    if !solid.within_limits() {
-        return tally.count("solids left out: too large");
-    }
-    let mut sheet = solid.pack();
+    let bytes = solid.pack();
     let (elements, entries) = solid.size();
-    if random.once_in(4) {
-        sheet = spoilt_sheet(random, solid, sheet);
-    }
+    let (words, floats) = (16 * (elements + entries + 4), 8 * (elements + 8));
     let spare = if random.once_in(10) { 0 } else { 64 };
-    let (mut words, floats) = (16 * (elements + entries + 4) + spare, 8 * (elements + 8) + spare);
+    judged(random, tally, &Sheet { bytes: &bytes, words: words + spare, floats: floats + spare }, false);
     if random.once_in(20) {
-        words -= spare + 1;
+        let (w, f) = [(words - 1, floats + spare), (words + spare, floats - 1)][random.below(2)];
+        judged(random, tally, &Sheet { bytes: &bytes, words: w, floats: f }, true);
     }
-    match model::judged(&sheet, words, floats) {
-        Err(n) => on_solids::refused(random, tally, &sheet, words, floats, n),
-        Ok(judged) if !judged.solid.as_ref().map_or(true, model::has_clean_distances) => tally.count("solids left out: distances not clean"),
-        Ok(judged) => {
-            on_solids::types(random, tally, &sheet, words, floats, &judged);
-            #[cfg(solids)]
+    if random.once_in(3) {
+        let bytes = broken_sheet(random, solid, &bytes);
+        judged(random, tally, &Sheet { bytes: &bytes, words: words + spare, floats: floats + spare }, true);
+    }
+}
+
+fn judged(random: &mut Random, tally: &mut Tally, sheet: &Sheet, on_purpose: bool) {
+    let judged = model::judged(sheet.bytes, sheet.words, sheet.floats);
+    if on_purpose {
+        tally.answered(Call::Sheets, judged.as_ref().err().copied().unwrap_or(0));
+    }
+    match judged {
+        Ok(judged) => passed(random, tally, sheet, &judged, on_purpose),
+        Err(number) => {
+            if !on_purpose {
+                tally.differs(format!("a solid that was to be sound is refused {} by compare/model.rs", number));
+            }
+            sheet.types(tally, [random.below(40), random.below(40)], (number, 0), [&[], &[]]);
             for only_rotations in [false, true] {
-                on_solids::search(random, tally, &sheet, words, floats, &judged, only_rotations);
+                sheet.members(tally, only_rotations, [0; 3].map(|_| random.below(40)), (number, 0), (&[], &[], &[]));
             }
         }
     }
 }
 
-#[cfg(types)]
-mod on_solids {
-    use super::{near, Tally};
-    #[cfg(solids)]
-    use crate::library::Members;
-    use crate::library::{self, Answer, Lent, Workspace};
-    #[cfg(solids)]
-    use crate::model;
-    use crate::model::Judged;
-    use crate::random::Random;
-    #[cfg(solids)]
-    use crate::solids::{centred_facet, Solid};
-
-    fn hex(sheet: &[u8]) -> String {
-        sheet.iter().map(|b| format!("{:02x}", b)).collect()
+/// What a search or rotations call has to answer: the Rust's members, or a refusal; or why the Rust panics.
+fn expected_members(sheet: &[u8], judged: &Judged, only_rotations: bool) -> Result<Result<oracle::Members, u64>, String> {
+    let Some(solid) = judged.solid.as_ref().filter(|s| s.dimension + 1 == s.rank()) else { return Ok(Err(8)) };
+    if model::double_corner(solid) {
+        return Ok(Err(9));
     }
+    Ok(match oracle::Solid::read(sheet).unwrap().members(only_rotations) {
+        Ok(None) => Err(10),
+        Err(why) if why == "singular" => Err(11),
+        // an inverse that is not finite: the Rust has an empty group or panics (docs/DIFFERENCES.md)
+        _ if model::is_flat(solid) => Err(11),
+        Err(why) => return Err(why),
+        Ok(Some(members)) if members.rotations.is_empty() => Err(12),
+        Ok(Some(members)) => Ok(members),
+    })
+}
 
-    fn tell(tally: &mut Tally, call: &str, same: bool, answer: Answer, expected: (u64, usize), sheet: &[u8]) {
-        if !same || (answer.refusal, answer.count) != expected {
-            tally.differs(format!("{} {:?}, expected {:?}, cells {}\n{}", call, answer, expected, if same { "alike" } else { "not" }, hex(sheet)));
+/// A sheet that passed 1 to 7. One that was broken on purpose and passed all the same is compared too, but is none of the solids counted by rank.
+fn passed(random: &mut Random, tally: &mut Tally, sheet: &Sheet, judged: &Judged, on_purpose: bool) {
+    let mut types = oracle::Types { table: vec![], of: vec![] };
+    if let Some(solid) = &judged.solid {
+        if !model::has_clean_distances(solid) {
+            return tally.left_out("solids whose distances are not clean");
         }
-        match expected.0 {
-            0 => tally.count(&format!("{} done", call)),
-            n => tally.count(&format!("{} refused {}", call, n)),
-        }
-    }
-
-    /// Refused before anything is written.
-    pub fn refused(random: &mut Random, tally: &mut Tally, sheet: &[u8], words: usize, floats: usize, number: u64) {
-        let mut space = Workspace::new(words, floats);
-        let (mut of, mut table) = (Lent::new(random.below(40)), Lent::new(random.below(40)));
-        let answer = library::types(sheet, &mut space, &mut of, &mut table);
-        tell(tally, "types", of.is(&[]) && table.is(&[]) && space.guarded(), answer, (number, 0), sheet);
-        #[cfg(solids)]
-        for only_rotations in [false, true] {
-            let mut out = Members { matrices: Lent::new(random.below(40)), rows: Lent::new(random.below(40)), marks: Lent::new(random.below(40)) };
-            let answer = library::search(sheet, &mut space, &mut out, only_rotations);
-            let same = out.matrices.is(&[]) && out.rows.is(&[]) && out.marks.is(&[]) && space.guarded();
-            tell(tally, if only_rotations { "rotations" } else { "search" }, same, answer, (number, 0), sheet);
+        match oracle::Solid::read(sheet.bytes).unwrap().types() {
+            Err(why) => return tally.left_out(&format!("solids at whose types the Rust panics, {}", why)),
+            Ok(found) => types = found,
         }
     }
-
-    pub fn types(random: &mut Random, tally: &mut Tally, sheet: &[u8], words: usize, floats: usize, judged: &Judged) {
-        let expected = match &judged.solid {
-            None => oracle::Types { table: vec![], of: vec![] },
-            Some(_) => match oracle::Solid::read(sheet).unwrap().types() {
-                Err(why) => return tally.count(&format!("types left out: the Rust panics, {}", why)),
-                Ok(types) => types,
-            },
-        };
-        let (of_len, table_len) = (near(random, expected.of.len()), near(random, expected.table.len()));
-        let mut space = Workspace::new(words, floats);
-        let (mut of, mut table) = (Lent::new(of_len), Lent::new(table_len));
-        let answer = library::types(sheet, &mut space, &mut of, &mut table);
-        let short = of_len < expected.of.len() || table_len < expected.table.len();
-        let cells = |l: &[usize]| if short { vec![] } else { l.iter().map(|x| *x as u16).collect::<Vec<u16>>() };
-        let same = of.is(&cells(&expected.of)) && table.is(&cells(&expected.table)) && space.guarded();
-        tell(tally, "types", same, answer, if short { (13, 0) } else { (0, expected.table.len() / 4) }, sheet);
+    let both = [false, true].map(|only_rotations| expected_members(sheet.bytes, judged, only_rotations));
+    if let Some(why) = both.iter().find_map(|found| found.as_ref().err()) {
+        return tally.left_out(&format!("solids at whose search the Rust panics, {}", why));
     }
-
-    #[cfg(solids)]
-    pub fn search(random: &mut Random, tally: &mut Tally, sheet: &[u8], words: usize, floats: usize, judged: &Judged, only_rotations: bool) {
-        let call = if only_rotations { "rotations" } else { "search" };
-        let mut found = oracle::Members { matrices: vec![], rows: vec![], rotations: vec![] };
-        let mut early = 0;
-        match &judged.solid {
-            Some(s) if judged.dimension + 1 == judged.rank => {
-                if model::double_corner(s) {
-                    early = 9;
-                } else {
-                    match oracle::Solid::read(sheet).unwrap().members(only_rotations) {
-                        Err(why) if why == "singular" => early = 11,
-                        Err(why) => return tally.count(&format!("{} left out: the Rust panics, {}", call, why)),
-                        Ok(None) => early = 10,
-                        Ok(Some(members)) => found = members,
-                    }
+    let both = both.map(Result::unwrap);
+    if let (Some(solid), Ok(members)) = (&judged.solid, &both[0]) {
+        if !model::has_clean_images(solid, &members.matrices) {
+            return tally.left_out("solids whose coordinates or images are not clean");
+        }
+    }
+    compare_types(random, tally, sheet, &types);
+    for (only_rotations, found) in [false, true].into_iter().zip(&both) {
+        let call = if only_rotations { Call::Rotations } else { Call::Search };
+        match (&judged.solid, found) {
+            (Some(solid), Ok(members)) => {
+                let marks = compare_members(random, tally, sheet, solid, only_rotations, members);
+                tally.answered(call, 0);
+                if !on_purpose && both.iter().all(Result::is_ok) && !only_rotations {
+                    tally.of_rank(Row::Solids, judged.rank, 1);
+                    tally.of_rank(Row::Exchanged, judged.rank, usize::from(model::first_facet(solid) != Some(0)));
+                    tally.of_rank(Row::Members, judged.rank, marks.len());
+                    tally.of_rank(Row::Confirmed, judged.rank, marks.iter().filter(|m| **m == 1).count());
                 }
             }
-            _ => early = 8,
-        }
-        let (d, v) = (judged.dimension, judged.solid.as_ref().map_or(1, |s| s.points.len()));
-        let n = found.rotations.len();
-        let lengths = [near(random, n * d * d), near(random, n * v), near(random, n)];
-        let fit = if d == 0 { n } else { n.min(lengths[0] / (d * d)) }.min(lengths[1] / v).min(lengths[2]);
-        let expected = match (early, n) {
-            (0, 0) => (12, 0),
-            (0, _) if fit < n => (13, fit),
-            (0, _) => (0, n),
-            _ => (early, 0),
-        };
-        let marks = judged.solid.as_ref().map_or(vec![], |s| model::marks(s, &found.rows[..fit * v]));
-        let mut space = Workspace::new(words, floats);
-        let mut out = Members { matrices: Lent::new(lengths[0]), rows: Lent::new(lengths[1]), marks: Lent::new(lengths[2]) };
-        let answer = library::search(sheet, &mut space, &mut out, only_rotations);
-        if n == 0 && early == 0 && answer.refusal == 11 {
-            // an inverse that is not finite: the Rust has an empty group (docs/DIFFERENCES.md)
-            return tally.count(&format!("{} refused 11 where the Rust has no member", call));
-        }
-        let rows: Vec<u16> = found.rows[..fit * v].iter().map(|x| *x as u16).collect();
-        let same = out.matrices.is(&found.matrices[..fit * d * d]) && out.rows.is(&rows) && out.marks.is(&marks) && space.guarded();
-        tell(tally, call, same, answer, expected, sheet);
-        if let (true, Some(solid)) = (n > 0, &judged.solid) {
-            covered(tally, call, solid, n, &marks);
+            (_, found) => {
+                let number = found.as_ref().err().copied().unwrap_or(8);
+                sheet.members(tally, only_rotations, [0; 3].map(|_| random.below(200)), (number, 0), (&[], &[], &[]));
+                tally.answered(call, number);
+            }
         }
     }
+}
 
-    /// What was met by a call that found n members, those with these marks written.
-    #[cfg(solids)]
-    fn covered(tally: &mut Tally, call: &str, solid: &Solid, n: usize, marks: &[u8]) {
-        let exchanged = if centred_facet(solid) == Some(0) { ", facets exchanged" } else { "" };
-        tally.count(&format!("{} of rank {}{}", call, solid.rank(), exchanged));
-        let many = [1, 2, 10, 100, 1000].into_iter().rev().find(|m| n >= *m);
-        tally.count(&format!("{} that found {} members or more", call, many.unwrap_or(0)));
-        tally.add(&format!("members written by {}", call), marks.len());
-        tally.add(&format!("members written by {} and confirmed", call), marks.iter().filter(|m| **m == 1).count());
+fn compare_types(random: &mut Random, tally: &mut Tally, sheet: &Sheet, expected: &oracle::Types) {
+    let [of, table] = [&expected.of, &expected.table].map(|l| l.iter().map(|x| *x as u16).collect::<Vec<u16>>());
+    let mut lengths = [of.len(), table.len()].map(|n| enough(random, n));
+    sheet.types(tally, lengths, (0, table.len() / 4), [&of, &table]);
+    tally.answered(Call::Types, 0);
+    if random.once_in(4) && !of.is_empty() {
+        let k = random.below(2);
+        lengths[k] = too_short(random, [of.len(), table.len()][k]);
+        sheet.types(tally, lengths, (13, 0), [&[], &[]]);
+        tally.answered(Call::Types, 13);
     }
+}
+
+/// Whole, and at times again with too little room: then the members that fit. Gives the marks.
+fn compare_members(random: &mut Random, tally: &mut Tally, sheet: &Sheet, solid: &Solid, only_rotations: bool, found: &oracle::Members) -> Vec<u8> {
+    let (d, v, n) = (solid.dimension, solid.points.len(), found.rotations.len());
+    let rows: Vec<u16> = found.rows.iter().map(|x| *x as u16).collect();
+    let marks = model::marks(solid, &found.rows);
+    let sizes = [d * d, v, 1];
+    let mut lengths = sizes.map(|size| enough(random, n * size));
+    sheet.members(tally, only_rotations, lengths, (0, n), (&found.matrices, &rows, &marks));
+    if random.once_in(4) {
+        let k = random.below(3);
+        lengths[k] = too_short(random, n * sizes[k]);
+        let fit = lengths[k] / sizes[k];
+        sheet.members(tally, only_rotations, lengths, (13, fit), (&found.matrices[..fit * d * d], &rows[..fit * v], &marks[..fit]));
+        tally.answered(if only_rotations { Call::Rotations } else { Call::Search }, 13);
+    }
+    marks
 }

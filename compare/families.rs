@@ -144,6 +144,41 @@ pub fn uniform() -> Vec<(&'static str, Solid)> {
     ]
 }
 
+/// A tetrahedron with three lengths of edges, opposite ones alike: members that are no symmetries are among its candidates.
+pub fn disphenoid() -> Solid {
+    hull([[1.0, 1.0, 1.0], [1.0, -1.0, -1.0], [-1.0, 1.0, -1.0], [-1.0, -1.0, 1.0]].iter().map(|p| vec![p[0], 2.0 * p[1], 3.0 * p[2]]).collect())
+}
+
+pub fn antiprism(n: usize) -> Solid {
+    let corner = |k: usize| {
+        let angle = std::f64::consts::PI * k as f64 / n as f64;
+        vec![angle.cos(), angle.sin(), if k % 2 == 0 { 0.5 } else { -0.5 }]
+    };
+    hull((0..2 * n).map(corner).collect())
+}
+
+/// A star: the pentagons that the neighbours of each corner of an icosahedron make.
+pub fn great_dodecahedron() -> Solid {
+    let (_, icosahedron) = uniform().into_iter().find(|(name, _)| *name == "icosahedron").unwrap();
+    let edges = icosahedron.lists[0].clone();
+    let next = |a: usize, b: usize| edges.iter().any(|e| e.contains(&a) && e.contains(&b));
+    let pentagon = |v: usize| (0..edges.len()).filter(|i| !edges[*i].contains(&v) && edges[*i].iter().all(|u| next(v, *u))).collect();
+    let faces = (0..icosahedron.points.len()).map(pentagon).collect();
+    Solid::new(icosahedron.points.clone(), vec![edges.clone(), faces])
+}
+
+pub fn cell_5() -> Solid {
+    let height = 1.0 / 5f64.sqrt();
+    let mut points: Points = [[1.0, 1.0, 1.0], [1.0, -1.0, -1.0], [-1.0, 1.0, -1.0], [-1.0, -1.0, 1.0]].iter().map(|p| [&p[..], &[-height]].concat()).collect();
+    points.push(vec![0.0, 0.0, 0.0, 4.0 * height]);
+    convex(points, (0..5).map(|left_out| (0..5).filter(|v| *v != left_out).collect()).collect())
+}
+
+pub fn cell_16() -> Solid {
+    let points: Points = (0..8).map(|v| (0..4).map(|i| if v / 2 == i { 1.0 - 2.0 * (v % 2) as f64 } else { 0.0 }).collect()).collect();
+    convex(points, (0..16).map(|s| (0..4).map(|i| 2 * i + (s >> i & 1)).collect()).collect())
+}
+
 pub fn cell_24() -> Solid {
     let orders = signed_orders(4);
     let orbit = |seed: [f64; 4]| {
@@ -158,6 +193,39 @@ pub fn cell_24() -> Solid {
     };
     let points = orbit([1.0, 1.0, 0.0, 0.0]);
     let normals = [orbit([1.0, 0.0, 0.0, 0.0]), orbit([0.5; 4])].concat();
+    let facets = normals.iter().map(|n| furthest(&points, n)).collect();
+    convex(points, facets)
+}
+
+/// The unit icosians, the 120 vertices of the 600-cell.
+fn icosian_points() -> Points {
+    icosians().iter().map(|left| left.iter().map(|row| row[0]).collect()).collect()
+}
+
+/// Its 600 cells: four icosians at a time, each next to the three others.
+fn tetrahedra(points: &Points) -> Vec<Vec<usize>> {
+    let next = |i: usize, j: usize| (dot(&points[i], &points[j]) - (1.0 + 5f64.sqrt()) / 4.0).abs() < 1e-9;
+    let mut sets: Vec<Vec<usize>> = (0..points.len()).map(|i| vec![i]).collect();
+    for _ in 1..4 {
+        sets = sets
+            .iter()
+            .flat_map(|s| (s[s.len() - 1] + 1..points.len()).filter(|j| s.iter().all(|i| next(*i, *j))).map(|j| [&s[..], &[j]].concat()).collect::<Vec<_>>())
+            .collect();
+    }
+    sets
+}
+
+pub fn cell_600() -> Solid {
+    let points = icosian_points();
+    let facets = tetrahedra(&points);
+    convex(points, facets)
+}
+
+/// Its vertices are the middles of the 600-cell's cells.
+pub fn cell_120() -> Solid {
+    let normals = icosian_points();
+    let middle = |cell: &Vec<usize>| (0..4).map(|k| cell.iter().map(|i| normals[*i][k]).sum()).collect::<Vec<f64>>();
+    let points: Points = tetrahedra(&normals).iter().map(middle).collect();
     let facets = normals.iter().map(|n| furthest(&points, n)).collect();
     convex(points, facets)
 }

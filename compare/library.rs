@@ -1,5 +1,6 @@
 //! The calls of libjidwaleb.a (crates/jidwaleb). Nothing checks these declarations against the Rattle source: keep them beside each other.
-//! A slice goes as a pointer and a length. Every lent buffer stands between guard cells, which are looked at after the call.
+//! A slice goes as a pointer and a length. Every lent buffer, the input too, stands between guard cells, which are looked at after the call. What
+//! a call only reads is lent so that it could be changed as well, and looked at afterwards.
 
 extern "C" {
     fn jidwaleb_copy(
@@ -13,10 +14,6 @@ extern "C" {
         table: *mut u16,
         table_len: usize,
     ) -> u64;
-}
-
-#[cfg(types)]
-extern "C" {
     fn jidwaleb_types(
         sheet: *const u8,
         sheet_len: usize,
@@ -29,10 +26,6 @@ extern "C" {
         table: *mut u16,
         table_len: usize,
     ) -> u64;
-}
-
-#[cfg(solids)]
-extern "C" {
     fn jidwaleb_search(
         sheet: *const u8,
         sheet_len: usize,
@@ -148,8 +141,8 @@ impl<T: Cell> Lent<T> {
     }
 }
 
-pub fn copy(dimension: u64, points: &[f64], turns: &[f64], copies: &mut Lent<f64>, table: &mut Lent<u16>) -> Answer {
-    let (copies, table) = (copies.lend(), table.lend());
+pub fn copy(dimension: u64, points: &mut Lent<f64>, turns: &mut Lent<f64>, copies: &mut Lent<f64>, table: &mut Lent<u16>) -> Answer {
+    let (points, turns, copies, table) = (points.lend(), turns.lend(), copies.lend(), table.lend());
     Answer::of(unsafe {
         jidwaleb_copy(
             dimension,
@@ -166,13 +159,11 @@ pub fn copy(dimension: u64, points: &[f64], turns: &[f64], copies: &mut Lent<f64
 }
 
 /// The workspace of a call on a solid. What it holds afterwards is free.
-#[cfg(types)]
 pub struct Workspace {
     pub words: Lent<u32>,
     pub floats: Lent<f64>,
 }
 
-#[cfg(types)]
 impl Workspace {
     pub fn new(words: usize, floats: usize) -> Self {
         Workspace { words: Lent::new(words), floats: Lent::new(floats) }
@@ -183,9 +174,8 @@ impl Workspace {
     }
 }
 
-#[cfg(types)]
-pub fn types(sheet: &[u8], space: &mut Workspace, of: &mut Lent<u16>, table: &mut Lent<u16>) -> Answer {
-    let (words, floats, of, table) = (space.words.lend(), space.floats.lend(), of.lend(), table.lend());
+pub fn types(sheet: &mut Lent<u8>, space: &mut Workspace, of: &mut Lent<u16>, table: &mut Lent<u16>) -> Answer {
+    let (sheet, words, floats, of, table) = (sheet.lend(), space.words.lend(), space.floats.lend(), of.lend(), table.lend());
     Answer::of(unsafe {
         jidwaleb_types(
             sheet.as_ptr(),
@@ -203,17 +193,15 @@ pub fn types(sheet: &[u8], space: &mut Workspace, of: &mut Lent<u16>, table: &mu
 }
 
 /// The outputs of a search.
-#[cfg(solids)]
 pub struct Members {
     pub matrices: Lent<f64>,
     pub rows: Lent<u16>,
     pub marks: Lent<u8>,
 }
 
-#[cfg(solids)]
-pub fn search(sheet: &[u8], space: &mut Workspace, out: &mut Members, only_rotations: bool) -> Answer {
+pub fn search(sheet: &mut Lent<u8>, space: &mut Workspace, out: &mut Members, only_rotations: bool) -> Answer {
     let call = if only_rotations { jidwaleb_rotations } else { jidwaleb_search };
-    let (words, floats) = (space.words.lend(), space.floats.lend());
+    let (sheet, words, floats) = (sheet.lend(), space.words.lend(), space.floats.lend());
     let (matrices, rows, marks) = (out.matrices.lend(), out.rows.lend(), out.marks.lend());
     Answer::of(unsafe {
         call(

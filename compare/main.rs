@@ -1,18 +1,13 @@
 //! Holds the static library against the Rust (../oracle), and times both. tools/compare.sh and tools/bench.sh build and run it.
 //!
-//!     compare N SEED           N random copyings and N random solids, and what differed; exit status 1 where something did
-//!     compare bench            times and their ratios
-//!     compare sheets N SEED FOLDER     writes N random sheets into FOLDER
-//!
-//! `--cfg types` switches the types call on, `--cfg solids` search and rotations besides, once the archive has them (build.sh looks).
-
-#![allow(unexpected_cfgs)]
-#![cfg_attr(not(solids), allow(dead_code))]
+//!     compare N SEED   random solids until types, search and rotations of N clean ones were compared, a random copying beside each; what was
+//!                      compared, and what differed; exit status 1 where something did
+//!     compare bench    times and their ratios
+//!     compare sheet X  the sheet of a regular polychoron (5-cell, 16-cell, tesseract, 24-cell, 600-cell, 120-cell) on standard output
 
 mod bench;
 mod comparing;
 mod copyings;
-#[cfg(types)]
 mod families;
 mod library;
 mod model;
@@ -20,6 +15,7 @@ mod random;
 mod solids;
 
 use random::Random;
+use std::io::Write;
 
 fn number(word: &str) -> u64 {
     word.parse().expect("a number")
@@ -29,16 +25,14 @@ fn main() {
     let args: Vec<String> = std::env::args().skip(1).collect();
     match args.iter().map(String::as_str).collect::<Vec<_>>()[..] {
         ["bench"] => bench::all(),
-        ["sheets", n, seed, folder] => {
-            let mut random = Random::new(number(seed));
-            for k in 0..number(n) {
-                std::fs::write(format!("{}/{}.sheet", folder, k), solids::some_solid(&mut random).pack()).expect("a sheet");
-            }
+        ["sheet", name] => {
+            let (_, solid) = bench::polychora().into_iter().find(|(other, _)| other == name).expect("a regular polychoron");
+            std::io::stdout().write_all(&solid.pack()).expect("written");
         }
         [n, seed] => {
             let mut random = Random::new(number(seed));
             let mut tally = comparing::Tally::default();
-            for _ in 0..number(n) {
+            while tally.solids() < number(n) {
                 comparing::copying(&mut random, &mut tally);
                 comparing::solid(&mut random, &mut tally);
             }
@@ -46,7 +40,7 @@ fn main() {
             std::process::exit(i32::from(tally.differences > 0));
         }
         _ => {
-            eprintln!("compare N SEED | bench | sheets N SEED FOLDER");
+            eprintln!("compare N SEED | bench | sheet NAME");
             std::process::exit(2);
         }
     }

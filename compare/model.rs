@@ -30,7 +30,6 @@ impl Reader<'_> {
 /// A sheet that passed 1 to 6, for a workspace of any size; the rank is kept apart, since it may be 0 or 1.
 pub struct Judged {
     pub rank: usize,
-    pub dimension: usize,
     pub solid: Option<Solid>,
 }
 
@@ -86,7 +85,7 @@ pub fn judged(sheet: &[u8], words: usize, floats: usize) -> Result<Judged, u64> 
         refuse((1..rank - 1).any(|r| is_loose(s, r)), 5)?;
         refuse((2..=rank).any(|r| !is_diamond(s, r)), 6)?;
     }
-    Ok(Judged { rank, dimension, solid })
+    Ok(Judged { rank, solid })
 }
 
 fn refuse(broken: bool, number: u64) -> Result<(), u64> {
@@ -166,20 +165,28 @@ impl Hull {
     }
 }
 
-/// The distance from the origin of each proper element's hull, by rank; none at rank 0.
+/// The distance of an element's hull from the origin.
+pub fn distance(s: &Solid, r: usize, i: usize) -> f64 {
+    let mut hull = Hull::empty(s.dimension);
+    s.vertices(r, i).iter().for_each(|v| hull.add(&s.points[*v]));
+    hull.distance()
+}
+
+/// Those of all proper elements, by rank; none at rank 0.
 fn distances(s: &Solid) -> Vec<Vec<f64>> {
-    let distance = |r: usize, i: usize| {
-        let mut hull = Hull::empty(s.dimension);
-        s.vertices(r, i).iter().for_each(|v| hull.add(&s.points[*v]));
-        hull.distance()
-    };
-    (0..s.rank()).map(|r| if r == 0 { vec![] } else { (0..s.count(r)).map(|i| distance(r, i)).collect() }).collect()
+    (0..s.rank()).map(|r| if r == 0 { vec![] } else { (0..s.count(r)).map(|i| distance(s, r, i)).collect() }).collect()
 }
 
 /// Clean as far as distances go: "differ by at most EPS" is transitive among them, so that none is near two listed values, in whatever order
 /// they are listed.
 pub fn has_clean_distances(s: &Solid) -> bool {
     is_clean(1, &distances(s).concat())
+}
+
+/// Clean as far as vertices and their images under these matrices go.
+pub fn has_clean_images(s: &Solid, matrices: &[f64]) -> bool {
+    let points = s.points.concat();
+    is_clean(s.dimension, &[images(s.dimension, &points, matrices), points].concat())
 }
 
 /// The distance class of each proper element, by rank.
@@ -231,6 +238,58 @@ fn is_confirmed(s: &Solid, sets: &[Vec<Vec<usize>>], classes: &[Vec<f64>], row: 
         below = to;
     }
     true
+}
+
+// ---- the first columns
+
+/// "The first facet whose hull is further than EPS from the origin"; 10 where there is none.
+pub fn first_facet(s: &Solid) -> Option<usize> {
+    let r = s.rank() - 1;
+    (0..s.count(r)).find(|f| distance(s, r, *f) > EPS)
+}
+
+/// 11, where D = R - 1 and not 10: "first columns singular, or a non-finite inverse".
+pub fn is_flat(s: &Solid) -> bool {
+    let Some(facet) = first_facet(s) else { return false };
+    let (rank, mut s) = (s.rank(), s.clone());
+    // "changes places with facet 0"; for R = 2 the facets are vertices, which have one and the same sub, and coordinates don't move
+    if rank > 2 {
+        s.lists[rank - 3].swap(0, facet);
+    }
+    let mut flag = vec![0; rank + 1];
+    (1..rank).rev().for_each(|r| flag[r] = s.subs(r + 1, flag[r + 1])[0]);
+    let mut columns = vec![s.points[flag[1]].clone()];
+    for _ in 1..s.dimension {
+        for r in 1..rank {
+            let other = |e: &usize| *e != flag[r] && s.subs(r, *e).contains(&flag[r - 1]);
+            flag[r] = s.subs(r + 1, flag[r + 1]).into_iter().find(other).expect("two between");
+        }
+        columns.push(s.points[flag[1]].clone());
+    }
+    !inverse(&columns).is_some_and(|rows| rows.iter().flatten().all(|x| x.is_finite()))
+}
+
+/// The inverse of the matrix with these columns, by section 1's Gauss-Jordan; none where a pivot is zero.
+fn inverse(columns: &[Vec<f64>]) -> Option<Vec<Vec<f64>>> {
+    let d = columns.len();
+    let unit = |i: usize| (0..d).map(move |j| if i == j { 1.0 } else { 0.0 });
+    let mut rows: Vec<Vec<f64>> = (0..d).map(|i| columns.iter().map(|c| c[i]).chain(unit(i)).collect()).collect();
+    for c in 0..d {
+        let best = (c + 1..d).fold(c, |best, r| if rows[r][c].abs() > rows[best][c].abs() { r } else { best });
+        rows.swap(c, best);
+        let pivot = rows[c][c];
+        if pivot == 0.0 {
+            return None;
+        }
+        rows[c].iter_mut().for_each(|x| *x /= pivot);
+        for r in (0..d).filter(|r| *r != c) {
+            let factor = rows[r][c];
+            for k in 0..2 * d {
+                rows[r][k] -= factor * rows[c][k];
+            }
+        }
+    }
+    Some(rows.into_iter().map(|row| row[d..].to_vec()).collect())
 }
 
 // ---- copying

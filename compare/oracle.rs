@@ -23,11 +23,16 @@ impl Copying {
         self.points.copy_by_symmetry(self.group.clone()).0 .0.len()
     }
 
-    /// The copies, and the table row by row, or none where the Rust meets an image that is not among the copies.
-    pub fn copied(&self) -> (Vec<f64>, Option<Vec<usize>>) {
-        let answer = run(|| self.points.copy_by_symmetry(self.group.clone()).1);
+    /// The copies, and the table row by row, or none where the Rust meets an image that is not among the copies (its `unreachable!`). An error
+    /// where it panics for any other reason.
+    pub fn copied(&self) -> Result<(Vec<f64>, Option<Vec<usize>>), String> {
+        let table = match run(|| self.points.copy_by_symmetry(self.group.clone()).1) {
+            Ok(rows) => Some(rows.concat()),
+            Err(why) if why == "unreachable" => None,
+            Err(why) => return Err(why),
+        };
         let copies = COPIES.with(|c| c.borrow().iter().flat_map(|p| p.iter().copied().collect::<Vec<f64>>()).collect());
-        (copies, answer.ok().map(|rows| rows.concat()))
+        Ok((copies, table))
     }
 }
 
@@ -83,7 +88,8 @@ impl Solid {
         self.0.element_types_common().0.iter().map(Vec::len).sum()
     }
 
-    pub fn member_count(&mut self) -> usize {
-        self.0.get_symmetry_group().map_or(0, |(_, rows)| rows.len())
+    pub fn member_count(&mut self, only_rotations: bool) -> usize {
+        let found = if only_rotations { self.0.get_rotation_group() } else { self.0.get_symmetry_group() };
+        found.map_or(0, |(_, rows)| rows.len())
     }
 }

@@ -1,6 +1,7 @@
 //! Random solids and their sheets (document 01, section 2). Built from polygons by products, cones and suspensions, then put together, moved and
 //! renumbered, so that the symmetries, the hulls and the exchange of facets are all met often.
 
+use crate::model;
 use crate::random::Random;
 use std::f64::consts::PI;
 
@@ -293,6 +294,16 @@ impl Solid {
 
 // ---- choosing
 
+/// One in four has columns that are singular, or whose inverse is not finite.
+fn some_dyad(random: &mut Random) -> Solid {
+    match random.below(8) {
+        0 => dyad(0.0, 1.0),
+        1 => dyad(1e-310, 1.0),
+        2..=4 => dyad(-1.0, 1.0 + random.unit()),
+        _ => dyad(-1.0, 1.0),
+    }
+}
+
 fn some_polygon(random: &mut Random) -> Solid {
     let n = random.among(3, 12);
     let size = 0.5 + random.below(4) as f64 * 0.5;
@@ -337,10 +348,21 @@ fn some_polychoron(random: &mut Random) -> Solid {
     }
 }
 
+/// A quadrangle whose first two columns are nearly parallel: mostly no flag passes, that of the identity neither.
+fn sliver(random: &mut Random) -> Solid {
+    let mut solid = polygon(&[1.0; 4], 1);
+    let x = 900.001 + 1e-3 * random.unit();
+    solid.points = vec![vec![1e3, 1.0], vec![9e5, x], vec![-1e6, 7.0], vec![3.0, -1e6]];
+    solid
+}
+
 /// A solid of any rank from 2 to 5, mostly 4 and 5. Half of those above rank 2 have a facet through the origin as facet 0.
 pub fn some_solid(random: &mut Random) -> Solid {
+    if random.once_in(80) {
+        return sliver(random);
+    }
     let mut solid = match random.below(20) {
-        0 => dyad(-1.0, if random.once_in(2) { 1.0 } else { 1.0 + random.unit() }),
+        0 => some_dyad(random),
         1..=4 => some_polygon(random),
         5..=12 => some_polyhedron(random),
         _ => some_polychoron(random),
@@ -388,11 +410,7 @@ pub fn some_solid(random: &mut Random) -> Solid {
 /// A facet whose hull goes through the origin.
 pub fn centred_facet(solid: &Solid) -> Option<usize> {
     let r = solid.rank() - 1;
-    (0..solid.count(r)).find(|f| {
-        let mut hull = crate::model::Hull::empty(solid.dimension);
-        solid.vertices(r, *f).iter().for_each(|v| hull.add(&solid.points[*v]));
-        hull.distance() <= crate::model::EPS
-    })
+    (0..solid.count(r)).find(|f| model::distance(solid, r, *f) <= model::EPS)
 }
 
 /// A solid with an element too few or too many, or with a list that is another's or lacks an entry: loose or mitred, mostly.

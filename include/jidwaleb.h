@@ -8,7 +8,7 @@
  * gives (crates/jidwaleb). Nothing checks these declarations against the source: they stand in its order.
  *
  * An answer is one number: JIDWALEB_REFUSAL(answer) is 0 where the call gave its result, and else one of the refusals below;
- * JIDWALEB_COUNT(answer) is how many types, members or copies it gave out.
+ * JIDWALEB_COUNT(answer) is how many types, members, rotations or copies it gave out.
  */
 #ifndef JIDWALEB_H
 #define JIDWALEB_H
@@ -36,7 +36,7 @@ enum jidwaleb_refusal {
     JIDWALEB_DOUBLE_CORNER = 9,  /* search: two vertices within 1e-7 on every axis */
     JIDWALEB_CENTRED = 10,       /* search: no facet further than 1e-7 from the origin */
     JIDWALEB_FLAT = 11,          /* search: the first columns are singular, or their inverse is not finite */
-    JIDWALEB_BLANK = 12,         /* search: no member passes; in copying, no points or no matrices */
+    JIDWALEB_BLANK = 12,         /* search: no member passes, or no rotation; in copying, no points or no matrices */
     JIDWALEB_SHORT_SHEET = 13,   /* what there is to give out exceeds its buffer; in copying, also more than 2,048 copies */
     JIDWALEB_OPEN = 14,          /* copying: an image isn't among the copies */
     JIDWALEB_UNSETTLED = 15      /* the sweeps don't end: no sheet brings this about */
@@ -64,15 +64,16 @@ uint64_t jidwaleb_types(const uint8_t *sheet, size_t sheet_length,
                         uint16_t *of, size_t of_length,
                         uint16_t *table, size_t table_length);
 
-/* The symmetries of a solid: its members (document 01, section 6), and those of determinant above 0, its rotations.
+/* The symmetries of a solid: its members (document 01, section 6).
  *
  * sheet, words, floats  as for the types. D is the sheet's dimension, and V its number of vertices.
  * matrices       the members' matrices, D * D floats each, row by row.
  * rows           V cells a member: the vertex that each vertex goes to.
- * marks          a cell a member: 1 where it is confirmed, and else 0. A confirmed member takes every proper element to one of its rank and
- *                distance class, and its subs onto that one's subs; and no two elements of a rank have the same vertices.
+ * marks          a cell a member: 1 where it is confirmed, and else 0. It is confirmed exactly when all of this holds in the solid as read: no
+ *                two elements of a rank have the same set of vertices; the member's row repeats no vertex; every proper element goes to one of
+ *                its rank and distance class, the one whose set of vertices is the image of its own; and its subs go exactly onto that one's.
  *
- * There is at most one member for each flag of the solid. Members come in the order of flags; the rotations are those members, in that order.
+ * There is at most one member for each flag of the solid. Members come in the order of flags.
  *
  * The count is the number of members. Refusals, in the order in which they are judged: 1 to 4 as the fields come, 7, 5, 6, 8, 9, 10, 15, 11,
  * 12, 13. At 13 the count is how many whole members fitted, and these are written. At each of the others it is 0, and the outputs are as they
@@ -85,6 +86,13 @@ uint64_t jidwaleb_search(const uint8_t *sheet, size_t sheet_length,
                          uint16_t *rows, size_t rows_length,
                          uint8_t *marks, size_t marks_length);
 
+/* The rotations of a solid: those of its members whose determinant is above 0, in the members' order. All buffers are as for the search, with
+ * rotations in the place of members.
+ *
+ * The count is the number of rotations. Refusals are those of the search, in its order: 12 says that there is no rotation, though there may be
+ * members; 13 that the rotations exceed their buffers, in which other members take no room. At 13 the count is how many whole rotations fitted,
+ * and these are written. At each of the others it is 0, and the outputs are as they were. Cells behind what is written are as they were.
+ */
 uint64_t jidwaleb_rotations(const uint8_t *sheet, size_t sheet_length,
                             uint32_t *words, size_t words_length,
                             double *floats, size_t floats_length,

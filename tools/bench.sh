@@ -1,6 +1,9 @@
 #!/bin/sh
-# bench.sh: times of the static library and of the Rust of oracle/ on the same input (compare/bench.rs). Needs rt and rustc.
+# bench.sh: times of the static library and of the Rust of oracle/ on the same input (compare/bench.rs); then those of crate `float` and of large
+# sheets. Needs rt and rustc, and gcc and python3 for the last two.
 set -e
 cd "$(dirname "$0")/.."
 sh compare/build.sh
 target/compare/compare bench
+sh tools/bench_float.sh
+sh tools/bench_sheets.sh

@@ -1,15 +1,27 @@
 #!/bin/sh
-# kit_test.sh: holds what the built program `kit` prints for each sample sheet to the sample's .kit file. The last line counts.
+# kit_test.sh: holds what the built program `kit` prints for each sample sheet to the sample's .kit file; then for no bytes at all, and for a sheet
+# with bytes after it. The samples dihedron-8192, dihedron-8193 and polygon-420 are whole sheets of 8,192 bytes, of 8,193 and of more. The last
+# line counts.
 set -u
 cd "$(dirname "$0")/.." || exit 1
 alike=0 failed=0
-for sheet in samples/*.sheet; do
-    if target/bin/kit < "$sheet" | diff "${sheet%.sheet}.kit" - > target/kit.diff; then
+# hold NAME EXPECTED: what `kit` prints for standard input is what the file EXPECTED holds
+hold() {
+    if target/bin/kit | diff "$2" - > target/kit.diff; then
         alike=$((alike + 1))
     else
-        echo "kit_test: $sheet:"; cat target/kit.diff
+        echo "kit_test: $1:"; cat target/kit.diff
         failed=$((failed + 1))
     fi
+}
+for sheet in samples/*.sheet; do
+    hold "$sheet" "${sheet%.sheet}.kit" < "$sheet"
+done
+echo "refused 1" > target/kit.refused
+hold "no bytes" target/kit.refused < /dev/null
+for size in 86 8192 8193; do
+    { cat samples/trial-square.sheet; head -c $((size - 85)) /dev/zero; } > target/kit.sheet
+    hold "the square, $size bytes in all" target/kit.refused < target/kit.sheet
 done
 echo "kit_test: $alike alike, $failed not"
 [ "$failed" -eq 0 ]

@@ -1,9 +1,10 @@
-/* link_test SHEET: what `kit` prints for a sheet, in the space that `kit` lends.
+/* link_test SHEET: what `kit` prints for a sheet, in the space that `kit` lends; it too refuses a sheet of more than 8,192 bytes.
  * link_test: a point copied by quarter turns, and by one of them alone. */
 #include <stdio.h>
 #include "jidwaleb.h"
 
-static uint8_t sheet[8193];
+enum { LONGEST = 8192 };
+static uint8_t sheet[LONGEST + 1];
 static uint32_t words[4096];
 static double floats[2048];
 static uint16_t of[256], table[4 * 256];
@@ -29,6 +30,10 @@ static int kit(const char *path) {
     if (!file) return 1;
     size_t length = fread(sheet, 1, sizeof sheet, file);
     fclose(file);
+    if (length > LONGEST) {
+        printf("refused %u\n", JIDWALEB_CUT_SHEET);
+        return 0;
+    }
     uint64_t answer = jidwaleb_types(sheet, length, words, 4096, floats, 2048, of, 256, table, 4 * 256);
     if (JIDWALEB_REFUSAL(answer)) {
         printf("refused %u\n", JIDWALEB_REFUSAL(answer));

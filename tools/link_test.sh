@@ -1,6 +1,6 @@
 #!/bin/sh
 # link_test.sh: links the static library from C (include/) and from Rust (rust/), and holds what both print for the sample sheets to the
-# samples' .kit files. Needs rt, cc and rustc. The last line counts.
+# samples' .kit files; sheets of 8,192 bytes and more are among them. Needs rt, cc and rustc. The last line counts.
 set -e
 cd "$(dirname "$0")/.."
 work=target/link
@@ -26,6 +26,9 @@ for sheet in samples/*.sheet; do
     cp "${sheet%.sheet}.kit" "$work/expected"
     hold "$sheet" "$sheet"
 done
+echo "refused 1" > "$work/expected"
+: > "$work/empty.sheet"
+hold "no bytes" "$work/empty.sheet"
 printf 'copies 4\nquarter turn 1 2 3 0\nrefused 14: open\n' > "$work/expected"
 hold copying
 echo "link_test: $alike alike, $failed not"

@@ -11,7 +11,10 @@ and table alone, in another language and another shape than the program. On clea
 The copyings: the 48 on seeds of every kind of place and on several at once; cyclic and dihedral groups in two dimensions; one dimension;
 four dimensions with the 120 unit icosians, the 192 rotations of a tesseract and double turns; points at, just within and just past EPS of
 another; every refusal at its boundary and each before the next; both outputs one short, exactly full, empty and with cells to spare; 2,048
-copies and more; random seeds (Python's random, seed 20261115).
+copies and more; random seeds (Python's random, seed 20261115). For the guesses of crate `lookup`: points of which some have a twin further off
+than EPS by little, under a matrix whose images are near both; counts of copies about those where its ways part; many seeds under the identity.
+
+After them the program hands out its table of 48; here it is made by the rule, order by dictionary rank and signs by bits.
 """
 import itertools
 import math
@@ -166,6 +169,33 @@ def icosians():
         yield [a, -b, -c, -d, b, a, -d, c, c, d, a, -b, d, -c, b, a]
 
 
+def identity(d):
+    return [float(i == j) for i in range(d) for j in range(d)]
+
+
+def twins(rng, d, n, pairs, axis, other):
+    """n points, some of them twins 1.5e-7 apart on an axis; and a matrix that moves all by 9e-8 along it, where the other axis is at 1, or back, at -1.
+    So the image of a lower twin, or of an upper one, is near both. Which of two has the lower number is left to chance."""
+    points = []
+    for k in range(n - pairs):
+        p = [rng.uniform(-9, 9) for _ in range(d)]
+        p[axis], p[other] = 20 + 100 * k / n + rng.random() / n, rng.choice((1.0, -1.0))
+        points.append(p)
+    points += [[x + 1.5e-7 * (i == axis) for i, x in enumerate(p)] for p in points[:pairs]]
+    rng.shuffle(points)
+    moved = identity(d)
+    moved[d * axis + other] = 9e-8
+    return flat(points), moved
+
+
+def diagonal_twins(rng, n, pairs):
+    """The same about points of equal coordinates, in two dimensions: so that one axis can pass for the other."""
+    points = [[t, t] for t in (70 + 50 * (k + rng.random() / 2) / n for k in range(n - pairs))]
+    points += [[x, y + 1.5e-7] for x, y in points[:pairs]]
+    rng.shuffle(points)
+    return flat(points), [1.0, 0.0, 8e-10, 1.0]
+
+
 def flat(lists):
     return [x for l in lists for x in l]
 
@@ -217,6 +247,27 @@ def cases():
     yield 1, [1e-7], [1.0, -1.0, 0.0], *ample
     yield 2, [0.0, 5.0, 8e-8, 0.0], [1.0, 0.0, 0.0, 1.0, 1.0, -1e-8, 0.0, 1.0], *ample
     yield 1, [0.0, 2e-7, 1e-7], [1.0], *ample
+    # twins that are apart, yet not lone; images near both
+    for d, n, pairs, axis, other in ((2, 40, 8, 1, 0), (2, 40, 16, 0, 1), (3, 40, 12, 2, 0), (4, 33, 10, 1, 3), (2, 300, 60, 1, 0)):
+        points, moved = twins(rng, d, n, pairs, axis, other)
+        yield d, points, identity(d), *ample
+        yield d, points, identity(d) + moved, *ample
+    points, moved = diagonal_twins(rng, 40, 16)
+    yield 2, points, identity(2), *ample
+    yield 2, points, identity(2) + moved, *ample
+    # as many copies as are compared one by one, one more, and two
+    for n in (31, 32, 33):
+        yield 2, [1.0, 0.0], flat(cyclic(n)), *ample
+        yield 3, [rng.uniform(-9, 9) for _ in range(3 * n)], identity(3), *ample
+    # 256 and 2,048 copies, and one more with the origin
+    for seeds in (32, MOST // 8):
+        points = [rng.uniform(-9, 9) for _ in range(2 * seeds)]
+        yield 2, points, flat(cyclic(8)), 16 * seeds, 64 * seeds
+        yield 2, points + [0.0, 0.0], flat(cyclic(8)), 16 * seeds + 2, 64 * seeds + 8
+    # many seeds under the identity, some of them twice
+    for d, n in ((1, 700), (2, 1000), (3, 257), (4, 256), (4, 800)):
+        points = [rng.uniform(-1000, 1000) for _ in range(d * n)]
+        yield d, points + points[:4 * d], identity(d), *ample
     # 2, also before 1
     for d in (0, 5, 6, 8, 1 << 32, (1 << 64) - 1):
         yield d, [1.0] * 8, [1.0] * 64, 9, 9
@@ -284,6 +335,7 @@ def main():
             numbers.append(number)
             answers.write(struct.pack(">2Q", number, count))
             answers.write(b"".join(struct.pack(">Q", pattern(x)) for x in copies) + b"".join(struct.pack(">H", k) for k in table))
+        answers.write(b"".join(struct.pack(">Q", pattern(x)) for x in flat(signed_orders(3))))
     print(len(numbers), "copyings;", ", ".join(f"{numbers.count(k)} of {k}" for k in sorted(set(numbers))) + ";", rust.asked, "asked of the oracle")
 
 

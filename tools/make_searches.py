@@ -6,15 +6,19 @@ Run once; the files are kept.
 
 Every sheet is answered by the model in tools/search_model.py, and where it is clean (document 01, section 6) and passes up to refusal 9
 the oracle, which is the Rust itself, is asked too: matrices and rows, to the bit, have to be the same, and so has the way in which there
-are none. The Rust has no marks and no refusals: these are the model's alone. Outputs are stored as digests, a few bytes for each: all their
-cells would be some megabytes.
+are none. The Rust has no marks and no refusals: these are the model's alone. Where a solid has few members (FEW) its search and rotations are
+stored whole too, with every matrix, row and mark, but for those of `changed`, `spoilt` and `slivers`; it asserts that these are at least 150
+clean solids, and prints how many. All other outputs are stored as digests, a few bytes for each: their cells would be some megabytes.
+
+Each call is also answered by the model's slips (a clause left out or changed), and for each slip at least one stored call has to have another
+answer; it prints how many have.
 
 The solids: dyads; polygons, stars, isogons, boxes; the regular, some uniform and the Kepler-Poinsot solids; prisms, pyramids, bipyramids,
 duoprisms, also over stars; compounds; solids with facet 0 through the origin, of rank 3, 4 and 5; disphenoids; dihedra and pleated
 solids, where two elements have one vertex set; all regular polychora of up to 24 vertices; many of these turned, scaled, moved and
-relabelled (Python's random, seed 20261115). Then each refusal: those before 8 by a few sheets, 8 to 12 by several each and at their
-boundaries, 13 with each output one short, empty and just enough; and corners and distances about EPS apart. Each sheet goes through both
-calls.
+relabelled (Python's random, seed 20261115). A few are made for one clause of the search or of the mark alone. Then each refusal: those
+before 8 by a few sheets, 8 to 12 by several each and at their boundaries, 13 with each output one short, empty and just enough; and corners
+and distances about EPS apart. Each sheet goes through both calls.
 """
 import functools
 import itertools
@@ -28,12 +32,16 @@ import sys
 TOP = os.path.dirname(os.path.dirname(os.path.abspath(__file__)))
 from pack_sheet import pack
 from make_sheets import judge
-from search_model import EPS, Searched, answer, determinant, unpack
+from search_model import EPS, SLIPS, Searched, answer, determinant, unpack
 
 # what the program has room for, and what it fills each output with
 LIMITS = 8192, 16384, 2048, 20480, 32768, 2048
 BEFORE = lambda i: 0x7000000000000000 + i % 65536, lambda i: 60000 + i % 4096, lambda i: 2 + i % 250
 GOLDEN = (1 + math.sqrt(5)) / 2
+# of a digest
+BASE, PRIME = 1_000_003, (1 << 44) - 17
+# up to how many members a search is stored whole, and rotations
+FEW = 48, 12
 
 
 # ---- building
@@ -242,6 +250,47 @@ def tetrahemihexahedron():
     return Shape(points, [edges, squares + triangles])
 
 
+def squares(height):
+    """Three squares at one height: on the first the square and the two bows of its corners. Each bow is one face with one of the others, which
+    are faces alone too. The quarter turn takes each face's corners to a face's corners, but one bow to the other: the subs tell."""
+    flat = polygon(4), polygon(4).scaled(2), polygon(4, 1, (2.0,), 0.5)
+    sides = [[[4 * k + i, 4 * k + (i + 1) % 4] for i in range(4)] for k in range(3)]
+    one, other = [6, 7, 8, 9], [10, 11, 12, 13]
+    return Shape([p + [height] for s in flat for p in s.points],
+                 [sides[0] + [[0, 2], [1, 3]] + sides[1] + sides[2], [[0, 1, 2, 3], [0, 2, 4, 5] + one, [1, 3, 4, 5] + other, one, other]])
+
+
+def bow(size, one, other):
+    """A crossed quadrilateral, its edges 0 and 2 as far as this from the origin."""
+    a, b = one / math.sqrt(2), other / math.sqrt(2)
+    return ring([(size + a, size - a), (a - size, -size - a), (size + b, b - size), (b - size, size + b)])
+
+
+def tangle():
+    """The eight lines of an octagram, each with two outer and two inner corners, joined in pairs: on the last line each outer one with the inner
+    one near it, else with the other. Neither distances nor types tell: turns take the first edge to an edge, and not every one of its type."""
+    inner = polygon(8, 1, (math.sqrt(2) * math.cos(3 * math.pi / 8),))
+    pairs = [[[(k + 1) % 8, 8 + (k + side) % 8], [(k - 2) % 8, 8 + (k - side) % 8]] for k in range(8) for side in ([-1] if k < 7 else [1])]
+    return Shape(polygon(8, 1, (1.0,), 0.5).points + inner.points, [sum(pairs, [])])
+
+
+def thin():
+    """A quadrilateral with corners 1.5 EPS apart, a triangle on three of its corners, and the triangle's mirror image; each with its back. The
+    mirror takes the quadrilateral onto a triangle, one corner twice."""
+    return Shape([(-1, 1, 0.3), (-1, -1, 0.2), (-1, 0.75 * EPS, 0.5), (-1, -0.75 * EPS, 0.5), (1, 1, 0.3), (1, -1, 0.2), (1, 0, 0.5)],
+                 [[[0, 2], [1, 2], [1, 3], [0, 3], [0, 2], [1, 2], [0, 1], [4, 6], [5, 6], [4, 5]],
+                  [[0, 1, 2, 3]] * 2 + [[4, 5, 6]] * 2 + [[7, 8, 9]] * 2])
+
+
+def two_bows(first):
+    """Edges 0, 1 and 3 pass the origin at 0.5, 0.02 (or these two the other way round) and 1.04 EPS. The last two share a class exactly when the
+    one at 0.5 is listed before the one at 0.02, and the exchange, of edges 0 and 2, turns that order round."""
+    shape = compound(bow(2.0, 0.5 * EPS, 0.5 * EPS), bow(1.0, 0.02 * EPS, 1.04 * EPS), polygon(4).scaled(4))
+    order = [4 * first, 4 - 4 * first, 8, 6]
+    order += [e for e in range(12) if e not in order]
+    return shape.renumbered(2, [order.index(e) for e in range(12)])
+
+
 def turn(rng, d):
     """An orthogonal matrix."""
     rows = []
@@ -281,6 +330,7 @@ def plane_solids(rng):
     yield compound(polygon(4).sunk(0), polygon(3).scaled(5))
     yield compound(polygon(4).scaled(3), ring([(1, 1), (-1, 1), (1, -1), (-1, -1)]))
     yield compound(polygon(8), polygon(8, 3).scaled(0.5), ring([(3, 0), (-3, 0), (0, 3), (0, -3)]))
+    yield compound(polygon(4).scaled(3), tangle())
 
 
 def round_solids():
@@ -344,9 +394,11 @@ def space_solids(rng, named):
     yield compound(disphenoid(1, 1, 1.4), disphenoid(1, 1, 1.4).scaled(-1))
     yield compound(tetrahedron, tetrahedron.turned(turn(rng, 3)), tetrahedron.turned(turn(rng, 3)))
     # corners of more symmetry than the edges or the faces on them, beside a cube
-    hemi, bow = tetrahemihexahedron(), ring([(1, 1), (-1, 1), (1, -1), (-1, -1)])
+    hemi, crossed = tetrahemihexahedron(), ring([(1, 1), (-1, 1), (1, -1), (-1, -1)])
     yield compound(cube.scaled(3), hemi)
-    yield compound(cube.scaled(3), prism(bow))
+    yield compound(cube.scaled(3), prism(crossed))
+    yield compound(cube.scaled(3), dihedron(crossed, 0.5))
+    yield compound(cube.scaled(3), pleated(cube, 0))
     yield compound(octahedron.scaled(5), cube, tetrahedron.scaled(0.5))
     # facets through the origin
     yield from (hemi, hemi.facet_first(3), hemi.renumbered(3, [6, 5, 4, 3, 2, 1, 0]), hemi.relabelled(rng), hemi.relabelled(rng), hemi.scaled(1, 2, 3))
@@ -367,6 +419,8 @@ def space_solids(rng, named):
     yield pleated(cube, 0).relabelled(rng)
     yield from (dihedron(polygon(n), 0.5) for n in (3, 4, 6))
     yield dihedron(polygon(5, 2), -1.0)
+    # faces that the corners, and the edges among them, don't tell
+    yield from (squares(1.0), squares(-3.0).relabelled(rng))
 
 
 def four_solids(rng, named):
@@ -465,8 +519,9 @@ def spoilt(named):
     yield dihedron(prism(ring([(0, 0), (1, 0), (1, 1), (0, 1)])), 1.0).sheet()
 
 
-def unclean():
+def unclean(named):
     """Near corners and near distances, where the model alone answers."""
+    yield compound(named["cube"].scaled(3), thin()).sheet()
     yield ring([(-9e-8, 1), (9e-8, 0), (1, 0)]).sheet()
     yield ring([(0, 1), (1, 0), (8e-8, -1), (-1, 0)]).sheet()
     yield dyad(1.1e-7, -0.5e-7).sheet()
@@ -480,7 +535,11 @@ def unclean():
     yield dihedron(ring([(2 * EPS, 0), (2 * EPS, 1), (EPS, 0.5)]), 0.0).sheet()
     yield polygon(3).scaled(1.5 * EPS).sheet()
     # the mirror takes both triangles to the first: all elements go well, but the row repeats vertices
-    yield compound(polygon(4).scaled(3), polygon(3).shifted((0, -0.3 * EPS)), polygon(3).shifted((0, 0.8 * EPS))).sheet()
+    folding = compound(polygon(4).scaled(3), polygon(3).shifted((0, -0.3 * EPS)), polygon(3).shifted((0, 0.8 * EPS)))
+    yield from (p.sheet() for p in (folding, folding.scaled(1, -1)))
+    yield compound(polygon(4).scaled(3), polygon(4).shifted((0, -0.3 * EPS)), polygon(4).shifted((0, 0.8 * EPS))).sheet()
+    # the order in which facets' distances are listed
+    yield from (two_bows(first).sheet() for first in (0, 1))
     # members that shrink what parts the two: their rows repeat vertices
     for abc, apart in (((1, 1, 1.4), (0, 0, 1.2e-7)), ((1, 1, 0.5), (0, 1.2e-7, 0))):
         yield compound(disphenoid(*abc), disphenoid(*abc).shifted(apart)).sheet()
@@ -521,7 +580,7 @@ def pattern(x):
 def digest(pieces):
     state = 1
     for p in pieces:
-        state = (state * 65521 + p) % 281474976710597
+        state = (state * BASE + p) % PRIME
     return state
 
 
@@ -551,19 +610,24 @@ class Oracle:
 
 
 def sheets(rng):
-    """Each with how it is to be lent outputs: as much as the answer takes and a few cells, or in all the short ways too."""
+    """Each with how it is to be lent outputs: as much as the answer takes and a few cells ("ample"); also just as much, and answered whole where
+    members are few ("whole"); or also in all the short ways ("short")."""
     named = round_solids()
     plain = list(plane_solids(rng)) + list(space_solids(rng, named)) + list(four_solids(rng, named))
     small = [p for p in plain if p.rank < 5 or len(p.points) < 20]
-    for p in plain + list(changed(rng, rng.sample(small, 60))):
-        yield p.sheet(), False
+    for p in plain + [ring([(1, 1), (-1, 1), (-1, -1), (1, -1)])]:
+        yield p.sheet(), "whole"
+    for p in changed(rng, rng.sample(small, 60)):
+        yield p.sheet(), "ample"
     for p in (dyad(-1, 1), polygon(4), polygon(5, 2), disphenoid(1, 1, 1.4), tetrahemihexahedron(), pleated(named["cube"], 0), named["cube"].sunk(0),
               prism(polygon(3)), product(polygon(3), polygon(3)), pyramid(named["tetrahedron"], 0.0, 1.0)):
-        yield p.sheet(), True
-    for sheet in itertools.chain(spoilt(named), unclean()):
-        yield sheet, False
+        yield p.sheet(), "short"
+    for sheet in spoilt(named):
+        yield sheet, "ample"
+    for sheet in unclean(named):
+        yield sheet, "whole"
     for k, sheet in enumerate(slivers(rng)):
-        yield sheet, k % 5 == 0
+        yield sheet, "short" if k % 5 == 0 else "ample"
 
 
 def bench(sheet):
@@ -579,37 +643,65 @@ def bench(sheet):
 
 
 def records(rust, rng):
+    """Each a call's number, 2 more where it is to be answered whole; the sheet, and the lengths of what is lent."""
     ample = [1 << 30] * 3
-    for k, (sheet, short) in enumerate(sheets(rng)):
+
+    def needed(sheet, rotations):
+        return [len(out) for out in answer(sheet, 1 << 30, 1 << 30, ample, rotations, rust.searched)[2:]]
+
+    for k, (sheet, lent) in enumerate(sheets(rng)):
         words, floats = bench(sheet)
-        for rotations in (False, True):
-            need = [len(out) for out in answer(sheet, 1 << 30, 1 << 30, ample, rotations, rust.searched)[2:]]
+        for rotations in (0, 1):
+            need = needed(sheet, rotations)
             spare = k % 3 * 20
             yield rotations, sheet, words + spare, floats + spare, [n + more for n, more in zip(need, (3, 5, 7))]
-            if short:
+            if lent == "whole" and 0 < need[2] <= FEW[rotations]:
+                yield 2 + rotations, sheet, words, floats, need
+            if lent == "short":
                 for lengths in short_lengths(need):
                     yield rotations, sheet, words, floats, [max(n, 0) for n in lengths]
                 yield rotations, sheet, words - 1, floats, need
                 yield rotations, sheet, words, floats - 1, need
 
 
+def lines(number, count, outputs):
+    """The answer whole: the outputs are just filled."""
+    yield f"{number:05} {count:05}"
+    for out, form, of in zip(outputs, ("016x", "05", "05"), (count, count, 1)):
+        to_a_line = len(out) // of
+        yield from (" ".join(format(n, form) for n in out[i:i + to_a_line]) for i in range(0, len(out), to_a_line))
+
+
+def line(number, count, outputs):
+    matrices, rows, marks = outputs
+    pieces = [n >> shift & 65535 for n in matrices for shift in (48, 32, 16, 0)]
+    return f"{number:05} {count:05} {digest(pieces):016x} {digest(rows):016x} {digest(marks):016x}"
+
+
 def main():
     rust = Oracle(sys.argv[1])
+    slipping = {slip: functools.cache(lambda sheet, solid, slip=slip: Searched(solid, slip)) for slip in SLIPS}
     crate = f"{TOP}/crates/search_replay"
-    numbers, solids = [], set()
-    with open(f"{crate}/stdin", "wb") as given, open(f"{crate}/stdout", "wb") as answers:
-        for rotations, sheet, words, floats, lengths in records(rust, random.Random(20261115)):
+    numbers, solids, whole, told = [], set(), set(), dict.fromkeys(SLIPS, 0)
+    with open(f"{crate}/stdin", "wb") as given, open(f"{crate}/stdout", "w") as answers:
+        for call, sheet, words, floats, lengths in records(rust, random.Random(20261115)):
             assert all(n <= limit for n, limit in zip((len(sheet), words, floats, *lengths), LIMITS)), (len(sheet), words, floats, lengths)
-            given.write(struct.pack(">7Q", rotations, len(sheet), words, floats, *lengths) + sheet)
-            number, count, *outputs = answer(sheet, words, floats, lengths, rotations, rust.searched)
+            given.write(struct.pack(">7Q", call, len(sheet), words, floats, *lengths) + sheet)
+            number, count, *outputs = right = answer(sheet, words, floats, lengths, call % 2, rust.searched)
             outputs[0] = [pattern(x) for x in outputs[0]]
-            matrices, rows, marks = (now + [before(i) for i in range(len(now), n)] for now, before, n in zip(outputs, BEFORE, lengths))
-            pieces = [n >> shift & 65535 for n in matrices for shift in (48, 32, 16, 0)]
-            answers.write(struct.pack(">5Q", number, count, digest(pieces), digest(rows), digest(marks)))
+            outputs = [now + [before(i) for i in range(len(now), n)] for now, before, n in zip(outputs, BEFORE, lengths)]
+            answers.writelines(l + "\n" for l in (lines(number, count, outputs) if call > 1 else [line(number, count, outputs)]))
+            for slip, searched in slipping.items():
+                told[slip] += answer(sheet, words, floats, lengths, call % 2, searched) != right
             numbers.append(number)
             solids.add(sheet)
-    print(len(numbers), "calls on", len(solids), "sheets;", ", ".join(f"{numbers.count(k)} of {k}" for k in sorted(set(numbers))) + ";",
-          rust.asked, "asked of the oracle")
+            if call == 2 and rust.searched(sheet, unpack(sheet)[2]).clean:
+                whole.add(sheet)
+    assert all(told.values()), told
+    assert len(whole) >= 150, len(whole)
+    print(len(numbers), "calls on", len(solids), "sheets;", len(whole), "clean solids whole;",
+          ", ".join(f"{numbers.count(k)} of {k}" for k in sorted(set(numbers))) + ";",
+          rust.asked, "asked of the oracle; calls that tell a slip:", ", ".join(f"{slip} {n}" for slip, n in told.items()))
 
 
 if __name__ == "__main__":

@@ -1,5 +1,7 @@
 """Search and rotations as document 01 says them, sections 1 to 6 and the table: written from its sentences alone, in another language and
-another shape than the program. tools/make_searches.py answers by it."""
+another shape than the program. tools/make_searches.py answers by it.
+
+A slip is a clause left out or changed, and makes another search: make_searches.py asks whether its stored calls tell each from the right one."""
 import functools
 import itertools
 import math
@@ -9,6 +11,14 @@ import struct
 from make_sheets import judge
 
 EPS = 1e-7
+SLIPS = {
+    "examples": "a flag passes without the clause of the types' examples",
+    "classes": "the mark does not ask for the distance class",
+    "subs": "the mark does not ask where the subs go",
+    "repeats": "the mark does not ask that the row repeats no vertex",
+    "twins": "the mark lets two elements of a rank have one vertex set, and takes the first",
+    "exchanged": "the mark is of the solid with its facets exchanged",
+}
 
 
 class Solid:
@@ -203,10 +213,10 @@ def find(points, q):
 
 
 class Searched:
-    """The refusal's number, or 0; the members' matrices and rows; and whether the solid is clean."""
+    """The refusal's number, or 0; the members' matrices and rows; whether the solid is clean; and the solid of the marks."""
 
-    def __init__(self, solid):
-        self.members, self.images, self.clean = [], [], True
+    def __init__(self, solid, slip=None):
+        self.members, self.images, self.clean, self.slip, self.marked = [], [], True, slip, solid
         self.refusal = self.judged(solid)
 
     def judged(self, solid):
@@ -216,6 +226,8 @@ class Searched:
         if not far:
             return 10
         exchanged = solid.exchanged(far[0])
+        if self.slip == "exchanged":
+            self.marked = exchanged
         first = next(flags(exchanged))
         inverse = eliminated(columns(exchanged, first))[2]
         if inverse is None:
@@ -237,7 +249,7 @@ class Searched:
             images = [[dot(row, p) for row in matrix] for p in solid.points]
             self.images += images
             row = [find(solid.points, q) for q in images]
-            if None not in row and all(sorted(row[v] for v in vs) in solid.vertices[r] for r, vs in examples):
+            if None not in row and (self.slip == "examples" or all(sorted(row[v] for v in vs) in solid.vertices[r] for r, vs in examples)):
                 self.members.append((matrix, row))
 
 
@@ -259,13 +271,13 @@ def transitive(points):
     return True
 
 
-def mark(solid, row):
+def mark(solid, row, slip=None):
     """In the solid as read."""
     of_class = classes(solid)[0]
     for r in solid.proper():
-        if len({tuple(vs) for vs in solid.vertices[r]}) < len(solid.vertices[r]):
+        if slip != "twins" and len({tuple(vs) for vs in solid.vertices[r]}) < len(solid.vertices[r]):
             return 0
-    if len(set(row)) < len(row):
+    if slip != "repeats" and len(set(row)) < len(row):
         return 0
     goes = [[0]]
     for r in solid.proper():
@@ -275,7 +287,9 @@ def mark(solid, row):
             if image not in solid.vertices[r]:
                 return 0
             to = solid.vertices[r].index(image)
-            if of_class[r - 1][to] != of_class[r - 1][e] or sorted(goes[r - 1][s] for s in solid.subs[r][e]) != solid.subs[r][to]:
+            if slip != "classes" and of_class[r - 1][to] != of_class[r - 1][e]:
+                return 0
+            if slip != "subs" and sorted(goes[r - 1][s] for s in solid.subs[r][e]) != solid.subs[r][to]:
                 return 0
             goes[r].append(to)
     return 1
@@ -297,5 +311,5 @@ def answer(sheet, words, floats, lengths, rotations, searched):
         return 12, 0, [], [], []
     fit = min(len(members), lengths[0] // dimension ** 2, lengths[1] // len(solid.points), lengths[2])
     kept = members[:fit]
-    outputs = [x for m, _ in kept for r in m for x in r], [v for _, row in kept for v in row], [mark(solid, row) for _, row in kept]
+    outputs = [x for m, _ in kept for r in m for x in r], [v for _, row in kept for v in row], [mark(found.marked, row, found.slip) for _, row in kept]
     return 13 if fit < len(members) else 0, fit, *outputs

@@ -1,7 +1,9 @@
-//! kit SHEET: what `kit` prints for a sheet, in the space that `kit` lends.
+//! kit SHEET: what `kit` prints for a sheet, in the space that `kit` lends; it too refuses a sheet of more than 8,192 bytes.
 //! kit: a point copied by quarter turns, and by one of them alone.
 
 use jidwaleb::{copy, rotations, rotations_into, search, search_into, types, types_into, Outputs, Refusal, Result};
+
+const LONGEST: usize = 8192;
 
 /// The count of types, and a line for each: rank, type, example, count.
 fn type_lines(sheet: &[u8]) -> Result<String> {
@@ -44,6 +46,9 @@ fn members_line(sheet: &[u8]) -> Result<String> {
 fn main() {
     if let Some(path) = std::env::args().nth(1) {
         let sheet = std::fs::read(&path).expect("a sheet");
+        if sheet.len() > LONGEST {
+            return println!("refused {}", Refusal::CutSheet.number());
+        }
         for lines in [type_lines, members_line] {
             match lines(&sheet) {
                 Ok(text) => print!("{}", text),

@@ -132,12 +132,13 @@ impl std::error::Error for Refused {}
 
 pub type Result<T> = std::result::Result<T, Refused>;
 
-/// The refusal's number stands above the count.
+/// The refusal's number stands above the count, 0 where there is none.
 fn answered(code: u64) -> Result<usize> {
-    let count = (code & 0xffff_ffff) as usize;
-    match Refusal::of_number(code >> 32) {
-        None => Ok(count),
+    let (number, count) = (code >> 32, (code & 0xffff_ffff) as usize);
+    match Refusal::of_number(number) {
+        _ if number == 0 => Ok(count),
         Some(why) => Err(Refused { why, kept: count }),
+        None => panic!("libjidwaleb.a answered refusal {}, which this wrapper does not know: are they of one version?", number),
     }
 }
 
@@ -300,14 +301,18 @@ pub struct Copies {
     pub table: Vec<u16>,
 }
 
-/// At most 2,048 copies.
+/// At most 2,048 copies. They are made twice: at first to count them.
 pub fn copy(dimension: usize, points: &[f64], turns: &[f64]) -> Result<Copies> {
     // a dimension that is none is refused whatever is lent
     let d = dimension.clamp(1, 4);
-    let count = turns.len() / (d * d);
-    let (mut copies, mut table) = (vec![0.0; 2048 * d], vec![0; 2048 * count]);
-    let n = copy_into(dimension, points, turns, &mut copies, &mut table)?;
+    let mut copies = vec![0.0; 2048 * d];
+    // without a table, 13 says how many copies there are, and so how long a table they need; where there are more than 2,048, it comes again
+    let n = match copy_into(dimension, points, turns, &mut copies, &mut []) {
+        Err(Refused { why: Refusal::ShortSheet, kept }) => kept,
+        answer => answer?,
+    };
+    let mut table = vec![0; n * (turns.len() / (d * d))];
+    copy_into(dimension, points, turns, &mut copies, &mut table)?;
     copies.truncate(n * d);
-    table.truncate(n * count);
     Ok(Copies { points: copies, table })
 }

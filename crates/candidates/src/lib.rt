@@ -13,6 +13,7 @@ ghost use Rattle.spec.specs.Solid.{diamond};
 ghost use Rattle.spec.specs.Flags.{IsFlag};
 ghost use Rattle.spec.specs.Search.{flagColumns, rowOf, allFinite};
 ghost use Rattle.float.specs.Reading.{corner};
+ghost use Rattle.lookup.specs.Points.{Apart, Lone};
 ghost use Rattle.ranked.specs.Words.{total, solidIn, Held};
 ghost use Rattle.distances.specs.Solids.{coordinates, solidOn};
 ghost use Rattle.element_types.specs.State.{stateIn};
@@ -23,6 +24,8 @@ use float::DIMENSION;
 use float::matrix;
 use float::points;
 use float::tolerance;
+use lookup::PLACES;
+use lookup::found;
 use ranked::Shape;
 use ranked::lists;
 
@@ -113,16 +116,19 @@ pub fn row_of(
     points: &[f64],
     d: usize,
     n: usize,
+    lone: bool,
+    places: &[u16; PLACES],
     m: [[f64; DIMENSION]; DIMENSION],
     row: &mut [u16],
 ) -> bool
-    requires { ⌜ (d ≤ maxDimension) × (n ≤ maxCount) × (n * d ≤ length (now points)) × (n ≤ length (now row)) ⌝ }
+    requires { ⌜ (1 ≤ d) × (d ≤ maxDimension) × (n ≤ maxCount) × (n * d ≤ length (now points)) × (n ≤ length (now row)) × Apart (parts n d (now points)) ⌝ }
+    requires { ⌜ (lone ≡ true → Lone (parts n d (now points))) ⌝ }
     ensures { λ r. ⌜ Rowed n (rowOf (parts n d (now (points .entry))) (corner d m)) (now (row .exit)) r ⌝ }
 {
     let mut k: usize = 0;
     while k < n {
         let q = matrix::image(m, points::loaded(points, d, k), d);
-        let at = points::find(points, d, n, q);
+        let at = found(points, d, n, lone, places, q);
         if at == n {
             return false;
         }

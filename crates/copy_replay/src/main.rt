@@ -2,9 +2,10 @@
 // each, highest byte first; a float goes as its bit pattern. A record is the dimension, how many floats there are of points, how many of
 // turns, how long the two outputs are, and then those floats. Its answer is the refusal's number, or 0; the count; the output of copies;
 // the table. Both outputs are filled with numbers of the place beforehand, so that a cell that is to stay is seen to stay.
-// tools/make_copies.py made stdin and stdout.
+// After the last answer comes the table of 48. tools/make_copies.py made stdin and stdout.
 ghost use Prim.Native.Nat.{_<_, _≤_, _^_};
 ghost use lib.ListN.{length};
+use copying::axes;
 use float::bits;
 use spec::Answer;
 
@@ -177,6 +178,13 @@ fn replay_one(
     )
 }
 
+// The table of 48, row by row.
+fn write_table() {
+    let table = axes::axis_orders();
+    let turns = axes::axis_turns(&table);
+    write_floats(&turns);
+}
+
 fn main() {
     let mut points = [0.0; POINTS];
     let mut turns = [0.0; TURNS];
@@ -186,4 +194,5 @@ fn main() {
     while left > 0 && replay_one(&mut points, &mut turns, &mut copies, &mut table) {
         left -= 1;
     }
+    write_table();
 }

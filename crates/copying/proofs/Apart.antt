@@ -1,22 +1,18 @@
--- The copies are apart, so one that is near itself is found at its own number.
+-- The copies are apart, since one that is found does not join.
 -- Assumes nothing.
-use mathlib.Core.Path.{_≡_, refl, sym, ap, ap₂, _∙_}
+use mathlib.Core.Path.{_≡_, refl, ap, ap₂, _∙_}
 use mathlib.Core.Bool.{Bool, true, false}
 use mathlib.Core.List.{List, [], _∷_, _++_}
-use Prim.Native.Nat.{ℕ, zero, suc, _+_, _*_, _≤_, _<_}
-use native.Mathlib.Numerals.{add-one}
+use Prim.Native.Nat.{ℕ, _+_, _<_}
 use native.Mathlib.Omega.{arith}
-use lib.ListN.{length, getD, take, drop, length-append, List·getD-append}
+use lib.ListN.{length, getD, length-append, List·getD-append}
 use lib.Seq.{getD-append-add}
 use lib.Dec.{ltb}
-use lib.Ieee.{Float}
 use borrow.Author.Tests.{ltb-true, ltb-false}
 use Rattle.spec.specs.Matrix.{Vector, Matrix, mulVec}
-use Rattle.spec.specs.Copying.{near, found, find, spread, copiesFrom, copies, parts}
+use Rattle.spec.specs.Copying.{near, found, spread, copiesFrom, copies}
 use Rattle.spec.proofs.CopyLaws.{not-found, not-lower}
-use Rattle.float.proofs.Parts.{length-parts, part-at}
-use Rattle.float.proofs.Nearness.{FoundFrom, found-none, found-on, found-here}
-use Rattle.copying.specs.Post.{Apart}
+use Rattle.lookup.specs.Points.{Apart}
 
 -- one more, that is not found
 joined : (cs : List Vector) (q : Vector) → Apart cs → found cs q ≡ false → Apart (cs ++ q ∷ [])
@@ -56,18 +52,3 @@ copies-from ms (p ∷ ps) cs a = go (found cs p) (copies-from ms ps cs a) (copie
 pub copies-apart : (ms : List Matrix) (ps : List Vector) → Apart (copies ms ps)
 unfolding copies
 copies-apart ms ps = copies-from ms ps [] none
-
--- ---- finding by a guess
-
-found-from : (ps : List Vector) (q : Vector) (k : ℕ) → k ≤ length ps → ((j : ℕ) → j < k → near (getD ps j []) q ≡ false) → FoundFrom ps q k
-found-from ps q zero h n = found-none
-found-from ps q (suc k) h n = rw add-one at (found-on (omega arith) (found-from ps q k (omega arith) (λ j g. n j (omega arith))) (n k (omega arith)))
-
--- a point that is copy k, and near it, is found at k
-pub own-number : (n d : ℕ) (l : List Float) (q : Vector) → Apart (parts n d l) → (k : ℕ) → k < n → take d (drop (k * d) l) ≡ q → near (take d (drop (k * d) l)) q ≡ true
-    → k ≡ find (parts n d l) q
-own-number n d l q a k h e t =
-    let cs = parts n d l in
-    let g : k < length cs = omega (arith, length-parts n d l) in
-    let c = part-at n d l k h in
-    found-here g (found-from cs q k (omega arith) (λ j i. ap (near (getD cs j [])) (sym (c ∙ e)) ∙ a .apart j k i g)) (ap (λ (v : Vector). near v q) c ∙ t)

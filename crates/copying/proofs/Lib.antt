@@ -5,6 +5,4 @@ pub mod Tables
 pub mod Judgements
 pub mod Outcome
 pub mod Flat
-pub mod PCases
 pub mod Apart
-pub mod Bits

@@ -1,22 +1,20 @@
 -- What the parts of the call hand back, in terms of document 01's definitions.
 -- Assumes nothing.
 use mathlib.Core.Path.{_≡_}
-use Prim.Native.Nat.{ℕ, _+_, _≤_, _<_}
+use Prim.Native.Nat.{ℕ, _≤_, _<_}
 use mathlib.Core.Bool.{Bool, true, false}
 use mathlib.Core.List.{List, [], _∷_, _++_}
-use lib.ListN.{length, getD, take, drop}
+use lib.ListN.{length, take, drop}
 use lib.Dec.{eqb}
 use lib.Ieee.{Float}
 use Rattle.copying.specs.declared.judging.Judgement.{Judgement}
 use Rattle.copying.specs.declared.judging.Judgement.the-variants.{Passed, Refused}
-use Rattle.copying.specs.declared.joining.Added.{Added}
-use Rattle.copying.specs.declared.joining.Added.the-variants.{Found, Joined, Full}
 use Rattle.copying.specs.declared.joining.Room.{Room}
 use Rattle.copying.specs.declared.joining.Room.the-variants as room
 use Rattle.spec.specs.Judged.{Judged, refused, passed}
 use Rattle.spec.specs.Lists.{join, holds}
 use Rattle.spec.specs.Matrix.{Vector, Matrix}
-use Rattle.spec.specs.Copying.{near, found, spread, parts, written}
+use Rattle.spec.specs.Copying.{found, spread, parts, written}
 
 -- the judgement that an answer of the code stands for
 abbrev pub judgementOf : Judgement → Judged (Unit {0})
@@ -30,16 +28,6 @@ withImage cs q = elim (found cs q) [ true ↦ cs | false ↦ cs ++ q ∷ [] ]
 -- the copies with the images of one point more, unless it is found among them
 unfoldable pub withPoint : List Matrix → List Vector → Vector → List Vector
 withPoint ms cs p = elim (found cs p) [ true ↦ cs | false ↦ spread ms p cs ]
-
--- the count of copies after one image, where there were n
-abbrev pub afterwards : ℕ → Added → Room
-afterwards n Found = room.Fits n
-afterwards n Joined = room.Fits (n + 1)
-afterwards n Full = room.Full
-
--- No point is near one before it. So are the copies, since one that is found does not join.
-pub record Apart (cs : List Vector) : Type 0 where
-  pub apart : (j k : ℕ) → j < k → k < length cs → near (getD cs j []) (getD cs k []) ≡ false
 
 -- A buffer holds all, n points of d floats, from its first cell on; there are at most limit, and the cells past them are as they were.
 pub record Fitting (d limit : ℕ) (all : List Vector) (before after : List Float) (n : ℕ) : Type 0 where

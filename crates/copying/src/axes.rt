@@ -1,7 +1,9 @@
 // "A constant table (added) has 48 signed axis orders in 3 dimensions: entry 8 times p + s, p the order's dictionary rank from 0 to 5, s three
 // sign bits, first axis highest, 1 minus; row i has its unit at the column the order names."
 ghost use mathlib.Core.Path.{_≡_};
-ghost use mathlib.Core.List.{map};
+ghost use mathlib.Core.List.{_++_, map};
+ghost use Prim.Native.Nat.{_*_, _≤_};
+ghost use lib.ListN.{length, drop};
 ghost use Rattle.spec.specs.Lists.{join};
 ghost use Rattle.spec.specs.Copying.{axisOrders};
 ghost use Rattle.float.specs.Reading.{corner};
@@ -299,24 +301,43 @@ const AXIS_ORDERS: [[[f64; DIMENSION]; DIMENSION]; 48] = [
     ],
 ];
 
-// The table. It is made anew at each call: a caller keeps it in a local and lends that.
+// The table. It is made anew at each call, so a caller makes it once, in a local, and lends that.
 pub fn axis_orders() -> [[[f64; DIMENSION]; DIMENSION]; 48]
     ensures { λ r. ⌜ map (corner 3) r ≡ axisOrders ⌝ }
 {
     AXIS_ORDERS
 }
 
-// The table as copying takes its matrices: nine floats each, row by row. It too is kept in a local and lent to every `copy`.
-pub fn axis_turns() -> [f64; 432]
-    ensures { λ r. ⌜ r ≡ join (join axisOrders) ⌝ }
+// The nine floats of a matrix that count, row by row, in the first cells.
+fn put_turn(out: &mut [f64], m: [[f64; DIMENSION]; DIMENSION])
+    requires { ⌜ 9 ≤ length (now out) ⌝ }
+    ensures { λ _. ⌜ now (out .exit) ≡ join (corner 3 m) ++ drop 9 (now (out .entry)) ⌝ }
 {
-    let t = axis_orders();
-    let mut r = [0.0; 432];
     let mut i: usize = 0;
-    while i < 432 {
-        let m = t[i / 9];
-        r[i] = m[i / 3 % 3][i % 3];
+    while i < 9 {
+        out[i] = m[i / 3][i % 3];
         i += 1;
     }
+}
+
+// Matrices one after another, row by row.
+fn put_turns(table: &[[[f64; DIMENSION]; DIMENSION]], out: &mut [f64])
+    requires { ⌜ length (now table) * 9 ≤ length (now out) ⌝ }
+    ensures { λ _. ⌜ now (out .exit) ≡ join (join (map (corner 3) (now (table .entry)))) ++ drop (length (now (table .entry)) * 9) (now (out .entry)) ⌝ }
+{
+    let mut k: usize = 0;
+    while k < table.len() {
+        let at = k * 9;
+        put_turn(&mut out[at..], table[k]);
+        k += 1;
+    }
+}
+
+// A lent table as copying takes its matrices: nine floats each. It too is kept in a local and lent to every `copy`.
+pub fn axis_turns(table: &[[[f64; DIMENSION]; DIMENSION]; 48]) -> [f64; 432]
+    ensures { λ r. ⌜ r ≡ join (join (map (corner 3) (now (table .entry)))) ⌝ }
+{
+    let mut r = [0.0; 432];
+    put_turns(table, &mut r);
     r
 }

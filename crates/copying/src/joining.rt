@@ -1,22 +1,15 @@
 // The copies: "A point not found among the copies is multiplied by every matrix in order; each image not found joins." They stand one
 // after another in a lent buffer, d floats each; limit is how many there may be.
 ghost use mathlib.Core.Path.{_≡_};
-ghost use Prim.Native.Nat.{_+_, _*_, _≤_};
+ghost use Prim.Native.Nat.{_*_, _≤_};
 ghost use lib.ListN.{length, take, drop};
 ghost use Rattle.spec.specs.Limits.{maxDimension};
 ghost use Rattle.spec.specs.Copying.{parts, spread as spreadOf, copies as copiesOf, points as pointsOf, matrices, written};
 ghost use Rattle.float.specs.Reading.{corner};
-ghost use Rattle.copying.specs.Post.{Kept, afterwards, withImage, withPoint};
+ghost use Rattle.copying.specs.Post.{Kept, withImage, withPoint};
 use float::DIMENSION;
 use float::matrix;
 use float::points;
-
-// What became of an image.
-pub enum Added {
-    Found,
-    Joined,
-    Full,
-}
 
 // How many copies there are, or that there is no room for them all.
 pub enum Room {
@@ -25,19 +18,20 @@ pub enum Room {
 }
 
 // One image: it joins after the n copies, unless it is found among them or there is no room.
-fn add(out: &mut [f64], d: usize, n: usize, limit: usize, q: [f64; DIMENSION]) -> Added
-    requires { ⌜ (d ≤ maxDimension) × (n ≤ limit) × (limit * d ≤ length (now out)) ⌝ }
-    ensures { λ r. ⌜ Kept d limit (withImage (parts n d (now (out .entry))) (take d q)) (now (out .entry)) (now (out .exit)) (afterwards n r) ⌝ }
+fn add(out: &mut [f64], d: usize, n: usize, limit: usize, q: [f64; DIMENSION]) -> Room
+    requires { ⌜ (1 ≤ d) × (d ≤ maxDimension) × (n ≤ limit) × (limit * d ≤ length (now out)) ⌝ }
+    ensures { λ r. ⌜ Kept d limit (withImage (parts n d (now (out .entry))) (take d q)) (now (out .entry)) (now (out .exit)) r ⌝ }
 {
     if points::find(out, d, n, q) < n {
-        return Added::Found;
+        return Room::Fits(n);
     }
-    if n < limit {
+    let more = n + 1;
+    if more <= limit {
         let end = n * d;
         points::put(&mut out[end..], q, d);
-        return Added::Joined;
+        return Room::Fits(more);
     }
-    Added::Full
+    Room::Full
 }
 
 // The images of p under every matrix in order.
@@ -57,15 +51,10 @@ fn spread(
     let mut j: usize = 0;
     while j < count {
         let q = matrix::image(points::matrix_at(turns, d, j), p, d);
-        match add(out, d, held, limit, q) {
-            Added::Found => {}
-            Added::Joined => {
-                held += 1;
-            }
-            Added::Full => {
-                return Room::Full;
-            }
-        }
+        let Room::Fits(more) = add(out, d, held, limit, q) else {
+            return Room::Full;
+        };
+        held = more;
         j += 1;
     }
     Room::Fits(held)

@@ -6,6 +6,7 @@ ghost use Rattle.spec.specs.Limits.{maxCount};
 ghost use Rattle.spec.specs.Judged.{passed};
 ghost use Rattle.spec.specs.Copying.{copies as copiesOf, points as pointsOf, matrices, judgeCopy, copyOut, copyCall};
 use spec::Answer;
+use spec::MAX_COUNT;
 use spec::Refusal;
 
 pub mod axes;
@@ -16,19 +17,16 @@ mod rows;
 use joining::Room;
 use judging::Judgement;
 
-// "copies over 2,048" are refused.
-const MOST: usize = 2048;
-
-// How many points of d floats there is room for, and at most MOST.
+// How many points of d floats there is room for, and at most 2,048: "copies over 2,048" are refused.
 fn room(floats: usize, d: usize) -> usize
     requires { ⌜ 1 ≤ d ⌝ }
     ensures { λ r. ⌜ r ≡ min maxCount (floats / d) ⌝ }
 {
     let n = floats / d;
-    if n < MOST {
+    if n < MAX_COUNT {
         return n;
     }
-    MOST
+    MAX_COUNT
 }
 
 // The copies, and then their table, for points and matrices that passed. How many cells the table has can exceed a word, so that is compared

@@ -12,6 +12,7 @@ use geometry::classes;
 use geometry::distance;
 use ranked::Shape;
 use ranked::vertices;
+use spec::MAX_COUNT;
 
 // How far the hull of the vertices of element e of rank r is from the origin.
 pub fn element_distance(w: &[u32], sh: Shape, points: &[f64], r: usize, e: usize) -> f64
@@ -20,7 +21,7 @@ pub fn element_distance(w: &[u32], sh: Shape, points: &[f64], r: usize, e: usize
     requires { ⌜ coordinates sh (now w) ≤ length (now points) ⌝ }
     ensures { λ x. ⌜ x ≡ distanceOf (solidOn sh (now (w .entry)) (now (points .entry)) (sh .dimension)) r e ⌝ }
 {
-    let mut list = [0u16; 2048];
+    let mut list = [0u16; MAX_COUNT];
     let n = vertices::vertex_list(w, sh, r, e, &mut list);
     let d = sh.dimension;
     distance::distance_of(points, d, &list, n)

@@ -48,5 +48,6 @@ pub fn exchange(words: &mut [u32], low: usize, sh: Shape, f: usize)
     let g = first_of(sh, sh.rank - 1);
     let n = first_of(sh, sh.rank + 1);
     swap_lists(words, g, g + f);
+    // The sups' entries stand after four words an element and the subs' entries, of which there are as many: low = 4 n + 2 I.
     derive_sups(words, sh, 2 * n + low / 2);
 }

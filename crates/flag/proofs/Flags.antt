@@ -1,25 +1,24 @@
 -- The laws that the loops over flags pass on: going down from the top, and looking for the other element.
 -- Assumes nothing.
 use mathlib.Core.Path.{_≡_, refl, sym, _∙_, ap}
-use mathlib.Core.Bool.{Bool, true, false, not}
+use mathlib.Core.Bool.{Bool, true, false}
 use mathlib.Core.List.{List, [], _∷_, _++_, append-assoc, append-nil}
 use Prim.Native.Nat.{ℕ, zero, suc, _+_, _-_, _*_, _≤_, _<_}
 use native.Mathlib.Numerals.{add-one, sub-one}
 use native.Mathlib.Omega.{arith}
 use native.Mathlib.Decide.{ℕ-discrete}
-use lib.ListN.{length, getD, set, take, drop, replicate, length-set, drop-of-length-le}
+use lib.ListN.{length, getD, set, take, drop, length-set, drop-of-length-le}
 use lib.Seq.{drop-cons, drop-set-lt, take-set-lt, getD-take, getD-set-same}
-use lib.Dec.{eqb}
 use borrow.Author.Tests.{eq-eqb, ne-eqb}
-use Rattle.spec.specs.Lists.{In, holds, keep}
-use Rattle.spec.specs.Types.{size, subs}
+use Rattle.spec.specs.Lists.{keep}
+use Rattle.spec.specs.Types.{subs}
 use Rattle.spec.specs.Solid.{between}
 use Rattle.spec.specs.Flags.{IsFlag, elementAt, firstTo, firstFlag, other, change}
 use Rattle.spec.proofs.Lists.{in-getD}
 use Rattle.ranked.specs.declared.Shape.{Shape}
 use Rattle.ranked.specs.Words.{firstAt, sizeAt, solidIn, Held}
-use Rattle.ranked.specs.Reading.{Lies, subsWord, Each, holding}
-use Rattle.ranked.proofs.Solids.{top-is, size-is, subs-lie, sups-lie, subs-listed, sub-in}
+use Rattle.ranked.specs.Reading.{subsWord, holding}
+use Rattle.ranked.proofs.Solids.{top-is, size-is, sub-in}
 use Rattle.ranked.proofs.Judged.{down-is}
 
 -- ---- the first flag
@@ -121,19 +120,6 @@ module _ (e : ℕ) (p : ℕ → Bool) where
   other-end l k h inv = rw (drop-of-length-le l h) at inv
 
 -- ---- a change
-
-module _ (sh : Shape) (w : List ℕ) (h : Held sh w) (els : List ℕ) (r : ℕ) (low : 0 < r) (high : r < sh .rank) (up : getD els (suc r) 0 < sizeAt sh (suc r)) where
-  -- the list of the element above, and of each of its subs
-  pub above-lies : Lies w (subsWord (firstAt sh (suc r)) (getD els (suc r) 0))
-  above-lies = subs-lie sh w h (suc r) (getD els (suc r) 0) high up
-
-  pub at-lies : 4 * firstAt sh r + 2 < length w
-  at-lies = omega (arith, sups-lie sh w h r 0 (omega arith) (omega (arith, h .some r (omega arith))) .head)
-
-  pub each-lies : Each w (subsWord (firstAt sh (suc r)) (getD els (suc r) 0)) (4 * (firstAt sh r + 0))
-  each-lies y m =
-      let q : 4 * (firstAt sh r + 0) + 4 * y ≡ subsWord (firstAt sh r) y = omega arith in
-      rw q (subs-lie sh w h r y (omega arith) (sub-in sh w h r (getD els (suc r) 0) y high (rw (subs-listed sh w h (suc r) (getD els (suc r) 0) high up) at m)))
 
 between-is : (sh : Shape) (w : List ℕ) → Held sh w → (g r x : ℕ) → 0 < r → r < sh .rank → g < sizeAt sh (suc r)
     → holding w (subsWord (firstAt sh (suc r)) g) (4 * (firstAt sh r + 0)) x ≡ between (solidIn sh w) r g x

@@ -3,3 +3,4 @@ pub mod Iterate
 pub mod Numbered
 pub mod Order
 pub mod Steps
+pub mod Sides

@@ -8,14 +8,18 @@ ghost use Rattle.spec.specs.Lists.{place};
 ghost use Rattle.spec.specs.Types.{subs};
 ghost use Rattle.spec.specs.Flags.{IsFlag, firstTo, firstFlag, other, change};
 ghost use Rattle.ranked.specs.Words.{sizeAt, listAt, solidIn, Held};
-ghost use Rattle.ranked.specs.Reading.{Lies, Each, holding};
+ghost use Rattle.ranked.specs.Reading.{Lies, Each, holding, Fork};
 ghost use Rattle.flag.specs.Reading.{flagIn, Follows, Moved};
 use ranked::Shape;
 use ranked::lists;
+use spec::MAX_RANK;
+
+// Ranks 0 to the greatest R.
+pub const RANKS: usize = MAX_RANK + 1;
 
 // "A flag has one element a rank": by rank, from 0 to the solid's R. The cells past R are 0 where a flag is made here, and are not read.
 pub struct Flag {
-    pub elements: [usize; 6],
+    pub elements: [usize; RANKS],
 }
 
 // The flag after one, if there is more.
@@ -53,8 +57,21 @@ fn other_at(w: &[u32], i: usize, base: usize, x: usize, e: usize) -> usize
     e
 }
 
+// The element but for e between g, whose subs are at word i, and h, whose sups are at word j; e where there is none. The shorter list is
+// gone through: of a ridge's two sups and the top's many subs, the sups.
+fn other_between(w: &[u32], i: usize, j: usize, base: usize, g: usize, h: usize, e: usize) -> usize
+    requires { ⌜ Fork (now w) i j base g h ⌝ }
+    ensures { λ res. ⌜ res ≡ other e (holding (now (w .entry)) i base h) ⌝ }
+{
+    if lists::count_at(w, i) <= lists::count_at(w, j) {
+        other_at(w, i, base, h, e)
+    } else {
+        other_at(w, j, base + 2, g, e)
+    }
+}
+
 // The elements, with first subs below rank `from`: from the element there down.
-fn down(w: &[u32], sh: Shape, start: [usize; 6], from: usize) -> [usize; 6]
+fn down(w: &[u32], sh: Shape, start: [usize; RANKS], from: usize) -> [usize; RANKS]
     requires { ⌜ Held sh (now w) ⌝ }
     requires { ⌜ (from ≤ sh .rank) × (getD start from 0 < sizeAt sh from) ⌝ }
     ensures { λ res. ⌜ take (suc (sh .rank)) res ≡ firstTo (solidIn sh (now (w .entry))) from (getD start from 0) ++ take (sh .rank - from) (drop (suc from) start) ⌝ }
@@ -87,7 +104,7 @@ fn place_at(w: &[u32], i: usize, x: usize) -> usize
 }
 
 // The element at r moved on to the next sub of the one above, with first subs below it; no more if it is the last sub.
-fn moved_at(w: &[u32], sh: Shape, elements: [usize; 6], r: usize) -> Next
+fn moved_at(w: &[u32], sh: Shape, elements: [usize; RANKS], r: usize) -> Next
     requires { ⌜ Held sh (now w) ⌝ }
     requires { ⌜ (r < sh .rank) × (getD elements (suc r) 0 < sizeAt sh (suc r)) ⌝ }
     ensures { λ res. ⌜ Moved (solidIn sh (now (w .entry))) (sh .rank) elements r (res .more) (res .flag .elements) ⌝ }
@@ -117,7 +134,7 @@ impl Flag {
         requires { ⌜ Held sh (now w) ⌝ }
         ensures { λ res. ⌜ flagIn (sh .rank) res ≡ firstFlag (solidIn sh (now (w .entry))) ⌝ }
     {
-        let elements = [0usize; 6];
+        let elements = [0usize; RANKS];
         let rank = sh.rank;
         Flag {
             elements: down(w, sh, elements, rank),
@@ -129,13 +146,17 @@ impl Flag {
         requires { ⌜ Held sh (now w) ⌝ }
         requires { ⌜ (0 < r) × (r < sh .rank) ⌝ }
         requires { ⌜ getD (self .elements) (suc r) 0 < sizeAt sh (suc r) ⌝ }
+        requires { ⌜ getD (self .elements) (r - 1) 0 < sizeAt sh (r - 1) ⌝ }
         ensures { λ res. ⌜ flagIn (sh .rank) res ≡ change (solidIn sh (now (w .entry))) r (flagIn (sh .rank) self) ⌝ }
     {
         let first = sh.first;
         let mut elements = self.elements;
-        let above = lists::subs_at(first[r + 1], elements[r + 1]);
+        let g = elements[r + 1];
+        let h = elements[r - 1];
+        let above = lists::subs_at(first[r + 1], g);
+        let below = lists::sups_at(first[r - 1], h);
         let base = lists::subs_at(first[r], 0);
-        let e = other_at(w, above, base, elements[r - 1], elements[r]);
+        let e = other_between(w, above, below, base, g, h, elements[r]);
         elements[r] = e;
         Flag { elements: elements }
     }

@@ -1,5 +1,7 @@
 -- How the arrays of the code are read: a d by d matrix is the leading part of an array of arrays.
 -- Assumes nothing.
+use mathlib.Core.Path.{_≡_}
+use mathlib.Core.Bool.{Bool, true, false}
 use mathlib.Core.List.{List, map}
 use mathlib.Core.Option.{Option, none, some}
 use Prim.Native.Nat.{ℕ, _+_}
@@ -35,3 +37,8 @@ rowsOf r = map (λ x. x .entries) (r .rows)
 unfoldable pub inverseOf : ℕ → Inverse → Option Matrix
 unfolding byAnswer
 inverseOf d r = byAnswer (r .answer) (corner d (rowsOf r))
+
+-- two floats are one, or not, by an answer
+abbrev pub Alike : Bool → Float → Float → Type 0
+Alike true x y = x ≡ y
+Alike false x y = x ≡ y → ⊥

@@ -1,7 +1,7 @@
 // Floats from and to their bit patterns, for every pattern: the language's own conversions are undefined at a NaN.
 ghost use mathlib.Core.Path.{_≡_};
-ghost use mathlib.Core.Bool.{true};
 ghost use lib.Ieee.{binary64, ofBits, toBits};
+ghost use Rattle.float.specs.Reading.{Alike};
 
 // The pattern of the one NaN that the definitions have.
 const NAN: u64 = 0x7ff8_0000_0000_0000;
@@ -28,9 +28,9 @@ pub fn pattern(x: f64) -> u64
     f64::to_bits(x)
 }
 
-// Whether two floats have one pattern. A zero and its negative have two; the one NaN is the same as itself.
+// Whether two floats are one, by their patterns. A zero and its negative are two; the one NaN is the same as itself.
 pub fn same(x: f64, y: f64) -> bool
-    ensures { λ r. ⌜ (r ≡ true → x ≡ y) ⌝ }
+    ensures { λ r. ⌜ Alike r x y ⌝ }
 {
     pattern(x) == pattern(y)
 }

@@ -7,5 +7,7 @@ pub mod root;
 pub mod tolerance;
 pub mod vector;
 
+use spec::MAX_DIMENSION;
+
 // The largest dimension. Every array is this wide, or twice as wide in the elimination.
-pub const DIMENSION: usize = 4;
+pub const DIMENSION: usize = MAX_DIMENSION;

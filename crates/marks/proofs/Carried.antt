@@ -31,7 +31,7 @@ use Rattle.distances.specs.Solids.{coordinates, proper, before, beforeIn}
 use Rattle.distances.proofs.Ranks.{in-order}
 use Rattle.distances.proofs.ClassCells.{same-class-at, before-is}
 use Rattle.marks.specs.Rises.{risesTo, Reached, Landed}
-use Rattle.marks.specs.Rows.{setsApart, concrete, classesOn, ClassesIn, Row, Images, Rank}
+use Rattle.marks.specs.Rows.{concrete, classesOn, ClassesIn, Row, Images, Rank}
 use Rattle.marks.proofs.Rises.{vertex-reached, reached}
 use Rattle.marks.proofs.Rows.{permuted}
 
@@ -42,7 +42,6 @@ module _ {sh : Shape} {w row : List ℕ} (a : Row sh w row) where
   rows = let p = permuted row (a .permuted) in record { full = a .full; low = λ v m. rw (a .full) at (p .low v m); once = p .once }
 
   sets : (r : ℕ) → Proper (solidIn sh w) r → Once (vertexSets (solidIn sh w) r)
-  unfolding setsApart
   sets r p =
       no-repeats eqList lists (vertexSets (solidIn sh w) r)
       (every-in (λ q. noRepeats eqList (vertexSets (solidIn sh w) q)) (properRanks (solidIn sh w)) (a .apart) r (proper-rank (solidIn sh w) r p))

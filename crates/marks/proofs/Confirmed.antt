@@ -9,8 +9,8 @@ use lib.Dec.{eqb, ltb}
 use borrow.Author.Tests.{eq-eqb}
 use Rattle.spec.specs.Lists.{range, every}
 use Rattle.spec.specs.Types.{Solid, size, properRanks, Classes}
-use Rattle.spec.specs.Mark.{noRepeats, carriesElement, marked}
-use Rattle.marks.specs.Rows.{setsApart, permutes}
+use Rattle.spec.specs.Mark.{noRepeats, setsApart, carriesElement, marked}
+use Rattle.marks.specs.Rows.{permutes}
 
 regroup : (a c d e : Bool) → (a && true && c && d && e) ≡ (a && (c && d) && e)
 regroup true c d e = refl
@@ -18,7 +18,7 @@ regroup false c d e = refl
 
 module _ (s : Solid) (cls : Classes) (row : List ℕ) (full : length row ≡ size s 1) where
   pub marked-is : marked s cls row ≡ (setsApart s && permutes row && every (λ r. every (carriesElement s cls row r) (range 0 (size s r))) (properRanks s))
-  unfolding marked setsApart permutes
+  unfolding marked permutes
   marked-is =
       rw (eq-eqb (length row) (size s 1) full, ← full)
       (regroup (setsApart s) (every (λ v. ltb v (length row)) row) (noRepeats eqb row) (every (λ r. every (carriesElement s cls row r) (range 0 (size s r))) (properRanks s)))

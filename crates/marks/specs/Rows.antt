@@ -7,19 +7,15 @@ use mathlib.Core.List.{List}
 use lib.ListN.{length, getD, take, drop}
 use lib.Dec.{eqb, ltb}
 use lib.Ieee.{Float}
-use Rattle.spec.specs.Lists.{eqList, every}
-use Rattle.spec.specs.Types.{Solid, size, properRanks, Classes}
-use Rattle.spec.specs.Mark.{noRepeats, vertexSets, goes}
+use Rattle.spec.specs.Lists.{every}
+use Rattle.spec.specs.Types.{size, Classes}
+use Rattle.spec.specs.Mark.{noRepeats, setsApart, goes}
 use Rattle.spec.specs.Hull.{classes}
 use Rattle.spec.specs.Solid.{Concrete}
 use Rattle.spec.specs.Classes.{distances, classTable, byTable}
 use Rattle.ranked.specs.declared.Shape.{Shape}
 use Rattle.ranked.specs.Words.{firstAt, sizeAt, total, solidIn, Held}
 use Rattle.distances.specs.Solids.{solidOn, coordinates, proper}
-
--- "no two elements of a rank have one vertex set"
-unfoldable pub setsApart : Solid → Bool
-setsApart s = every (λ r. noRepeats eqList (vertexSets s r)) (properRanks s)
 
 -- the row's entries are vertices, as many as there are entries, and none is there twice
 unfoldable pub permutes : List ℕ → Bool

@@ -6,18 +6,23 @@ ghost use Prim.Native.Nat.{ℕ, suc, _+_, _*_, _^_, _≤_, _<_};
 ghost use lib.ListN.{length, getD};
 ghost use lib.Dec.{eqb};
 ghost use lib.Ieee.{nan};
+ghost use Rattle.spec.specs.Limits.{maxCount};
 ghost use Rattle.spec.specs.Lists.{In, holds, range, keep, every};
 ghost use Rattle.spec.specs.Types.{size, properRanks, Classes};
-ghost use Rattle.spec.specs.Mark.{carriesElement, marked};
+ghost use Rattle.spec.specs.Mark.{setsApart, carriesElement, marked};
 ghost use Rattle.ranked.specs.Words.{firstAt, sizeAt, total, listAt, solidIn, Held};
 ghost use Rattle.ranked.specs.Reading.{Lies, Each};
 ghost use Rattle.geometry.specs.Classes.{sameClass};
 ghost use Rattle.distances.specs.Solids.{proper, before};
 ghost use Rattle.marks.specs.Rises.{onto, risesTo, Reached, Landed};
-ghost use Rattle.marks.specs.Rows.{setsApart, permutes, classesOn, ClassesIn, Row, Images, Rank};
+ghost use Rattle.marks.specs.Rows.{permutes, classesOn, ClassesIn, Row, Images, Rank};
 use geometry::classes;
 use ranked::Shape;
 use ranked::lists;
+use spec::MAX_COUNT;
+
+// "The mark (added) is confirmed, 1".
+const CONFIRMED: u8 = 1;
 
 // The cell at k.
 fn cell(cells: &[u16], k: usize) -> usize
@@ -29,10 +34,10 @@ fn cell(cells: &[u16], k: usize) -> usize
 
 // Does the row hold vertices only, and none twice? A rank has at most 2,048 elements.
 fn is_permutation(row: &[u16]) -> bool
-    requires { ⌜ length (now row) ≤ 2048 ⌝ }
+    requires { ⌜ length (now row) ≤ maxCount ⌝ }
     ensures { λ res. ⌜ res ≡ permutes (now (row .entry)) ⌝ }
 {
-    let mut seen = [0u8; 2048];
+    let mut seen = [0u8; MAX_COUNT];
     let n = row.len();
     let mut k: usize = 0;
     while k < n {
@@ -251,5 +256,5 @@ pub fn mark(w: &[u32], sh: Shape, floats: &[f64], apart: bool, row: &[u16], goes
     if !carry_all(w, sh, floats, row, goes) {
         return 0;
     }
-    1
+    CONFIRMED
 }

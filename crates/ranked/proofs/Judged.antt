@@ -125,7 +125,7 @@ module _ (sh : Shape) (w : List ℕ) (h : Held sh w) where
           ups = λ y m. rw (subs-word y) (subs-lie sh w h (suc q) y (omega arith) (sub-g y m));
           downs = λ y m. rw (sups-word y) (sups-lie sh w h (suc q) y (omega arith) (sup-x y m));
           fits = middle;
-          same = ap length (down-is x) ∙ between-upward s (h .sound) q g x (rw (size-is sh w (suc (suc q)) (omega arith)) in-g) ∙ sym (ap length up-is);
+          same = down-is x ∙ between-upward s (h .sound) q g x (rw (size-is sh w (suc (suc q)) (omega arith)) in-g) ∙ sym up-is;
         }
 
       module _ (f : ℕ) (in-f : f < sizeAt sh (suc q)) where

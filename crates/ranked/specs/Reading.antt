@@ -46,7 +46,7 @@ pub record Fork (w : List ℕ) (i j base g h : ℕ) : Type 0 where
   pub ups : Each w i base
   pub downs : Each w j (base + 2)
   pub fits : base + 2 ≤ length w
-  pub same : length (holding w i base h) ≡ length (holding w j (base + 2) g)
+  pub same : holding w i base h ≡ holding w j (base + 2) g
 
 -- exactly two elements between the element whose subs are at word i and each entry of the list at word j
 unfoldable pub twoUnder : List ℕ → ℕ → ℕ → ℕ → Bool

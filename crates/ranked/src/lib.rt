@@ -1,6 +1,15 @@
 // Solids as lists at offsets in lent words (abs/ranked.rs, abs/mod.rs): storing a sheet's solid, the accessors over it, the refusals
 // "loose" and "mitre", and the vertices of an element.
 
+use spec::MAX_COUNT;
+use spec::MAX_RANK;
+
+// How many ranks have a start: 0 to the greatest R, and the one above it, where the last ends.
+pub const STARTS: usize = MAX_RANK + 2;
+
+// The most elements that a solid can have, the least and the top among them.
+pub const ELEMENTS: usize = (MAX_RANK - 1) * MAX_COUNT + 2;
+
 // How the words are laid out. An element is known by its rank r and its number e in it, or by its number over all ranks,
 // first[r] + e. Word 4 * g is where the list of g's subs starts, the next word its length; the two words after them say the same of
 // its sups.
@@ -8,7 +17,7 @@ pub struct Shape {
     pub rank: usize,
     pub dimension: usize,
     // How many elements lie in the ranks below each rank, from 0 to rank + 1.
-    pub first: [usize; 7],
+    pub first: [usize; STARTS],
 }
 
 pub mod check;

@@ -1,4 +1,5 @@
 // Refusals 1 to 7 of a sheet. "Fields are judged as they come .., then 1 for the end, 7, 5, 6."
+use crate::STARTS;
 use crate::Shape;
 use crate::check::is_bound;
 use crate::check::is_diamond;
@@ -37,7 +38,7 @@ fn unready(why: Refusal) -> Ready
         shape: Shape {
             rank: 0,
             dimension: 0,
-            first: [0usize; 7],
+            first: [0usize; STARTS],
         },
         low: 0,
     }

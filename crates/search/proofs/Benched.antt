@@ -1,6 +1,6 @@
 -- The workspace from one step of the search to the next.
 -- Assumes nothing.
-use mathlib.Core.Path.{_≡_, refl, sym, ap, _∙_}
+use mathlib.Core.Path.{_≡_, refl, sym, ap, subst, _∙_}
 use Prim.Native.Nat.{ℕ, suc, _+_, _-_, _≤_, _<_}
 use mathlib.Core.Bool.{Bool}
 use mathlib.Core.List.{List}
@@ -8,9 +8,8 @@ use native.Mathlib.Numerals.{add-one}
 use native.Mathlib.Omega.{arith}
 use lib.ListN.{length, take, drop}
 use lib.Ieee.{Float}
-use Rattle.spec.specs.Lists.{range, eqList, every}
-use Rattle.spec.specs.Types.{properRanks}
-use Rattle.spec.specs.Mark.{noRepeats, vertexSets}
+use Rattle.spec.specs.Lists.{range}
+use Rattle.spec.specs.Mark.{setsApart}
 use Rattle.spec.specs.Solid.{Concrete}
 use Rattle.spec.specs.Search.{exchanged}
 use Rattle.spec.proofs.Lists.{map-same, of-range}
@@ -25,9 +24,8 @@ use Rattle.distances.proofs.Room.{roomy-floats}
 use Rattle.element_types.specs.State.{typesIn, stateIn, Countable}
 use Rattle.element_types.proofs.Parts.{run-take, take-kept}
 use Rattle.vertex_sets.specs.Prints.{Printed, Ready}
-use Rattle.marks.specs.Rows.{setsApart}
-use Rattle.symmetry.specs.Searching.{Searching}
-use Rattle.search.specs.Reading.{Markable}
+use Rattle.symmetry.specs.Searching.{Parted, Searching}
+use Rattle.products.specs.Marking.{Markable}
 use Rattle.search.proofs.Tested.{facets-are, solid-kept}
 
 -- ---- the exchange
@@ -75,12 +73,13 @@ module _ {sh : Shape} {low : ℕ} {ws : List ℕ} {fs : List Float} (b : Bench s
     pub ready : Ready sh low vs at
     ready = record { held = rw lists-kept (b .held); behind = omega arith; printed = rw lists-kept p }
 
-    pub searching : 2 ≤ sh .rank → Countable sh low ws → Searching sh low vs fs at
-    searching t k = record {
+    pub searching : 2 ≤ sh .rank → Countable sh low ws → Parted (solidAt sh low ws fs) → Searching sh low vs fs at
+    searching t k d = record {
       bench = bench-kept b lists-kept long refl;
       tall = t;
       counted = countable-kept sh low ws vs k long (rw a at e);
       prints = ready;
+      parted = subst Parted (sym (solid-kept sh low ws vs fs fs lists-kept refl)) d;
     }
 
 -- ---- the classes
@@ -91,8 +90,7 @@ module _ {sh : Shape} {low : ℕ} {ws : List ℕ} {fs : List Float} (b : Bench s
 
   -- what the marks need, once the prints of the same solid are written and its sets compared
   pub markable : (vs : List ℕ) → take low vs ≡ take low ws → (apart : Bool)
-      → apart ≡ every (λ r. noRepeats eqList (vertexSets (solidIn sh (take low vs)) r)) (properRanks (solidIn sh (take low vs))) → (m : ℕ) → 8194 ≤ m → Markable sh (take low vs) gs apart m
-  unfolding setsApart
+      → apart ≡ setsApart (solidIn sh (take low vs)) → (m : ℕ) → 8194 ≤ m → Markable sh (take low vs) gs apart m
   markable vs e apart q m h = record {
     held = rw e (b .held);
     classes = rw e (record { room = rw (c .long) (roomy-floats sh (take low ws) (b .held) (length fs) (b .floats)); cells = rw (c .same) (c .cells) });

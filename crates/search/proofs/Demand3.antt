@@ -1,6 +1,6 @@
 -- Demand 3, from the theorem about the calls' definitions.
 -- Assumes nothing.
-use mathlib.Core.Path.{_≡_, sym, ap, _∙_, subst}
+use mathlib.Core.Path.{_≡_, sym, subst}
 use mathlib.Core.Bool.{Bool, true, false}
 use mathlib.Core.List.{List}
 use Prim.Native.Nat.{ℕ, _<_}
@@ -9,11 +9,11 @@ use Rattle.spec.specs.declared.Answer.{Answer}
 use Rattle.spec.specs.Refusal.{answerCount}
 use Rattle.spec.specs.Types.{size, State}
 use Rattle.spec.specs.Solid.{Concrete}
-use Rattle.spec.specs.Calls.{TypesOut, SearchOut, searchCall, rotationsCall}
+use Rattle.spec.specs.Calls.{SearchOut, searchCall, rotationsCall}
 use Rattle.spec.specs.Demand3Calls.{rowAt, KeepsType, ListedMembers, Demand3After}
 use Rattle.spec.proofs.Demand3Calls.{demand3-calls}
 use Rattle.search.specs.Reading.{callOf}
-use Rattle.search.specs.Demand3.{Demand3}
+use Rattle.search.specs.Demand3.{Demand3Told}
 
 module _ (b : List ℕ) (c : Concrete) (S z : State) where
   -- what holds of a call's definition holds of what it answers
@@ -28,16 +28,12 @@ module _ (b : List ℕ) (c : Concrete) (S z : State) where
   either d false words floats old new r p = answered searchCall (d .searches) words floats old (r, new) p
   either d true words floats old new r p = answered rotationsCall (d .rotations) words floats old (r, new) p
 
-pub demand3-search : Demand3
-demand3-search b words floats old new n done =
-    let d = demand3-calls b words floats old n (sym (ap (λ (x : Answer × TypesOut). x .0) done)) in
-    record {
-      solid = d .solid;
-      result = d .result;
-      read = d .read;
-      ended = d .ended;
-      elements = ap (λ (x : Answer × TypesOut). x .1 .elements) done ∙ d .elements;
-      types = ap (λ (x : Answer × TypesOut). x .1 .types) done ∙ d .types;
-      count = d .count;
-      steps = λ xs p. let a = d .steps xs p in record { agree = a .agree; listed = either b (d .solid) _ (d .result) a };
-    }
+-- both promises of a call, from its equation
+pub told : (rot : Bool) (b : List ℕ) (words floats : ℕ) (old new : SearchOut) (r : Answer) → (r, new) ≡ callOf rot b words floats old
+    → ((r, new) ≡ callOf rot b words floats old) × Demand3Told b r (new .rows) (new .marks)
+told rot b words floats old new r e = (
+  e,
+  λ w f o n d.
+      let z = demand3-calls b w f o n d in
+      record { types = z; listed = λ xs p. either b (z .solid) _ (z .result) (z .steps xs p) rot words floats old new r e },
+)

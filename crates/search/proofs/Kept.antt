@@ -28,7 +28,7 @@ use Rattle.vertex_sets.specs.Prints.{Printed}
 use Rattle.symmetry.specs.declared.listing.Listing.{Listing}
 use Rattle.symmetry.specs.Tails.{settingOf, ends, outOf}
 use Rattle.symmetry.specs.Listing.{Listed, answerOf}
-use Rattle.search.specs.Reading.{markIn}
+use Rattle.products.specs.Marking.{markIn}
 use Rattle.search.proofs.Tested.{solid-kept}
 use Rattle.search.proofs.Benched.{state-kept, lists-kept}
 use Rattle.search.proofs.Steps.{end-none, marks-in, end-some}

@@ -2,14 +2,12 @@
 -- Assumes nothing.
 use mathlib.Core.Path.{_≡_, refl, sym, ap, ap₂, _∙_, subst}
 use mathlib.Core.Logic.{inl, inr}
-use Prim.Native.Nat.{ℕ, suc, _+_, _-_, _*_, _≤_, _<_}
+use Prim.Native.Nat.{ℕ, suc, _+_}
 use mathlib.Core.Bool.{Bool, true, false, _&&_}
 use mathlib.Core.Option.{Option, none, some, Option·none-ne-some, Option·some-injective}
-use mathlib.Core.List.{List, [], _∷_, _++_, map, map-append, append-assoc}
-use native.Mathlib.Numerals.{add-one}
+use mathlib.Core.List.{List, [], _∷_, _++_, map, append-assoc}
 use native.Mathlib.Omega.{arith}
-use borrow.Rule.Slice.PartMut.{midOf, putMid}
-use lib.ListN.{length, take, drop, set, length-map}
+use lib.ListN.{length, length-map}
 use lib.Seq.{take-at, drop-at}
 use lib.Dec.{ltb}
 use Rattle.spec.specs.Lists.{In, join, every}
@@ -22,39 +20,9 @@ use Rattle.spec.specs.Calls.{Room, haveRoom, fitting}
 use Rattle.spec.proofs.Lists.{map-map, map-same, in-map}
 use Rattle.spec.proofs.Listed.{Marked, member-mark, rotation-in, fitting-in}
 use Rattle.spec.proofs.Shapes.{Holds, none-held, fits-holds}
-use Rattle.float.proofs.Parts.{length-parts, parts-more}
 use Rattle.symmetry.specs.Tails.{wantedOf}
 use Rattle.symmetry.specs.Listing.{given, rowCells, keptIn}
-use Rattle.symmetry.proofs.Parts.{part-written}
-use Rattle.search.specs.Reading.{markIn}
-
--- ---- the loop
-
--- one cell, written first
-pub one-written : {A : Type 0} (x : A) (l : List A) → 0 < length l → set l 0 x ≡ written (x ∷ []) l
-unfolding written
-one-written x [] h = absurd (omega arith)
-one-written x (y ∷ l) h = refl
-
-module _ (c : Concrete) (v : ℕ) (rows : List ℕ) where
-  -- the marks of k rows
-  abbrev pub marksTo : ℕ → List ℕ
-  marksTo k = map (markIn c) (parts k v rows)
-
-  marks-more : (k : ℕ) → marksTo (k + 1) ≡ marksTo k ++ markIn c (take v (drop (k * v) rows)) ∷ []
-  marks-more k = rw (add-one k, parts-more k v rows, map-append)
-
-  pub marks-first : (old : List ℕ) → old ≡ written (marksTo 0) old
-  unfolding parts written
-  marks-first old = refl
-
-  pub marks-next : (k : ℕ) (old now part : List ℕ) → k ≤ length now → now ≡ written (marksTo k) old
-      → part ≡ written (markIn c (take v (drop (k * v) rows)) ∷ []) (midOf k (length now - k) now)
-      → putMid k (length now - k) now part ≡ written (marksTo (k + 1)) old
-  marks-next k old now part h e q =
-      rw (marks-more k) (part-written (marksTo k) (markIn c (take v (drop (k * v) rows)) ∷ []) old now part k (length-map (parts k v rows) (markIn c) ∙ length-parts k v rows) h e q)
-
--- ---- the members
+use Rattle.products.specs.Marking.{markIn}
 
 -- rows of v cells each, one after another, are cut where they were joined
 parts-join : {A : Type 0} (d : ℕ) (ls : List (List A)) (rest : List A) → ((x : List A) → In x ls → length x ≡ d) → parts (length ls) d (join ls ++ rest) ≡ ls

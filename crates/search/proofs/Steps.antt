@@ -1,12 +1,12 @@
 -- The search's judgements, as the program comes to them.
 -- Assumes nothing.
-use mathlib.Core.Path.{_≡_, refl, sym, ap, _∙_}
+use mathlib.Core.Path.{_≡_, refl, sym, ap, subst, _∙_}
 use Prim.Native.Nat.{ℕ, _-_, _≤_, _<_}
 use mathlib.Core.Bool.{Bool, true, false, _&&_, false≢true}
 use mathlib.Core.Option.{Option, none, some}
 use mathlib.Core.List.{List, [], _∷_, map}
 use native.Mathlib.Omega.{arith}
-use borrow.Author.Tests.{leb-true}
+use borrow.Author.Tests.{leb-true, eqb-true}
 use lib.ListN.{length, take}
 use lib.Dec.{leb, eqb}
 use lib.Ieee.{Float}
@@ -26,6 +26,7 @@ use Rattle.spec.specs.Classes.{typesOf}
 use Rattle.spec.specs.Search.{Member, Setting, firstFar, exchangedIn, exchanged, flagColumns, markOf, allFinite, full, setting}
 use Rattle.spec.specs.Calls.{SearchOut, roomOf}
 use Rattle.spec.proofs.Shapes.{Holds}
+use Rattle.spec.proofs.Marked.{both}
 use Rattle.float.specs.declared.elimination.Answer as Found
 use Rattle.float.specs.declared.elimination.Answer.the-variants.{Regular, Singular}
 use Rattle.float.specs.declared.elimination.Inverse.{Inverse}
@@ -46,12 +47,14 @@ use Rattle.settling.specs.Typed.{Typed}
 use Rattle.exchange.proofs.Exchanged.{bench-exchanged, solid-exchanged}
 use Rattle.symmetry.specs.declared.listing.Listing.{Listing}
 use Rattle.symmetry.specs.Tails.{settingOf, from9, from10, from15, from11, ends, outOf}
+use Rattle.symmetry.specs.Searching.{Parted}
 use Rattle.symmetry.specs.Listing.{Listed, answerOf, outsOf, keptIn}
 use Rattle.symmetry.proofs.Tails.{judge-no, judge-yes, wanted-no, wanted-yes, from8, refusal-ends, after, search-after, rotations-after}
 use Rattle.symmetry.proofs.Running.{ends-listed}
 use Rattle.search.specs.declared.judging.Far.{Far}
 use Rattle.search.specs.declared.judging.Far.the-variants.{Facet, Nothing}
-use Rattle.search.specs.Reading.{farOf, regular, markIn, callOf}
+use Rattle.search.specs.Reading.{farOf, regular, callOf}
+use Rattle.products.specs.Marking.{markIn}
 use Rattle.search.proofs.Tested.{solid-on, solid-kept, full-is, facets-are, far-low}
 use Rattle.search.proofs.Benched.{exchanged-back}
 use Rattle.search.proofs.Marked.{kept-room, kept-marks}
@@ -72,12 +75,12 @@ module _ (sh : Shape) (low : ℕ) (ws : List ℕ) (fs : List Float) (rot : Bool)
   read = solidAt sh low ws fs
 
   module _ (b : Bool) (e : b ≡ leb 2 (sh .rank) && eqb (sh .dimension) (sh .rank - 1)) where
-    pub tall : b ≡ true → 2 ≤ sh .rank
-    tall t = go (leb 2 (sh .rank)) refl (sym e ∙ t)
-      where
-        go : (l : Bool) → leb 2 (sh .rank) ≡ l → l && eqb (sh .dimension) (sh .rank - 1) ≡ true → 2 ≤ sh .rank
-        go true q p = leb-true 2 (sh .rank) q
-        go false q p = absurd (false≢true p)
+    -- there are two ranks, and an axis
+    pub tall : b ≡ true → (2 ≤ sh .rank) × (1 ≤ sh .dimension)
+    tall t =
+        let h = both (leb 2 (sh .rank)) (eqb (sh .dimension) (sh .rank - 1)) (sym e ∙ t) in
+        let k = leb-true 2 (sh .rank) (h .0) in
+        (k, omega (arith, eqb-true (sh .dimension) (sh .rank - 1) (h .1)))
 
     pub not-full : b ≡ false → (Refused NotFull 0, old) ≡ ends rot read (setting read) old
     not-full t = stops rot read old NotFull (setting read) (from8 read ∙ judge-no NotFull (full read) (from9 read) (full-is sh low ws fs ∙ sym e ∙ t))
@@ -99,6 +102,10 @@ module _ (sh : Shape) (low : ℕ) (ws : List ℕ) (fs : List Float) (rot : Bool)
     pub not-doubled : b ≡ true → (x : Answer × SearchOut) → x ≡ ends rot read (from10 read) old → x ≡ ends rot read (from9 read) old
     unfolding from9 corners
     not-doubled t = goes-on rot read old (from9 read) (from10 read) (judge-yes DoubleCorner (noRepeats near (read .points)) (from10 read) (corners ∙ t))
+
+    pub parted : b ≡ true → 1 ≤ sh .dimension → Parted read
+    unfolding corners
+    parted t d = record { axes = d; distinct = corners ∙ t }
 
   -- ---- 10, and the exchange
 
@@ -125,6 +132,10 @@ module _ (sh : Shape) (low : ℕ) (ws : List ℕ) (fs : List Float) (rot : Bool)
 
         pub exchanged-bench : Laid sh low vs → Bench sh low vs fs
         exchanged-bench l = bench-exchanged b f (h, facet-low) vs s l
+
+        pub exchanged-parted : Parted read → Parted (solidAt sh low vs fs)
+        unfolding exchanged searched
+        exchanged-parted d = subst Parted (sym searched) (record { axes = d .axes; distinct = d .distinct })
 
         pub far-off : (x : Answer × SearchOut) → x ≡ ends rot (exchanged (solidAt sh low vs fs) f) (from15 (exchanged (solidAt sh low vs fs) f) (solidAt sh low vs fs)) old
             → x ≡ ends rot read (from10 read) old
@@ -156,6 +167,9 @@ module _ (sh : Shape) (low : ℕ) (ws vs : List ℕ) (fs gs : List Float) (rot :
 
   pub typed-bench : Bench sh low ws fs → Bench sh low vs gs
   typed-bench o = bench-kept o (t .lists) (t .lengths .0) (t .lengths .1)
+
+  pub typed-parted : Parted solid → Parted (solidAt sh low vs gs)
+  typed-parted d = subst Parted (sym (solid-kept sh low ws vs fs gs (t .lists) (t .points))) d
 
 -- ---- 11
 

@@ -30,6 +30,7 @@ ghost use Rattle.ranked.specs.Bench.{solidAt, Bench};
 ghost use Rattle.element_types.specs.State.{stateIn, Countable};
 ghost use Rattle.symmetry.specs.Tails.{settingOf, from9, from10, from15, from11, ends, outOf};
 ghost use Rattle.symmetry.specs.Listing.{answerOf};
+ghost use Rattle.symmetry.specs.Searching.{Parted};
 ghost use Rattle.search.specs.Reading.{callOf};
 
 // "then 12 or 13".
@@ -62,6 +63,7 @@ fn from_inverse(
     requires { ⌜ Bench sh low (now words) (now floats) ⌝ }
     requires { ⌜ (2 ≤ sh .rank) × (f < sizeAt sh (sh .rank - 1)) ⌝ }
     requires { ⌜ Countable sh low (now words) ⌝ }
+    requires { ⌜ Parted (solidAt sh low (now words) (now floats)) ⌝ }
     ensures { λ r. ⌜ (r, outOf (now (matrices .exit)) (now (rows .exit)) (now (marks .exit)))
         ≡ ends rotations (exchanged (solidAt sh low (now (words .entry)) (now (floats .entry))) f)
         (passed (settingOf (exchanged (solidAt sh low (now (words .entry)) (now (floats .entry))) f) (solidAt sh low (now (words .entry)) (now (floats .entry)))
@@ -110,6 +112,7 @@ fn from11(
     requires { ⌜ Bench sh low (now words) (now floats) ⌝ }
     requires { ⌜ (2 ≤ sh .rank) × (f < sizeAt sh (sh .rank - 1)) ⌝ }
     requires { ⌜ Countable sh low (now words) ⌝ }
+    requires { ⌜ Parted (solidAt sh low (now words) (now floats)) ⌝ }
     ensures { λ r. ⌜ (r, outOf (now (matrices .exit)) (now (rows .exit)) (now (marks .exit)))
         ≡ ends rotations (exchanged (solidAt sh low (now (words .entry)) (now (floats .entry))) f)
         (from11 (exchanged (solidAt sh low (now (words .entry)) (now (floats .entry))) f) (solidAt sh low (now (words .entry)) (now (floats .entry)))
@@ -149,6 +152,7 @@ fn from15(
 ) -> Answer
     requires { ⌜ Bench sh low (now words) (now floats) ⌝ }
     requires { ⌜ (2 ≤ sh .rank) × (f < sizeAt sh (sh .rank - 1)) ⌝ }
+    requires { ⌜ Parted (solidAt sh low (now words) (now floats)) ⌝ }
     ensures { λ r. ⌜ (r, outOf (now (matrices .exit)) (now (rows .exit)) (now (marks .exit)))
         ≡ ends rotations (exchanged (solidAt sh low (now (words .entry)) (now (floats .entry))) f)
         (from15 (exchanged (solidAt sh low (now (words .entry)) (now (floats .entry))) f) (solidAt sh low (now (words .entry)) (now (floats .entry))))
@@ -173,6 +177,7 @@ fn from10(
 ) -> Answer
     requires { ⌜ Bench sh low (now words) (now floats) ⌝ }
     requires { ⌜ 2 ≤ sh .rank ⌝ }
+    requires { ⌜ Parted (solidAt sh low (now words) (now floats)) ⌝ }
     ensures { λ r. ⌜ (r, outOf (now (matrices .exit)) (now (rows .exit)) (now (marks .exit)))
         ≡ ends rotations (solidAt sh low (now (words .entry)) (now (floats .entry))) (from10 (solidAt sh low (now (words .entry)) (now (floats .entry))))
         (outOf (now (matrices .entry)) (now (rows .entry)) (now (marks .entry))) ⌝ }
@@ -200,6 +205,7 @@ fn from9(
 ) -> Answer
     requires { ⌜ Bench sh low (now words) (now floats) ⌝ }
     requires { ⌜ 2 ≤ sh .rank ⌝ }
+    requires { ⌜ 1 ≤ sh .dimension ⌝ }
     ensures { λ r. ⌜ (r, outOf (now (matrices .exit)) (now (rows .exit)) (now (marks .exit)))
         ≡ ends rotations (solidAt sh low (now (words .entry)) (now (floats .entry))) (from9 (solidAt sh low (now (words .entry)) (now (floats .entry))))
         (outOf (now (matrices .entry)) (now (rows .entry)) (now (marks .entry))) ⌝ }

@@ -5,6 +5,7 @@ ghost use mathlib.Core.Path.{_≡_};
 ghost use lib.ListN.{length};
 ghost use Rattle.spec.specs.Calls.{searchCall, rotationsCall};
 ghost use Rattle.symmetry.specs.Tails.{outOf};
+ghost use Rattle.search.specs.Demand3.{Demand3Told};
 
 mod driver;
 mod judging;
@@ -13,7 +14,8 @@ mod marking;
 use crate::driver::run;
 
 // A sheet of any bytes and any length, a workspace of any size, and outputs of any length: D * D floats, V row entries and one mark a member.
-// The workspace afterwards is free, and keeps its length.
+// The workspace afterwards is free, and keeps its length. Each listed member with mark 1 carries every element to one of its own rank and type,
+// after any list of steps and in what the types call gives out.
 pub fn search(
     sheet: &[u8],
     words: &mut [u32],
@@ -25,6 +27,7 @@ pub fn search(
     ensures { λ r. ⌜ (r, outOf (now (matrices .exit)) (now (rows .exit)) (now (marks .exit)))
         ≡ searchCall (now (sheet .entry)) (length (now (words .entry))) (length (now (floats .entry)))
         (outOf (now (matrices .entry)) (now (rows .entry)) (now (marks .entry))) ⌝ }
+    ensures { λ r. ⌜ Demand3Told (now (sheet .entry)) r (now (rows .exit)) (now (marks .exit)) ⌝ }
 {
     run(sheet, words, floats, false, matrices, rows, marks)
 }
@@ -41,6 +44,7 @@ pub fn rotations(
     ensures { λ r. ⌜ (r, outOf (now (matrices .exit)) (now (rows .exit)) (now (marks .exit)))
         ≡ rotationsCall (now (sheet .entry)) (length (now (words .entry))) (length (now (floats .entry)))
         (outOf (now (matrices .entry)) (now (rows .entry)) (now (marks .entry))) ⌝ }
+    ensures { λ r. ⌜ Demand3Told (now (sheet .entry)) r (now (rows .exit)) (now (marks .exit)) ⌝ }
 {
     run(sheet, words, floats, true, matrices, rows, marks)
 }

@@ -1,70 +1,19 @@
 // "Members come in flag order with matrix and row", and each with its mark: the rule of the solid as read.
 use distances::all_classes;
-use marks::mark;
+use products::mark_rows;
+use ranked::ELEMENTS;
 use ranked::Shape;
 use vertex_sets::apart::are_apart;
 use vertex_sets::printing::write_prints;
 ghost use mathlib.Core.Path.{_≡_};
-ghost use mathlib.Core.List.{[], _∷_, map};
-ghost use Prim.Native.Nat.{_*_, _≤_, _<_};
+ghost use mathlib.Core.List.{map};
+ghost use Prim.Native.Nat.{_*_, _≤_};
 ghost use lib.ListN.{length, take};
 ghost use Rattle.spec.specs.Types.{size};
 ghost use Rattle.spec.specs.Copying.{parts, written};
 ghost use Rattle.ranked.specs.Words.{solidIn};
 ghost use Rattle.ranked.specs.Bench.{solidAt, Bench};
-ghost use Rattle.marks.specs.Rows.{concrete};
-ghost use Rattle.search.specs.Reading.{markIn, Markable};
-
-// The mark of a row, to the first of the marks that are left.
-fn mark_row(
-    w: &[u32],
-    sh: Shape,
-    floats: &[f64],
-    apart: bool,
-    row: &[u16],
-    goes: &mut [u16],
-    out: &mut [u8],
-)
-    requires { ⌜ Markable sh (now w) (now floats) apart (length (now goes)) ⌝ }
-    requires { ⌜ (length (now row) ≡ size (solidIn sh (now w)) 1) × (0 < length (now out)) ⌝ }
-    ensures { λ _. ⌜ now (out .exit) ≡ written (markIn (concrete sh (now (w .entry)) (now (floats .entry))) (now (row .entry)) ∷ []) (now (out .entry)) ⌝ }
-{
-    let m = mark(w, sh, floats, apart, row, goes);
-    out[0] = m;
-}
-
-// The marks of n rows of v entries each. The cells of `goes` are free before and after.
-fn mark_rows(
-    w: &[u32],
-    sh: Shape,
-    floats: &[f64],
-    apart: bool,
-    v: usize,
-    rows: &[u16],
-    n: usize,
-    goes: &mut [u16],
-    marks: &mut [u8],
-)
-    requires { ⌜ Markable sh (now w) (now floats) apart (length (now goes)) ⌝ }
-    requires { ⌜ (v ≡ size (solidIn sh (now w)) 1) × (n * v ≤ length (now rows)) × (n ≤ length (now marks)) ⌝ }
-    ensures { λ _. ⌜ now (marks .exit) ≡ written (map (markIn (concrete sh (now (w .entry)) (now (floats .entry)))) (parts n v (now (rows .entry)))) (now (marks .entry)) ⌝ }
-{
-    let mut k: usize = 0;
-    while k < n {
-        let start = k * v;
-        let end = start + v;
-        mark_row(
-            w,
-            sh,
-            floats,
-            apart,
-            &rows[start..end],
-            goes,
-            &mut marks[k..],
-        );
-        k += 1;
-    }
-}
+ghost use Rattle.products.specs.Marking.{markIn};
 
 // The marks of n rows, in the solid that lies in the words and floats: its distance classes and its vertex sets' prints are worked out for
 // them. What the words hold behind the solid, and the floats behind the coordinates, is free.
@@ -88,7 +37,7 @@ pub fn write_marks(
     all_classes(&words[..low], sh, floats);
     write_prints(words, low, sh, at);
     let apart = are_apart(words, low, sh, at);
-    let mut goes = [0u16; 8194];
+    let mut goes = [0u16; ELEMENTS];
     mark_rows(
         &words[..low],
         sh,

@@ -1,11 +1,13 @@
-// Replays stored searches: reads records and writes each answer with a digest of every cell of the three outputs. All numbers are whole,
-// eight bytes each, highest byte first. A record is which call it is (0 search, 1 rotations), how long the sheet is, how many words and
-// floats the workspace has, how long the outputs of matrices, rows and marks are, and then the sheet's bytes. Its answer is the refusal's
-// number, or 0; the count; a digest of each output. The outputs are filled with numbers of the place beforehand, so that a cell that is to
-// stay is seen to stay. tools/make_searches.py made stdin and stdout.
+// Replays stored searches: reads records and writes each answer as text. In a record all numbers are whole, eight bytes each, highest byte
+// first: which call it is (0 search, 1 rotations; 2 and 3 the same, answered whole), how long the sheet is, how many words and floats the
+// workspace has, how long the outputs of matrices, rows and marks are; then come the sheet's bytes. Its answer is a line with the refusal's
+// number, or 0, the count, and a digest of each output. Where it is to be whole there are the outputs instead: a line for each matrix (the
+// floats' patterns in hexadecimal digits), one for each row, and one with all marks. The outputs are filled with numbers of the place
+// beforehand, so that a cell that is to stay is seen to stay. tools/make_searches.py made stdin and stdout.
 //
 // A digest goes by pieces of 16 bits, a float as the four pieces of its pattern, highest first: multiply by BASE, add the piece, take the
-// rest by PRIME, from 1 on. Each step is one to one in either number, so a change in one piece alone always shows.
+// rest by PRIME, from 1 on. A step is one to one in the state, and two steps in their pieces a and b: b is below BASE, and a * BASE + b below
+// PRIME. So a change of one piece, or of two neighbours, always shows where all else is the same; that others show is likely, not certain.
 ghost use Prim.Native.Nat.{_<_, _≤_, _^_};
 ghost use lib.ListN.{length};
 use float::bits;
@@ -24,9 +26,9 @@ const ROWS: usize = 32768;
 
 const MARKS: usize = 2048;
 
-const BASE: u64 = 65521;
+const BASE: u64 = 1_000_003;
 
-const PRIME: u64 = 281_474_976_710_597;
+const PRIME: u64 = 17_592_186_044_399;
 
 // What stands at the end of the input: no record may ask for so much.
 const END: u64 = 0xffff_ffff_ffff_fffe;
@@ -59,18 +61,108 @@ fn next() -> u64 {
     half(b[0], b[1], b[2], b[3]) * 0x1_0000_0000 + half(b[4], b[5], b[6], b[7])
 }
 
-fn write(n: u64) -> bool {
+// A digit below 16.
+fn digit(n: u64) -> u8 {
+    let d = n % 16;
+    if d < 10 {
+        return (48 + d) as u8;
+    }
+    (87 + d) as u8
+}
+
+// Four hexadecimal digits.
+fn write_piece(n: u64) -> bool {
     let b = [
-        (n / 0x100_0000_0000_0000 % 256) as u8,
-        (n / 0x1_0000_0000_0000 % 256) as u8,
-        (n / 0x100_0000_0000 % 256) as u8,
-        (n / 0x1_0000_0000 % 256) as u8,
-        (n / 0x100_0000 % 256) as u8,
-        (n / 0x1_0000 % 256) as u8,
-        (n / 0x100 % 256) as u8,
-        (n % 256) as u8,
+        digit(n / 0x1000),
+        digit(n / 0x100),
+        digit(n / 0x10),
+        digit(n),
     ];
     io::write_all(1, &b)
+}
+
+fn write_pattern(n: u64) -> bool {
+    write_piece(n / 0x1_0000_0000_0000)
+        && write_piece(n / 0x1_0000_0000)
+        && write_piece(n / 0x1_0000)
+        && write_piece(n)
+}
+
+// Five decimal digits: no number here is larger.
+fn write_number(n: u64) -> bool {
+    let b = [
+        digit(n / 10000 % 10),
+        digit(n / 1000 % 10),
+        digit(n / 100 % 10),
+        digit(n / 10 % 10),
+        digit(n % 10),
+    ];
+    io::write_all(1, &b)
+}
+
+// What stands after a number.
+fn write_gap(last: bool) -> bool {
+    if last {
+        return io::write_all(1, b"\n");
+    }
+    io::write_all(1, b" ")
+}
+
+// Of each writing of an output: so many numbers to a line.
+fn write_floats(s: &[f64], line: usize)
+    requires { ⌜ 0 < line ⌝ }
+{
+    let mut i: usize = 0;
+    while i < s.len() {
+        write_pattern(bits::pattern(s[i]));
+        i += 1;
+        write_gap(i % line == 0);
+    }
+}
+
+fn write_cells(s: &[u16], line: usize)
+    requires { ⌜ 0 < line ⌝ }
+{
+    let mut i: usize = 0;
+    while i < s.len() {
+        write_number(wider(s[i]));
+        i += 1;
+        write_gap(i % line == 0);
+    }
+}
+
+fn write_bytes(s: &[u8], line: usize)
+    requires { ⌜ 0 < line ⌝ }
+{
+    let mut i: usize = 0;
+    while i < s.len() {
+        write_number(wide(s[i]));
+        i += 1;
+        write_gap(i % line == 0);
+    }
+}
+
+// How many of the cells come to one of the lines.
+fn to_a_line(cells: usize, lines: usize) -> usize
+    ensures { λ r. ⌜ 0 < r ⌝ }
+{
+    if lines == 0 {
+        return 1;
+    }
+    let n = cells / lines;
+    if n == 0 {
+        return 1;
+    }
+    n
+}
+
+// The outputs themselves: a line for each member's matrix and row, where the marks are as many as the members, and one for the marks.
+fn write_outputs(matrices: &[f64], rows: &[u16], marks: &[u8]) -> bool {
+    let n = marks.len();
+    write_floats(matrices, to_a_line(matrices.len(), n));
+    write_cells(rows, to_a_line(rows.len(), n));
+    write_bytes(marks, to_a_line(n, 1));
+    true
 }
 
 // Floats that no member has, another in each cell.
@@ -102,15 +194,15 @@ fn fill_bytes(out: &mut [u8]) {
 
 // The digest after one more piece.
 fn digest(state: u64, piece: u64) -> u64
-    requires { ⌜ (state < 2 ^ 48) × (piece < 65536) ⌝ }
-    ensures { λ r. ⌜ r < 2 ^ 48 ⌝ }
+    requires { ⌜ (state < 2 ^ 44) × (piece < 65536) ⌝ }
+    ensures { λ r. ⌜ r < 2 ^ 44 ⌝ }
 {
     (state * BASE + piece) % PRIME
 }
 
 fn digest_pattern(state: u64, n: u64) -> u64
-    requires { ⌜ state < 2 ^ 48 ⌝ }
-    ensures { λ r. ⌜ r < 2 ^ 48 ⌝ }
+    requires { ⌜ state < 2 ^ 44 ⌝ }
+    ensures { λ r. ⌜ r < 2 ^ 44 ⌝ }
 {
     let a = digest(state, n / 0x1_0000_0000_0000 % 65536);
     let b = digest(a, n / 0x1_0000_0000 % 65536);
@@ -148,10 +240,27 @@ fn digest_bytes(s: &[u8]) -> u64 {
     state
 }
 
-fn write_answer(answer: Answer) -> bool {
+fn write_digests(matrices: &[f64], rows: &[u16], marks: &[u8]) -> bool {
+    write_pattern(digest_floats(matrices))
+        && write_gap(false)
+        && write_pattern(digest_cells(rows))
+        && write_gap(false)
+        && write_pattern(digest_bytes(marks))
+        && write_gap(true)
+}
+
+// The refusal's number and the count.
+fn write_answer(answer: Answer, last: bool) -> bool {
     match answer {
-        Answer::Done(n) => write(0) && write(n as u64),
-        Answer::Refused(why, n) => write(why.number() as u64) && write(n as u64),
+        Answer::Done(n) => {
+            write_number(0) && write_gap(false) && write_number(n as u64) && write_gap(last)
+        }
+        Answer::Refused(why, n) => {
+            write_number(why.number() as u64)
+                && write_gap(false)
+                && write_number(n as u64)
+                && write_gap(last)
+        }
     }
 }
 
@@ -173,6 +282,7 @@ fn call(
 // Reads a sheet that just fills its slice, and searches.
 fn replay(
     rotations: bool,
+    whole: bool,
     sheet: &mut [u8],
     words: &mut [u32],
     floats: &mut [f64],
@@ -185,10 +295,11 @@ fn replay(
     fill_cells(rows);
     fill_bytes(marks);
     let answer = call(rotations, sheet, words, floats, matrices, rows, marks);
-    write_answer(answer)
-        && write(digest_floats(matrices))
-        && write(digest_cells(rows))
-        && write(digest_bytes(marks))
+    write_answer(answer, whole);
+    if whole {
+        return write_outputs(matrices, rows, marks);
+    }
+    write_digests(matrices, rows, marks)
 }
 
 // A length that the input asks for, of at most the limit given; or one above it.
@@ -237,7 +348,8 @@ fn replay_one(
         return false;
     }
     replay(
-        call == 1,
+        call % 2 == 1,
+        call / 2 == 1,
         &mut sheet[..s],
         &mut words[..w],
         &mut floats[..f],

@@ -11,16 +11,11 @@ ghost use Rattle.spec.specs.Judged as judged;
 ghost use Rattle.spec.specs.Sheet as form;
 ghost use Rattle.sheet.specs.Judge.{proper, rankEntries, allEntries, judgementOf};
 ghost use Rattle.sheet.specs.Reading.{placeOf, countedOf, listedOf, passes, bodyAt, restAt, judgementAt};
+use spec::MAX_COUNT;
+use spec::MAX_DIMENSION;
+use spec::MAX_ENTRIES;
+use spec::MAX_RANK;
 use spec::Refusal;
-
-// Section 2's limits.
-const MAX_RANK: usize = 5;
-
-const MAX_DIMENSION: usize = 4;
-
-const MAX_COUNT: usize = 2048;
-
-const MAX_ENTRIES: usize = 8192;
 
 // The proper ranks of the greatest R.
 pub const PROPER: usize = MAX_RANK - 1;

@@ -12,7 +12,7 @@ use lib.Dec.{T, eqb, ltb, ltb→lt}
 use Rattle.spec.specs.Lists.{In, holds, place, eqList, range, keep, every}
 use Rattle.spec.specs.Types.{Solid, top, size, subs, properRanks, isProper, Classes}
 use Rattle.spec.specs.Demand.{Sound, Proper, Carries}
-use Rattle.spec.specs.Mark.{noRepeats, inOrder, reach, vertices, vertexSets, image, goes, carriesElement, marked}
+use Rattle.spec.specs.Mark.{noRepeats, inOrder, reach, vertices, vertexSets, setsApart, image, goes, carriesElement, marked}
 use Rattle.spec.proofs.Distinct.{Test, Once, Split, split, in?, place-at}
 use Rattle.spec.proofs.Lists.{in-getD, map-in, in-map, in-range, of-range, getD-table, length-table}
 use Rattle.spec.proofs.Counts.{numbers, lists, keep-in, in-keep, holds-in, in-holds}
@@ -202,7 +202,7 @@ module _ (s : Solid) (w : Sound s) (cls : Classes) (row : List ℕ) (ok : marked
   unfolding marked
   parts =
       let n₁ = size s 1 in
-      let a = every (λ r. noRepeats eqList (vertexSets s r)) (properRanks s) in
+      let a = setsApart s in
       let b = eqb (length row) n₁ in
       let c = every (λ v. ltb v n₁) row in
       let d = noRepeats eqb row in

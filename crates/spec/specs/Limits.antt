@@ -1,4 +1,4 @@
--- Section 2, "Limits": each number stands here and nowhere else.
+-- Section 2, "Limits": each number stands here once for the definitions, and once in src/lib.rt for the programs.
 -- Assumes nothing.
 use Prim.Native.Nat.{ℕ}
 use lib.Ieee.{Float, binary64, ofBits}

@@ -29,6 +29,10 @@ vertices s r e = inOrder (size s 1) (reach s r e)
 unfoldable pub vertexSets : Solid → ℕ → List (List ℕ)
 vertexSets s r = map (vertices s r) (range 0 (size s r))
 
+-- "no two elements of a rank have one vertex set"
+abbrev pub setsApart : Solid → Bool
+setsApart s = every (λ r. noRepeats eqList (vertexSets s r)) (properRanks s)
+
 -- the image of e's vertex set
 unfoldable pub image : Solid → List ℕ → ℕ → ℕ → List ℕ
 image s row r e = inOrder (size s 1) (map (λ v. getD row v 0) (vertices s r e))
@@ -48,7 +52,7 @@ carriesElement s cls row r e =
 -- vertex, and its entries are vertices, where a search makes it: both are asked here so that the rule is one of any row
 unfoldable pub marked : Solid → Classes → List ℕ → Bool
 marked s cls row =
-    every (λ r. noRepeats eqList (vertexSets s r)) (properRanks s)
+    setsApart s
     && eqb (length row) (size s 1)
     && every (λ v. ltb v (size s 1)) row
     && noRepeats eqb row

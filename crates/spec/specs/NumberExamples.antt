@@ -206,11 +206,28 @@ pub half-turn : copyCall 2 (vec (0x3ff0_0000_0000_0000 ∷ 0x4000_0000_0000_0000
 unfolding all
 half-turn = refl
 
+-- 1 under [2] and [3]: an image is not multiplied again
+pub images-once : copies (mat ((0x4000_0000_0000_0000 ∷ []) ∷ []) ∷ mat ((0x4008_0000_0000_0000 ∷ []) ∷ []) ∷ []) (mat ((0x3ff0_0000_0000_0000 ∷ []) ∷ []))
+    ≡ mat ((0x4000_0000_0000_0000 ∷ []) ∷ (0x4008_0000_0000_0000 ∷ []) ∷ [])
+unfolding all
+images-once = refl
+
+-- near both points: the lowest number; near none: how many there are
+pub lowest-found : map (find (mat ((0 ∷ []) ∷ (0x3e80_0000_0000_0000 ∷ []) ∷ []))) (mat ((0x3e70_0000_0000_0000 ∷ []) ∷ (0x3ff0_0000_0000_0000 ∷ []) ∷ [])) ≡ 0 ∷ 2 ∷ []
+unfolding all
+lowest-found = refl
+
 -- a point EPS away (as rounded: beyond EPS) from a copy
 pub near-copies : copyCall 2 (vec (0x3ff0_0000_0000_0000 ∷ 0 ∷ 0x3ff0_0000_1ad7_f29b ∷ 0 ∷ [])) (vec (0x3ff0_0000_0000_0000 ∷ 0 ∷ 0 ∷ 0x3ff0_0000_0000_0000 ∷ [])) (vec (0x401c_0000_0000_0000 ∷ 0x401c_0000_0000_0000 ∷ 0x401c_0000_0000_0000 ∷ 0x401c_0000_0000_0000 ∷ [])) (7 ∷ 7 ∷ [])
     ≡ (Done 2, vec (0x3ff0_0000_0000_0000 ∷ 0 ∷ 0x3ff0_0000_1ad7_f29b ∷ 0 ∷ []), 0 ∷ 1 ∷ [])
 unfolding all
 near-copies = refl
+
+-- half of the first is within EPS of both: the lower number, and not the lower coordinate
+pub lowest-number : copyCall 1 (vec (0x3e85_798e_e230_8c3a ∷ 0 ∷ [])) (vec (0x3ff0_0000_0000_0000 ∷ 0x3fe0_0000_0000_0000 ∷ [])) (vec (0x401c_0000_0000_0000 ∷ 0x401c_0000_0000_0000 ∷ [])) (7 ∷ 7 ∷ 7 ∷ 7 ∷ [])
+    ≡ (Done 2, vec (0x3e85_798e_e230_8c3a ∷ 0 ∷ []), 0 ∷ 1 ∷ 0 ∷ 1 ∷ [])
+unfolding all
+lowest-number = refl
 
 -- 2: D is 5; and a length is broken too
 pub refused-2 : copyCall 5 (vec (0x3ff0_0000_0000_0000 ∷ [])) (vec (0x3ff0_0000_0000_0000 ∷ [])) (vec (0x401c_0000_0000_0000 ∷ [])) (7 ∷ [])

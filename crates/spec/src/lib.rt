@@ -3,6 +3,15 @@
 ghost use mathlib.Core.Path.{_≡_};
 ghost use Rattle.spec.specs.Refusal.{number};
 
+// Section 2's limits as the programs have them; specs/Limits.antt has them for the definitions.
+pub const MAX_RANK: usize = 5;
+
+pub const MAX_DIMENSION: usize = 4;
+
+pub const MAX_COUNT: usize = 2048;
+
+pub const MAX_ENTRIES: usize = 8192;
+
 // A refusal, under its word in the table.
 pub enum Refusal {
     CutSheet,

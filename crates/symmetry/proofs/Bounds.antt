@@ -1,6 +1,6 @@
 -- What stands within the bounds while flags are tried: the vertices' coordinates lie in the floats, and are the searched solid's points.
 -- Assumes nothing.
-use mathlib.Core.Path.{_≡_, _∙_}
+use mathlib.Core.Path.{_≡_, sym, ap, subst, _∙_}
 use mathlib.Core.List.{List, map}
 use Prim.Native.Nat.{ℕ, zero, suc, _-_, _*_, _≤_}
 use native.Mathlib.Nat.{mul-le-mul-left}
@@ -11,6 +11,8 @@ use Rattle.spec.specs.Limits.{maxCount}
 use Rattle.spec.specs.Lists.{range, sum}
 use Rattle.spec.specs.Types.{Solid, top, size, properRanks, elements}
 use Rattle.spec.specs.Copying.{parts}
+use Rattle.lookup.specs.Points.{Apart}
+use Rattle.lookup.proofs.Apart.{apart-of}
 use Rattle.ranked.specs.declared.Shape.{Shape}
 use Rattle.ranked.specs.Words.{firstAt, sizeAt, solidIn}
 use Rattle.ranked.specs.Bench.{solidAt}
@@ -48,3 +50,11 @@ module _ {sh : Shape} {low : ℕ} {ws : List ℕ} {fs : List Float} {at : ℕ} (
 
   pub points-many : length (solidAt sh low ws fs .points) ≡ sizeAt sh 1
   points-many = length-parts (size (solidIn sh (take low ws)) 1) (sh .dimension) (take (size (solidIn sh (take low ws)) 1 * sh .dimension) fs) ∙ vertices-are
+
+  module _ (v : ℕ) (many : v ≡ sizeAt sh 1) where
+    -- the points, v of them as the code reads them
+    pub points-read : solidAt sh low ws fs .points ≡ parts v (sh .dimension) fs
+    points-read = points-are ∙ ap (λ n. parts n (sh .dimension) fs) (vertices-are ∙ sym many)
+
+    pub points-apart : Apart (parts v (sh .dimension) fs)
+    points-apart = subst Apart points-read (apart-of (solidAt sh low ws fs .points) (h .parted .distinct))

@@ -69,15 +69,19 @@ module _ (D : Concrete) (z : State) (m : Matrix) (rot : Bool) (d v k : ℕ) (ms 
   unfolding listedIf
   candidate-not e = came-none d v k _ ms rs (ap (listedIf rot) (tested-is false e))
 
-  module _ (yes : true ≡ passing D z m) where
-    -- it is no rotation, and only rotations are wanted
-    pub candidate-turned : rot ≡ true → lt zeroF (determinant m) ≡ false → Came d v k (listedIf rot (tested (settingOf c D z i) m)) Skipped ms ms rs rs
-    unfolding listedIf isRotation
-    candidate-turned r e = came-none d v k _ ms rs (ap (listedIf rot) (tested-is true yes) ∙ go rot (lt zeroF (determinant m)) r e)
-      where
-        go : (b t : Bool) → b ≡ true → t ≡ false → _≡_ {A = Option Member} (elim (not b || t) as (λ u. Option Member) [ true ↦ some member | false ↦ none ]) none
-        go b t p q = rw (p, q) refl
+  -- it is no rotation, and only rotations are wanted
+  pub candidate-turned : rot ≡ true → lt zeroF (determinant m) ≡ false → Came d v k (listedIf rot (tested (settingOf c D z i) m)) Skipped ms ms rs rs
+  unfolding listedIf isRotation
+  candidate-turned r e = came-none d v k _ ms rs (go (passing D z m) refl)
+    where
+      turned : (b t : Bool) → b ≡ true → t ≡ false → _≡_ {A = Option Member} (elim (not b || t) as (λ u. Option Member) [ true ↦ some member | false ↦ none ]) none
+      turned b t p q = rw (p, q) refl
 
+      go : (b : Bool) → passing D z m ≡ b → listedIf rot (tested (settingOf c D z i) m) ≡ none
+      go true p = ap (listedIf rot) (tested-is true (sym p)) ∙ turned rot (lt zeroF (determinant m)) r e
+      go false p = ap (listedIf rot) (tested-is false (sym p))
+
+  module _ (yes : true ≡ passing D z m) where
     module _ (wanted : (rot ≡ false) ⊎ (lt zeroF (determinant m) ≡ true)) where
       listed : listedIf rot (tested (settingOf c D z i) m) ≡ some member
       unfolding listedIf isRotation

@@ -1,7 +1,8 @@
 -- The workspace while flags are tried: the solid searched, its types, and the prints of its vertex sets.
 -- Assumes nothing.
+use mathlib.Core.Path.{_≡_}
 use Prim.Native.Nat.{ℕ, _≤_}
-use mathlib.Core.Bool.{Bool, _&&_}
+use mathlib.Core.Bool.{Bool, true, _&&_}
 use mathlib.Core.List.{List}
 use lib.ListN.{length}
 use lib.Dec.{ltb}
@@ -9,18 +10,26 @@ use lib.Ieee.{Float}
 use Rattle.spec.specs.Lists.{every}
 use Rattle.spec.specs.Types.{State}
 use Rattle.spec.specs.Matrix.{Matrix}
+use Rattle.spec.specs.Mark.{noRepeats}
+use Rattle.spec.specs.Copying.{near}
 use Rattle.spec.specs.Solid.{Concrete}
 use Rattle.spec.specs.Search.{rowOf, examplesGo}
 use Rattle.ranked.specs.declared.Shape.{Shape}
-use Rattle.ranked.specs.Bench.{Bench}
+use Rattle.ranked.specs.Bench.{solidAt, Bench}
 use Rattle.element_types.specs.State.{Countable}
 use Rattle.vertex_sets.specs.Prints.{Ready}
+
+-- neither 8 nor 9: there is an axis, and no vertex is near a later one
+pub record Parted (d : Concrete) : Type 0 where
+  pub axes : 1 ≤ d .dimension
+  pub distinct : noRepeats near (d .points) ≡ true
 
 pub record Searching (sh : Shape) (low : ℕ) (ws : List ℕ) (fs : List Float) (at : ℕ) : Type 0 where
   pub bench : Bench sh low ws fs
   pub tall : 2 ≤ sh .rank
   pub counted : Countable sh low ws
   pub prints : Ready sh low ws at
+  pub parted : Parted (solidAt sh low ws fs)
 
 -- does the candidate m pass, in the solid d with the types z: every vertex image found, and the examples' images vertex sets
 unfoldable pub passing : Concrete → State → Matrix → Bool

@@ -1,4 +1,4 @@
-// Section 6 of document 01: the search for symmetries (conc/symmetry.rs).
+// Section 6 of document 01: the members of a solid in lent words, flag by flag (conc/symmetry.rs). The calls are in crate `search`.
 
 pub mod listing;
 mod writing;

@@ -10,6 +10,7 @@ ghost use Rattle.spec.specs.Solid.{Concrete};
 ghost use Rattle.spec.specs.Flags.{IsFlag, firstFlag, flags};
 ghost use Rattle.spec.specs.Search.{rowOf, tested};
 ghost use Rattle.float.specs.Reading.{corner};
+ghost use Rattle.lookup.specs.Points.{Lone};
 ghost use Rattle.ranked.specs.Words.{firstAt, sizeAt, solidIn};
 ghost use Rattle.ranked.specs.Bench.{solidAt};
 ghost use Rattle.element_types.specs.State.{stateIn};
@@ -25,7 +26,10 @@ use candidates::same_types;
 use flag::Flag;
 use float::DIMENSION;
 use float::matrix;
+use lookup::PLACES;
+use lookup::is_lone;
 use ranked::Shape;
+use spec::MAX_COUNT;
 use vertex_sets::examples::examples_go;
 
 // What trying a flag came to: it gives no member that is listed, its member was written, or there is no room for it.
@@ -73,35 +77,42 @@ fn has_room(d: usize, v: usize, floats: usize, entries: usize, left: usize) -> b
     0 < left
 }
 
-// Does the candidate pass: is each vertex image found, and does each type's example go to an element? Its row is written.
+// The test of a candidate: is each vertex image found, and does each type's example go to an element? Its row is written. That the flag's
+// elements have the first flag's types is asked before (`try_flag`): a flag that has not is spared its columns and their product.
 fn passes(
     words: &[u32],
     low: usize,
     sh: Shape,
     at: usize,
     floats: &[f64],
+    lone: bool,
+    places: &[u16; PLACES],
     m: [[f64; DIMENSION]; DIMENSION],
     row: &mut [u16],
 ) -> bool
     requires { ⌜ Searching sh low (now words) (now floats) at ⌝ }
     requires { ⌜ size (solidIn sh (take low (now words))) 1 ≤ length (now row) ⌝ }
+    requires { ⌜ (lone ≡ true → Lone (solidAt sh low (now words) (now floats) .points)) ⌝ }
     ensures { λ r. ⌜ r ≡ passing (solidAt sh low (now (words .entry)) (now (floats .entry))) (stateIn sh low (now (words .entry))) (corner (sh .dimension) m) ⌝ }
     ensures { λ r. ⌜ (r ≡ true → take (size (solidIn sh (take low (now (words .entry)))) 1) (now (row .exit)) ≡ rowOf (solidAt sh low (now (words .entry)) (now (floats .entry)) .points) (corner (sh .dimension) m)) ⌝ }
 {
     let v = vertex_count(sh);
-    if !row_of(floats, sh.dimension, v, m, row) {
+    if !row_of(floats, sh.dimension, v, lone, places, m, row) {
         return false;
     }
     examples_go(words, low, sh, at, row)
 }
 
-// A candidate: it is skipped, written to the front of the parts of the outputs, or there is no room. `left` marks are left.
+// A candidate: it is skipped, written to the front of the parts of the outputs, or there is no room. `left` marks are left. Whether it is a
+// rotation is told sooner than whether it passes.
 fn try_candidate(
     words: &[u32],
     low: usize,
     sh: Shape,
     at: usize,
     floats: &[f64],
+    lone: bool,
+    places: &[u16; PLACES],
     m: [[f64; DIMENSION]; DIMENSION],
     rotations: bool,
     left: usize,
@@ -109,17 +120,18 @@ fn try_candidate(
     rows: &mut [u16],
 ) -> Tried
     requires { ⌜ Searching sh low (now words) (now floats) at ⌝ }
+    requires { ⌜ (lone ≡ true → Lone (solidAt sh low (now words) (now floats) .points)) ⌝ }
     ensures { λ t. ⌜ ((c : Concrete) (i : Matrix) → Came (sh .dimension) (length (solidAt sh low (now (words .entry)) (now (floats .entry)) .points)) left (listedIf rotations (tested (settingOf c (solidAt sh low (now (words .entry)) (now (floats .entry))) (stateIn sh low (now (words .entry))) i) (corner (sh .dimension) m))) t (now (matrices .entry)) (now (matrices .exit)) (now (rows .entry)) (now (rows .exit))) ⌝ }
 {
-    let mut row = [0u16; 2048];
-    if !passes(words, low, sh, at, floats, m, &mut row) {
-        return Tried::Skipped;
-    }
     let d = sh.dimension;
     if rotations {
         if !(0.0 < matrix::determinant(m, d)) {
             return Tried::Skipped;
         }
+    }
+    let mut row = [0u16; MAX_COUNT];
+    if !passes(words, low, sh, at, floats, lone, places, m, &mut row) {
+        return Tried::Skipped;
     }
     let v = vertex_count(sh);
     if !has_room(d, v, matrices.len(), rows.len(), left) {
@@ -137,6 +149,8 @@ fn try_flag(
     sh: Shape,
     at: usize,
     floats: &[f64],
+    lone: bool,
+    places: &[u16; PLACES],
     flag: Flag,
     first: Flag,
     inv: [[f64; DIMENSION]; DIMENSION],
@@ -148,6 +162,7 @@ fn try_flag(
     requires { ⌜ Searching sh low (now words) (now floats) at ⌝ }
     requires { ⌜ IsFlag (solidIn sh (take low (now words))) (flagIn (sh .rank) flag) ⌝ }
     requires { ⌜ flagIn (sh .rank) first ≡ firstFlag (solidIn sh (take low (now words))) ⌝ }
+    requires { ⌜ (lone ≡ true → Lone (solidAt sh low (now words) (now floats) .points)) ⌝ }
     ensures { λ t. ⌜ ((c : Concrete) → Came (sh .dimension) (length (solidAt sh low (now (words .entry)) (now (floats .entry)) .points)) left (gives (settingOf c (solidAt sh low (now (words .entry)) (now (floats .entry))) (stateIn sh low (now (words .entry))) (corner (sh .dimension) inv)) rotations (flagIn (sh .rank) flag)) t (now (matrices .entry)) (now (matrices .exit)) (now (rows .entry)) (now (rows .exit))) ⌝ }
 {
     if !same_types(words, low, sh, flag, first) {
@@ -160,6 +175,8 @@ fn try_flag(
         sh,
         at,
         floats,
+        lone,
+        places,
         m,
         rotations,
         left,
@@ -187,6 +204,8 @@ pub fn list_members(
     let first = Flag::first(&words[..low], sh);
     let d = sh.dimension;
     let v = vertex_count(sh);
+    let lone = is_lone(floats, d, v);
+    let places = lookup::places(floats, d, v);
     let mut flag = first;
     let mut n: usize = 0;
     let mut more = true;
@@ -197,6 +216,8 @@ pub fn list_members(
             sh,
             at,
             floats,
+            lone,
+            &places,
             flag,
             first,
             inv,

@@ -14,7 +14,7 @@ use Rattle.spec.specs.declared.Answer.the-variants.{Done, Refused}
 use Rattle.spec.specs.Lists.{join, range, place, eqList, every, holds}
 use Rattle.spec.specs.Float.{zeroF, oneF, zip, dot}
 use Rattle.spec.specs.Mark.{noRepeats}
-use Rattle.spec.specs.Matrix.{Vector, columns, mulVec, mulMat}
+use Rattle.spec.specs.Matrix.{Vector, Matrix, columns, mulVec, mulMat}
 use Rattle.spec.specs.Copying.{orders, signed, axisOrder, axisOrders, find, copyCall, copyRow, copyTable, copyOut, written}
 use Rattle.spec.specs.NumberExamples.{most, all}
 
@@ -72,20 +72,21 @@ unfoldable pub unrepeated : List (List ℕ) → List (List ℕ)
 unrepeated [] = []
 unrepeated (l ∷ ls) = elim (noRepeats eqb l) [ true ↦ l ∷ unrepeated ls | false ↦ unrepeated ls ]
 
-pub record AxisOrderTable : Type 0 where
+-- what is said of a table t
+pub record AxisOrderTable (t : List Matrix) : Type 0 where
   -- "48 signed axis orders"
-  pub entries : length axisOrders ≡ 48
+  pub entries : length t ≡ 48
   -- "p the order's dictionary rank from 0 to 5"
   pub dictionary : orders ≡ unrepeated triples
   -- "entry 8 times p + s"
-  pub rule : map (λ p. map (λ s. getD axisOrders (8 * p + s) []) (range 0 8)) (range 0 6) ≡ map (λ p. map (axisOrder (getD orders p [])) (range 0 8)) (range 0 6)
+  pub rule : map (λ p. map (λ s. getD t (8 * p + s) []) (range 0 8)) (range 0 6) ≡ map (λ p. map (axisOrder (getD orders p [])) (range 0 8)) (range 0 6)
   -- "row i has its unit at the column the order names", minus where the sign bit of axis i is 1: each row is one of the six of `axes`
-  pub rows : axisOrders ≡ map (map (λ a. getD axes a [])) rowNumbers
+  pub rows : t ≡ map (map (λ a. getD axes a [])) rowNumbers
   -- every product of two entries is an entry
-  pub multiplied : map (λ a. map (mulMat a) axisOrders) axisOrders ≡ map (map (λ j. getD axisOrders j [])) products
+  pub multiplied : map (λ a. map (mulMat a) t) t ≡ map (map (λ j. getD t j [])) products
   pub within : every (every (λ j. ltb j 48)) products ≡ true
 
-pub axis-order-table : AxisOrderTable
+pub axis-order-table : AxisOrderTable axisOrders
 unfolding all triples unrepeated noRepeats products rowNumbers axes eqList
 axis-order-table = record { entries = refl; dictionary = refl; rule = refl; rows = refl; multiplied = closed; within = refl }
 

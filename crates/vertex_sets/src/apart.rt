@@ -3,12 +3,12 @@ use crate::finding::is_found;
 use crate::printing::print_of;
 use ranked::Shape;
 use ranked::vertices::vertex_list;
+use spec::MAX_COUNT;
 ghost use mathlib.Core.Path.{_≡_};
 ghost use Prim.Native.Nat.{suc, _≤_, _<_};
 ghost use lib.ListN.{take, drop};
-ghost use Rattle.spec.specs.Lists.{holds, eqList, every};
-ghost use Rattle.spec.specs.Types.{properRanks};
-ghost use Rattle.spec.specs.Mark.{noRepeats, vertices, vertexSets};
+ghost use Rattle.spec.specs.Lists.{holds, eqList};
+ghost use Rattle.spec.specs.Mark.{noRepeats, vertices, vertexSets, setsApart};
 ghost use Rattle.ranked.specs.Words.{solidIn};
 ghost use Rattle.vertex_sets.specs.Prints.{Element, Ready};
 
@@ -18,7 +18,7 @@ fn is_repeated(words: &[u32], low: usize, sh: Shape, at: usize, r: usize, e: usi
     requires { ⌜ Element sh r e ⌝ }
     ensures { λ b. ⌜ b ≡ holds eqList (vertices (solidIn sh (take low (now (words .entry)))) r e) (drop (suc e) (vertexSets (solidIn sh (take low (now (words .entry)))) r)) ⌝ }
 {
-    let mut list = [0u16; 2048];
+    let mut list = [0u16; MAX_COUNT];
     let n = vertex_list(&words[..low], sh, r, e, &mut list);
     let p = print_of(&list, n);
     is_found(words, low, sh, at, r, e + 1, &list, n, p)
@@ -44,7 +44,7 @@ fn rank_apart(words: &[u32], low: usize, sh: Shape, at: usize, r: usize) -> bool
 // And so at each proper rank?
 pub fn are_apart(words: &[u32], low: usize, sh: Shape, at: usize) -> bool
     requires { ⌜ Ready sh low (now words) at ⌝ }
-    ensures { λ b. ⌜ b ≡ every (λ r. noRepeats eqList (vertexSets (solidIn sh (take low (now (words .entry)))) r)) (properRanks (solidIn sh (take low (now (words .entry))))) ⌝ }
+    ensures { λ b. ⌜ b ≡ setsApart (solidIn sh (take low (now (words .entry)))) ⌝ }
 {
     let rank = sh.rank;
     let mut r: usize = 1;

@@ -3,6 +3,7 @@ use crate::printing::print_of;
 use ranked::Shape;
 use ranked::lists::get;
 use ranked::vertices::vertex_list;
+use spec::MAX_COUNT;
 ghost use mathlib.Core.Path.{_≡_};
 ghost use Prim.Native.Nat.{_+_, _≤_, _<_};
 ghost use lib.ListN.{length, take, drop};
@@ -33,7 +34,7 @@ fn same_vertices(w: &[u32], sh: Shape, r: usize, e: usize, list: &[u16], n: usiz
     requires { ⌜ n ≤ length (now list) ⌝ }
     ensures { λ b. ⌜ b ≡ eqList (vertices (solidIn sh (now (w .entry))) r e) (take n (now (list .entry))) ⌝ }
 {
-    let mut own = [0u16; 2048];
+    let mut own = [0u16; MAX_COUNT];
     let m = vertex_list(w, sh, r, e, &mut own);
     if m != n {
         return false;
@@ -89,7 +90,7 @@ pub fn is_vertex_set(
     requires { ⌜ n ≤ length (now list) ⌝ }
     ensures { λ b. ⌜ b ≡ holds eqList (take n (now (list .entry))) (vertexSets (solidIn sh (take low (now (words .entry)))) r) ⌝ }
 {
-    if 2048 < n {
+    if MAX_COUNT < n {
         return false;
     }
     let p = print_of(list, n);

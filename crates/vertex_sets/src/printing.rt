@@ -1,6 +1,7 @@
 // Prints: the sum of the squares of an element's vertices, kept in lent words. Vertex sets with different prints differ.
 use ranked::Shape;
 use ranked::vertices::vertex_list;
+use spec::MAX_COUNT;
 ghost use mathlib.Core.Path.{_≡_};
 ghost use Prim.Native.Nat.{ℕ, suc, _+_, _≤_, _<_};
 ghost use lib.ListN.{length, getD, take};
@@ -30,7 +31,7 @@ fn print_element(w: &[u32], sh: Shape, r: usize, e: usize) -> u32
     requires { ⌜ Element sh r e ⌝ }
     ensures { λ p. ⌜ p ≡ printOf (vertices (solidIn sh (now (w .entry))) r e) ⌝ }
 {
-    let mut list = [0u16; 2048];
+    let mut list = [0u16; MAX_COUNT];
     let n = vertex_list(w, sh, r, e, &mut list);
     print_of(&list, n) as u32
 }

@@ -15,17 +15,17 @@ use Rattle.candidates.proofs.row_of.Statement.{statement}
 use Rattle.candidates.proofs.row_of.Tie as tie
 
 abbrev Inv : tie.InvT-loop
-Inv points d n m row₀ k₀ row k = (length row ≡ length row₀) × Rowing n (parts n d points) (corner d m) (length-parts n d points) row₀ row k
+Inv points d n lone places m row₀ k₀ row k = (length row ≡ length row₀) × Rowing n (parts n d points) (corner d m) (length-parts n d points) row₀ row k
 
 abbrev μ : tie.MeasureT-loop
-μ points d n m row₀ k₀ row k = n - k
+μ points d n lone places m row₀ k₀ row k = n - k
 
 -- what is found is the image of vertex k
-image-is : (c : tie.After-find Inv μ) → let a = c .before .before .before .before .before .before .before .args in
-    c .find .result ≡ find (parts (a .n) (a .d) (a .points .now)) (mulVec (corner (a .d) (a .m)) (getD (parts (a .n) (a .d) (a .points .now)) (c .before .before .before .before .loop .k) []))
+image-is : (c : tie.After-found Inv μ) → let a = c .before .before .before .before .before .before .before .args in
+    c .found .result ≡ find (parts (a .n) (a .d) (a .points .now)) (mulVec (corner (a .d) (a .m)) (getD (parts (a .n) (a .d) (a .points .now)) (c .before .before .before .before .loop .k) []))
 image-is c =
     let a = c .before .before .before .before .before .before .before .args in
-    c .find .ensures
+    c .found .ensures
     ∙ ap (find (parts (a .n) (a .d) (a .points .now)))
     (c .before .image .ensures ∙ ap (mulVec (corner (a .d) (a .m))) (c .before .before .loaded .ensures ∙ sym (part-at (a .n) (a .d) (a .points .now) (c .before .before .before .before .loop .k) (c .before .before .before .loop-test .taken))))
 
@@ -35,21 +35,21 @@ row-of-spec =
     (tie.spec Inv μ
     (λ c. (refl, row-none _ _ _ _ _))
     (λ c κs. let s = c .before .before .before .before in
-    (s .pre .0, omega (arith, part-end (s .args .n) (s .args .d) (c .before .loop .k) (c .loop-test .taken), s .pre .2)))
+    (s .pre .0 .1, omega (arith, part-end (s .args .n) (s .args .d) (c .before .loop .k) (c .loop-test .taken), s .pre .0 .3)))
     (λ c κs. search needs)
     (λ c κs. search needs)
     (λ c. search needs)
     -- returns, cast-row
     (λ c. let w = c .before in let l = w .before .before .before .before .loop in
-    row-not _ _ _ _ _ (l .row) (l .k) (l .inv .1) (w .before .before .before .loop-test .taken) (w .find .result) (image-is w) (c .if1 .taken))
+    row-not _ _ _ _ _ (l .row) (l .k) (l .inv .1) (w .before .before .before .loop-test .taken) (w .found .result) (image-is w) (c .if1 .taken))
     (λ c. let w = c .before in let l = w .before .before .before .before .loop in let s = w .before .before .before .before .before .before .before in
-    omega (arith, s .pre .1, at-low _ _ _ _ _ (l .row) (l .k) (l .inv .1) (w .before .before .before .loop-test .taken) (w .find .result) (image-is w)))
+    omega (arith, s .pre .0 .2, at-low _ _ _ _ _ (l .row) (l .k) (l .inv .1) (w .before .before .before .loop-test .taken) (w .found .result) (image-is w)))
     (λ c. search needs)
     (λ c. search needs)
     (λ c. search needs)
     (λ c. search needs)
     -- loop-again
     (λ c. let w = c .before in let l = w .before .before .before .before .loop in let s = w .before .before .before .before .before .before .before in
-    (search needs, row-next _ _ _ _ _ (l .row) (l .k) (l .inv .1) (w .before .before .before .loop-test .taken) (w .find .result) (image-is w) (s .pre .3) (c .if1 .left)))
+    (search needs, row-next _ _ _ _ _ (l .row) (l .k) (l .inv .1) (w .before .before .before .loop-test .taken) (w .found .result) (image-is w) (s .pre .0 .4) (c .if1 .left)))
     (λ c. search needs)
     (λ c. let l = c .before .loop in row-end _ _ _ _ _ (l .row) (l .k) (l .inv .1) (c .loop-test .left)))

@@ -24,11 +24,12 @@ turned-spec =
     (tie.spec Inv μ
     (λ c. let s = c .before in let a = s .args in turn-first _ _ (s .pre .1 .1 .0) (omega (arith, s .pre .1 .1 .1, top-is (a .sh) (a .w .now))))
     -- change-requires
-    (λ c κs. let l = c .before .loop in let s = c .before .before .before in let a = s .args in (
+    (λ c κs. let l = c .before .loop in let s = c .before .before .before in let a = s .args in
+    let inside = flag-in (a .sh) (a .w .now) (s .pre .0) (l .f .elements) (l .inv .flag) in (
       s .pre .0,
       (
-        (omega (arith, l .inv .low), c .loop-test .taken),
-        flag-in (a .sh) (a .w .now) (s .pre .0) (l .f .elements) (l .inv .flag) _ (omega (arith, c .loop-test .taken)),
+        (omega (arith, l .inv .low), omega (arith, l .inv .low, c .loop-test .taken)),
+        (inside _ (omega (arith, l .inv .low, c .loop-test .taken)), inside _ (omega (arith, c .loop-test .taken))),
       ),
     ))
     (λ c. search needs)

@@ -12,7 +12,7 @@ jidwaleb-rotations-spec =
     (tie.spec
     -- rotations-requires, code-requires
     (λ c κs. search needs)
-    (λ c κs. fits _ _ _ (c .before .before .before .before .before .before .before .before .before .before .rotations .ensures) (rotations-count _ _ _ _))
+    (λ c κs. fits _ _ _ (c .before .before .before .before .before .before .before .before .before .before .rotations .ensures .0) (rotations-count _ _ _ _))
     -- same-length, for each slice
     (λ c. search needs)
     (λ c. search needs)
@@ -20,4 +20,4 @@ jidwaleb-rotations-spec =
     (λ c. search needs)
     (λ c. search needs)
     -- returns
-    (λ c. handed _ _ _ (c .before .before .before .before .before .before .before .before .before .before .before .rotations .ensures) _ (c .code .ensures)))
+    (λ c. handed _ _ _ (c .before .before .before .before .before .before .before .before .before .before .before .rotations .ensures .0) _ (c .code .ensures)))

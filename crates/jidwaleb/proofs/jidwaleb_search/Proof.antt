@@ -12,7 +12,7 @@ jidwaleb-search-spec =
     (tie.spec
     -- search-requires, code-requires
     (λ c κs. search needs)
-    (λ c κs. fits _ _ _ (c .before .before .before .before .before .before .before .before .before .before .search .ensures) (search-count _ _ _ _))
+    (λ c κs. fits _ _ _ (c .before .before .before .before .before .before .before .before .before .before .search .ensures .0) (search-count _ _ _ _))
     -- same-length, for each slice
     (λ c. search needs)
     (λ c. search needs)
@@ -20,4 +20,4 @@ jidwaleb-search-spec =
     (λ c. search needs)
     (λ c. search needs)
     -- returns
-    (λ c. handed _ _ _ (c .before .before .before .before .before .before .before .before .before .before .before .search .ensures) _ (c .code .ensures)))
+    (λ c. handed _ _ _ (c .before .before .before .before .before .before .before .before .before .before .before .search .ensures .0) _ (c .code .ensures)))

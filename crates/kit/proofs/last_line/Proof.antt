@@ -34,14 +34,14 @@ last-line-spec =
     -- confirmed-requires
     (λ c κs. let d = c .before in
     let a = d .before .before in
-    let h = marks-hold _ _ _ _ _ _ (searched a .search .ensures) refl refl refl refl refl _ (a .answer .given .1) _ (d .dimension .ensures) in
+    let h = marks-hold _ _ _ _ _ _ (searched a .search .ensures .0) refl refl refl refl refl _ (a .answer .given .1) _ (d .dimension .ensures) in
     (omega (arith, h), omega (arith, h)))
     -- slice-aggregate-rotations
     (λ c. search needs)
     -- rotations-requires
     (λ c κs. let d = c .before .before .before in
     let a = d .before .before in
-    let e = searched a .search .ensures in (
+    let e = searched a .search .ensures .0 in (
       flat _ _ _ _ _ _ e refl refl refl refl refl _ (a .answer .given .1) _ (d .dimension .ensures),
       omega (arith, matrices-hold _ _ _ _ _ _ e refl refl refl refl refl _ (a .answer .given .1) _ (d .dimension .ensures)),
     ))
@@ -61,9 +61,9 @@ last-line-spec =
     let f = r .before .before in
     let d = f .before .before in
     let a = d .before .before in
-    let l = done-last _ _ _ _ _ _ (searched a .search .ensures) refl refl refl refl refl _ (a .answer .given .1) _ (d .dimension .ensures) in
+    let l = done-last _ _ _ _ _ _ (searched a .search .ensures .0) refl refl refl refl refl _ (a .answer .given .1) _ (d .dimension .ensures) in
     puts-is (rw (f .confirmed .ensures, r .rotations .ensures) at (c .members .ensures)) l)
     -- returns-2
     (λ c. let a = c .before .before .before in
     let e = a .before .before .before .before .before .before .before in
-    puts-is (c .refused .ensures) (refused-last _ _ _ _ _ _ (e .search .ensures) refl refl refl refl refl _ _ (a .answer2 .given .1))))
+    puts-is (c .refused .ensures) (refused-last _ _ _ _ _ _ (e .search .ensures .0) refl refl refl refl refl _ _ (a .answer2 .given .1))))

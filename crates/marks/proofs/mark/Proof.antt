@@ -5,7 +5,8 @@ use native.Mathlib.Omega.{arith}
 use mathlib.Core.Path.{_≡_, sym, _∙_}
 use mathlib.Core.Bool.{true, false}
 use Rattle.ranked.specs.Words.{solidIn}
-use Rattle.marks.specs.Rows.{setsApart, permutes, classesOn}
+use Rattle.spec.specs.Mark.{setsApart}
+use Rattle.marks.specs.Rows.{permutes, classesOn}
 use Rattle.marks.proofs.Carried.{few-vertices}
 use Rattle.marks.proofs.Confirmed.{no-sets, no-row, all-else}
 use Rattle.marks.proofs.mark.Statement.{statement}

@@ -1,9 +1,8 @@
 -- The loop's invariant: the copies so far, with the images under the matrices that are left, are the whole. The measure is what is left of the matrices.
 -- Assumes nothing.
 use mathlib.Core.Path.{_≡_, refl, sym, ap, _∙_}
-use mathlib.Core.Logic.{⊎-elim}
 use mathlib.Core.List.{List, []}
-use Prim.Native.Nat.{ℕ, _+_, _≤_, _<_, _-_, _*_}
+use Prim.Native.Nat.{_≤_, _<_, _-_, _*_}
 use native.Mathlib.Nat.{div-le-self}
 use native.Mathlib.Omega.{arith}
 use lib.ListN.{length, getD, take}
@@ -12,7 +11,7 @@ use Rattle.spec.specs.Matrix.{Matrix, Vector, mulVec}
 use Rattle.spec.specs.Copying.{spread, parts, matrices}
 use Rattle.copying.proofs.Growth.{Grown, grown-first, grown-next, grown-full, grown-end, Done, done-first, done-next, done-longer, done-end, spread-nothing, spread-turn, matrix-is, length-matrices, image-longer}
 use Rattle.spec.proofs.CopyLaws.{spread-adds}
-use Rattle.copying.specs.Post.{Kept, Fitting, afterwards, withImage}
+use Rattle.copying.specs.Post.{Kept, withImage}
 use Rattle.copying.proofs.Squares.{square, square-pos, point-end}
 use Rattle.copying.proofs.joining.spread.Statement.{statement}
 use Rattle.copying.proofs.joining.spread.Tie as tie
@@ -42,7 +41,7 @@ add-requires : tie.Need-add-requires Inv-loop μ-loop
 add-requires c κs =
     let s = c .before .before .before .before .before .before .before in
     let l = c .before .before .before .before .loop in
-    (s .pre .1, l .inv .1 .room, omega (arith, s .pre .3, l .inv .1 .long))
+    (s .pre .0, s .pre .1, l .inv .1 .room, omega (arith, s .pre .3, l .inv .1 .long))
 
 abbrev step : Vector → List Vector → Matrix → List Vector
 step p cs m = withImage cs (mulVec m p)
@@ -56,7 +55,7 @@ all c =
 
 kept : (c : tie.After-add Inv-loop μ-loop) →
     Kept (c .before .before .before .before .before .before .before .before .args .d) (c .before .before .before .before .before .before .before .before .args .limit) (all c)
-    (c .before .before .before .before .before .loop .out) (c .add .last .0) (afterwards (c .before .before .before .before .before .loop .held) (c .add .result))
+    (c .before .before .before .before .before .loop .out) (c .add .last .0) (c .add .result)
 kept c =
     let a = c .before .before .before .before .before .before .before .before .args in
     let l = c .before .before .before .before .before .loop in
@@ -72,25 +71,6 @@ below c =
     let a = c .before .before .before .before .before .before .before .before .args in
     rw (length-matrices (a .d) (a .turns .now)) (c .before .before .before .before .loop-test .taken)
 
--- one matrix more
-onward : (c : tie.After-add Inv-loop μ-loop) (m : ℕ) →
-    (let a = c .before .before .before .before .before .before .before .before .args in
-    let l = c .before .before .before .before .before .loop in
-    Fitting (a .d) (a .limit) (all c) (l .out) (c .add .last .0) m
-    → Grown (a .d) (a .limit) (a .out .now) (c .add .last .0) m
-    × Done (λ ms cs. spread ms (take (a .d) (a .p)) cs) (matrices (a .d) (a .turns .now)) (parts (a .n) (a .d) (a .out .now)) (l .j + 1) (parts m (a .d) (c .add .last .0)))
-onward c m f =
-    let a = c .before .before .before .before .before .before .before .before .args in
-    let l = c .before .before .before .before .before .loop in
-    (grown-next (l .inv .1) (image-longer _ _) (c .add .kept .0) f, done-next (step (take (a .d) (a .p))) (spread-turn (take (a .d) (a .p))) [] (below c) (f .read) (l .inv .2))
-
-add-held : tie.Need-add-held Inv-loop μ-loop
-add-held c =
-    let w = c .before .before .before .before in
-    let a = w .before .before .before .before .before .before .before .before in
-    let f = rw (c .enum-told2 .given .1) at (kept w) in
-    omega (arith, f .room, a .fits .limit)
-
 returns : tie.Need-returns Inv-loop μ-loop
 returns c =
     let w = c .before .before .before .before in
@@ -98,28 +78,31 @@ returns c =
     let l = w .before .before .before .before .before .loop in
     grown-full (l .inv .1) (image-longer _ _)
     (done-longer (step (take (a .d) (a .p))) (spread-turn (take (a .d) (a .p))) [] (λ ms cs. spread-adds ms (take (a .d) (a .p)) cs) (below w) refl (l .inv .2))
-    (rw (c .enum-told3 .given .1) at (kept w))
+    (rw (c .enum-told .given .1) at (kept w))
 
 short : (c : tie.Start Inv-loop μ-loop) → length (c .args .turns .now) < 0x1_0000_0000_0000_0000
 short c = omega arith
 
 add-j : tie.Need-add-j Inv-loop μ-loop
 add-j c =
-    let w = c .before .before .before in
-    let a = w .before .before .before .before .before .before .before .before .args in
-    omega (arith, w .before .before .before .before .loop-test .taken, div-le-self (length (a .turns .now)) (a .d * a .d), short (w .before .before .before .before .before .before .before .before))
+    let w = c .before .before .before .before .before in
+    let s = w .before .before .before .before .before .before .before .before in
+    omega (arith, w .before .before .before .before .loop-test .taken, div-le-self (length (s .args .turns .now)) (s .args .d * s .args .d), short s)
 
 loop-less : tie.Need-loop-less Inv-loop μ-loop
-loop-less c = omega (arith, c .before .before .before .before .before .before .before .loop-test .taken)
+loop-less c = omega (arith, c .before .before .before .before .before .before .before .before .before .loop-test .taken)
 
 loop-again : tie.Need-loop-again Inv-loop μ-loop
 loop-again c =
-    let w = c .before .before .before in
-    let h = w .before .before .before .before .loop-test .taken in
-    ⊎-elim
-    (λ t. rw (t .2) (let o = onward w _ (rw (t .1 .given .1) at (kept w)) in (omega (arith, h), o .0, o .1)))
-    (λ t. rw (t .2) (let o = onward w _ (rw (t .1 .given .1) at (kept w)) in (omega (arith, h), o .0, o .1)))
-    (c .match .came)
+    let w = c .before .before .before .before .before in
+    let a = w .before .before .before .before .before .before .before .before .args in
+    let l = w .before .before .before .before .before .loop in
+    let p = take (a .d) (a .p) in
+    let f = rw (c .before .more .given .1) at (kept w) in (
+      omega (arith, w .before .before .before .before .loop-test .taken),
+      grown-next (l .inv .1) (image-longer _ _) (w .add .kept .0) f,
+      done-next (step p) (spread-turn p) [] (below w) (f .read) (l .inv .2),
+    )
 
 returns-2 : tie.Need-returns-2 Inv-loop μ-loop
 returns-2 c =
@@ -141,8 +124,6 @@ spread-spec =
     (λ c κs. search needs)
     add-requires
     (λ c. search needs)
-    (λ c. search needs)
-    add-held
     (λ c. search needs)
     (λ c. search needs)
     returns

@@ -16,16 +16,16 @@ use Rattle.copying.proofs.rows.row.Statement.{statement}
 use Rattle.copying.proofs.rows.row.Tie as tie
 
 abbrev Inv-loop : tie.InvT-loop
-Inv-loop copies d n places m out₀ k₀ out k =
+Inv-loop copies d n lone places m out₀ k₀ out k =
     (k ≤ n) × (length out ≡ length out₀) × Filled n (copyRow (parts n d copies) (corner d m)) out₀ out k
 
 abbrev μ-loop : tie.MeasureT-loop
-μ-loop copies d n places m out₀ k₀ out k = n - k
+μ-loop copies d n lone places m out₀ k₀ out k = n - k
 
 loaded-requires : tie.Need-loaded-requires Inv-loop μ-loop
 loaded-requires c κs =
     let s = c .before .before .before .before in
-    (s .pre .1, omega (arith, part-end (s .args .n) (s .args .d) (c .before .loop .k) (c .loop-test .taken), s .pre .3))
+    (s .pre .0 .1, omega (arith, part-end (s .args .n) (s .args .d) (c .before .loop .k) (c .loop-test .taken), s .pre .0 .3))
 
 -- the row over the copies
 abbrev whole : (c : tie.After-found Inv-loop μ-loop) → List ℕ
@@ -57,7 +57,7 @@ cast-out c =
     let w = c .before in
     let s = w .before .before .before .before .before .before .before in
     let cs = parts (s .args .n) (s .args .d) (s .args .copies .now) in
-    omega (arith, w .found .ensures, find-most cs (take (s .args .d) (w .before .image .result)), length-parts (s .args .n) (s .args .d) (s .args .copies .now), s .pre .2)
+    omega (arith, w .found .ensures, find-most cs (take (s .args .d) (w .before .image .result)), length-parts (s .args .n) (s .args .d) (s .args .copies .now), s .pre .0 .2)
 
 loop-again : tie.Need-loop-again Inv-loop μ-loop
 loop-again c =
@@ -67,7 +67,7 @@ loop-again c =
     let h = w .before .before .before .loop-test .taken in (
       omega (arith, h),
       simp length-set (l .inv .1),
-      filled-next (l .inv .2) (piece w) (one-other _ (w .found .result) (c .if1 .left)) (cell-set (l .out) (l .k) (w .found .result) (omega (arith, h, l .inv .1, s .pre .4))),
+      filled-next (l .inv .2) (piece w) (one-other _ (w .found .result) (c .if1 .left)) (cell-set (l .out) (l .k) (w .found .result) (omega (arith, h, l .inv .1, s .pre .0 .4))),
     )
 
 returns-2 : tie.Need-returns-2 Inv-loop μ-loop

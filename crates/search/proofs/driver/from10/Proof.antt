@@ -8,7 +8,7 @@ use lib.Seq.{length-take-le}
 use Rattle.ranked.specs.Words.{sizeAt}
 use Rattle.ranked.proofs.Benches.{points-in, laid}
 use Rattle.symmetry.specs.Tails.{outOf}
-use Rattle.search.proofs.Steps.{centred, facet-low, exchanged-bench, far-off}
+use Rattle.search.proofs.Steps.{centred, facet-low, exchanged-bench, exchanged-parted, far-off}
 use Rattle.search.proofs.driver.from10.Statement.{statement}
 use Rattle.search.proofs.driver.from10.Tie as tie
 
@@ -25,7 +25,7 @@ low c =
     let r = far c in
     let s = entry r in
     let a = s .args in
-    facet-low (a .sh) (a .low) (a .words .now) (a .floats .now) (a .rotations) (outOf (a .matrices .now) (a .rows .now) (a .marks .now)) (s .pre .0) (s .pre .1) _ (r .first-far .ensures) _ (c .far .given .1)
+    facet-low (a .sh) (a .low) (a .words .now) (a .floats .now) (a .rotations) (outOf (a .matrices .now) (a .rows .now) (a .marks .now)) (s .pre .0) (s .pre .1 .0) _ (r .first-far .ensures) _ (c .far .given .1)
 
 pub from10-spec : {M : Type 1} → statement M
 unfolding entry far
@@ -35,19 +35,23 @@ from10-spec =
     -- slice-reshare-prefix-first-far, slice-aggregate-first-far, first-far-requires
     (λ c. let s = c .before .before .before .before .before in omega (arith, s .pre .0 .words-in))
     (λ c. let s = c .before .before .before .before .before .before in sym (length-take-le (s .args .low) (s .args .words .now) (s .pre .0 .words-in)))
-    (λ c κs. let s = c .before .before .before .before .before .before .before in (s .pre .0 .held, (s .pre .1, points-in (s .pre .0))))
+    (λ c κs. let s = c .before .before .before .before .before .before .before in (s .pre .0 .held, (s .pre .1 .0, points-in (s .pre .0))))
     -- enum-told, enum-known-far, exchange-requires, from15-requires
     (λ c. search needs)
     (λ c. search needs)
-    (λ c κs. let v = c .before .before in let s = entry (far v) in (laid (s .pre .0), (s .pre .1, low v)))
+    (λ c κs. let v = c .before .before in let s = entry (far v) in (laid (s .pre .0), (s .pre .1 .0, low v)))
     (λ c κs. let x = c .before .before .before .before .before .before .before in
     let v = x .before .before .before in
     let r = far v in
     let s = entry r in
     let a = s .args in (
-      exchanged-bench (a .sh) (a .low) (a .words .now) (a .floats .now) (a .rotations) (outOf (a .matrices .now) (a .rows .now) (a .marks .now)) (s .pre .0) (s .pre .1) _ (r .first-far .ensures)
+      exchanged-bench (a .sh) (a .low) (a .words .now) (a .floats .now) (a .rotations) (outOf (a .matrices .now) (a .rows .now) (a .marks .now)) (s .pre .0) (s .pre .1 .0) _ (r .first-far .ensures)
           _ (v .far .given .1) _ (x .exchange .ensures .0) (x .exchange .ensures .1 .0),
-      (s .pre .1, low v),
+      (
+        (s .pre .1 .0, low v),
+        exchanged-parted (a .sh) (a .low) (a .words .now) (a .floats .now) (a .rotations) (outOf (a .matrices .now) (a .rows .now) (a .marks .now)) (s .pre .0) (s .pre .1 .0) _ (r .first-far .ensures)
+            _ (v .far .given .1) _ (x .exchange .ensures .0) (s .pre .1 .1),
+      ),
     ))
     -- same-length, same-length-2, returns
     (λ c. search needs)
@@ -55,7 +59,7 @@ from10-spec =
     (λ c. let r = c .before .before in
     let s = entry r in
     let a = s .args in
-    centred (a .sh) (a .low) (a .words .now) (a .floats .now) (a .rotations) (outOf (a .matrices .now) (a .rows .now) (a .marks .now)) (s .pre .0) (s .pre .1) _ (r .first-far .ensures) (c .enum-told .given .1))
+    centred (a .sh) (a .low) (a .words .now) (a .floats .now) (a .rotations) (outOf (a .matrices .now) (a .rows .now) (a .marks .now)) (s .pre .0) (s .pre .1 .0) _ (r .first-far .ensures) (c .enum-told .given .1))
     -- same-length-3 to same-length-7, returns-2
     (λ c. search needs)
     (λ c. search needs)
@@ -68,5 +72,5 @@ from10-spec =
     let r = far v in
     let s = entry r in
     let a = s .args in
-    far-off (a .sh) (a .low) (a .words .now) (a .floats .now) (a .rotations) (outOf (a .matrices .now) (a .rows .now) (a .marks .now)) (s .pre .0) (s .pre .1) _ (r .first-far .ensures)
+    far-off (a .sh) (a .low) (a .words .now) (a .floats .now) (a .rotations) (outOf (a .matrices .now) (a .rows .now) (a .marks .now)) (s .pre .0) (s .pre .1 .0) _ (r .first-far .ensures)
     _ (v .far .given .1) _ (x .exchange .ensures .0) _ (k .from15 .ensures)))

@@ -2,7 +2,7 @@
 -- Assumes nothing.
 use borrow.Author.Needs.{needs}
 use Rattle.symmetry.specs.Tails.{outOf}
-use Rattle.search.proofs.Steps.{unsettled, settled, typed-bench}
+use Rattle.search.proofs.Steps.{unsettled, settled, typed-bench, typed-parted}
 use Rattle.search.proofs.driver.from15.Statement.{statement}
 use Rattle.search.proofs.driver.from15.Tie as tie
 
@@ -19,8 +19,16 @@ from15-spec =
     (λ c κs. let i = c .before .before .before .before .before in
     let t = i .before .before .before .before .before in
     let s = entry t in
-    let a = s .args in
-    (typed-bench (a .sh) (a .low) _ _ _ _ (a .rotations) (outOf (a .matrices .now) (a .rows .now) (a .marks .now)) _ (t .types-of .ensures) (s .pre .0), (s .pre .1, t .types-of .ensures .numbered)))
+    let a = s .args in (
+      typed-bench (a .sh) (a .low) _ _ _ _ (a .rotations) (outOf (a .matrices .now) (a .rows .now) (a .marks .now)) _ (t .types-of .ensures) (s .pre .0),
+      (
+        s .pre .1 .0,
+        (
+          t .types-of .ensures .numbered,
+          typed-parted (a .sh) (a .low) _ _ _ _ (a .rotations) (outOf (a .matrices .now) (a .rows .now) (a .marks .now)) _ (t .types-of .ensures) (s .pre .1 .1),
+        ),
+      ),
+    ))
     -- same-length to same-length-5
     (λ c. search needs)
     (λ c. search needs)

@@ -20,7 +20,8 @@ from8-spec =
     let f = i .before in
     let s = entry f in
     let a = s .args in
-    (s .pre, tall (a .sh) (a .low) (a .words .now) (a .floats .now) (a .rotations) (outOf (a .matrices .now) (a .rows .now) (a .marks .now)) _ (f .is-full .ensures) (i .if1 .taken)))
+    let h = tall (a .sh) (a .low) (a .words .now) (a .floats .now) (a .rotations) (outOf (a .matrices .now) (a .rows .now) (a .marks .now)) _ (f .is-full .ensures) (i .if1 .taken) in
+    (s .pre, h))
     -- same-length to same-length-5
     (λ c. search needs)
     (λ c. search needs)

@@ -36,7 +36,7 @@ from-inverse-spec =
     -- list-members-requires
     (λ c κs. let p = c .before .before .before .before .before .before in
     let s = entry p in
-    searching (s .pre .0) _ (after-types (s .args .t3) (s .args .low)) _ (p .write-prints .kept .0) (p .write-prints .ensures .0) (p .write-prints .ensures .1) (s .pre .1 .0 .0) (s .pre .1 .1))
+    searching (s .pre .0) _ (after-types (s .args .t3) (s .args .low)) _ (p .write-prints .kept .0) (p .write-prints .ensures .0) (p .write-prints .ensures .1) (s .pre .1 .0 .0) (s .pre .1 .1 .0) (s .pre .1 .1 .1))
     -- answer-of-requires, same-length to same-length-4, returns
     (λ c κs. search needs)
     (λ c. search needs)
@@ -48,7 +48,7 @@ from-inverse-spec =
     let p = printed l in
     let s = entry p in
     let a = s .args in
-    none-listed (s .pre .0) (a .f) (s .pre .1 .0) (s .pre .1 .1) _ (after-types (a .t3) (a .low)) _ (p .write-prints .kept .0) (p .write-prints .ensures .0) (p .write-prints .ensures .1)
+    none-listed (s .pre .0) (a .f) (s .pre .1 .0) (s .pre .1 .1 .0) _ (after-types (a .t3) (a .low)) _ (p .write-prints .kept .0) (p .write-prints .ensures .0) (p .write-prints .ensures .1)
     (corner (a .t3 .dimension) (a .inv)) (a .rotations) (outOf (a .matrices .now) (a .rows .now) (a .marks .now)) (l .list-members .result) _ _ (l .list-members .ensures)
     _ (c .answer-of .ensures) (t .if1 .taken))
     -- exchange-requires, array-read-v, array-read-v-2, sub-v
@@ -56,7 +56,7 @@ from-inverse-spec =
     let p = printed l in
     let s = entry p in
     let a = s .args in
-    (laid (searched-bench (s .pre .0) (a .f) (s .pre .1 .0) (s .pre .1 .1) _ (after-types (a .t3) (a .low)) _ (p .write-prints .kept .0) (p .write-prints .ensures .0) (p .write-prints .ensures .1)), s .pre .1 .0))
+    (laid (searched-bench (s .pre .0) (a .f) (s .pre .1 .0) (s .pre .1 .1 .0) _ (after-types (a .t3) (a .low)) _ (p .write-prints .kept .0) (p .write-prints .ensures .0) (p .write-prints .ensures .1)), s .pre .1 .0))
     (λ c. search needs)
     (λ c. search needs)
     (λ c. let s = entry (printed (listed (c .before .before .before))) in omega (arith, s .pre .0 .held .some 1 (omega (arith, s .pre .1 .0 .0))))
@@ -67,10 +67,10 @@ from-inverse-spec =
     let s = entry p in
     let a = s .args in
     let r = l .list-members .result in (
-      marks-bench (s .pre .0) (a .f) (s .pre .1 .0) (s .pre .1 .1) _ (after-types (a .t3) (a .low)) _ (p .write-prints .kept .0) (p .write-prints .ensures .0) (p .write-prints .ensures .1)
+      marks-bench (s .pre .0) (a .f) (s .pre .1 .0) (s .pre .1 .1 .0) _ (after-types (a .t3) (a .low)) _ (p .write-prints .kept .0) (p .write-prints .ensures .0) (p .write-prints .ensures .1)
           (corner (a .t3 .dimension) (a .inv)) (a .rotations) (outOf (a .matrices .now) (a .rows .now) (a .marks .now)) (l .list-members .result) _ _ (l .list-members .ensures)
           _ (refl {a = answerOf (r .short) (r .count)}) _ (x .exchange .ensures .0) (x .exchange .ensures .1 .0),
-      marks-asked (s .pre .0) (a .f) (s .pre .1 .0) (s .pre .1 .1) _ (after-types (a .t3) (a .low)) _ (p .write-prints .kept .0) (p .write-prints .ensures .0) (p .write-prints .ensures .1)
+      marks-asked (s .pre .0) (a .f) (s .pre .1 .0) (s .pre .1 .1 .0) _ (after-types (a .t3) (a .low)) _ (p .write-prints .kept .0) (p .write-prints .ensures .0) (p .write-prints .ensures .1)
           (corner (a .t3 .dimension) (a .inv)) (a .rotations) (outOf (a .matrices .now) (a .rows .now) (a .marks .now)) (l .list-members .result) _ _ (l .list-members .ensures)
           _ (refl {a = answerOf (r .short) (r .count)}) _ (x .exchange .ensures .0) _ refl (l .list-members .kept .1 .1 .1 .1 .1 .1 .1 .1 .1 .0),
     ))
@@ -87,6 +87,6 @@ from-inverse-spec =
     let p = printed l in
     let s = entry p in
     let a = s .args in
-    some-listed (s .pre .0) (a .f) (s .pre .1 .0) (s .pre .1 .1) _ (after-types (a .t3) (a .low)) _ (p .write-prints .kept .0) (p .write-prints .ensures .0) (p .write-prints .ensures .1)
+    some-listed (s .pre .0) (a .f) (s .pre .1 .0) (s .pre .1 .1 .0) _ (after-types (a .t3) (a .low)) _ (p .write-prints .kept .0) (p .write-prints .ensures .0) (p .write-prints .ensures .1)
     (corner (a .t3 .dimension) (a .inv)) (a .rotations) (outOf (a .matrices .now) (a .rows .now) (a .marks .now)) (l .list-members .result) _ _ (l .list-members .ensures)
     _ (c .answer-of2 .ensures) _ (x .exchange .ensures .0) _ refl _ (m .write-marks .ensures)))

@@ -11,30 +11,35 @@ use lib.Seq.{length-take-le}
 use lib.Ieee.{Float}
 use borrow.Author.Needs.{needs}
 use borrow.Rule.Slice.PartMut.{putMid, same-len-mid}
-use Rattle.spec.specs.Limits.{maxDimension}
+use Rattle.spec.specs.Limits.{maxDimension, maxCount}
 use Rattle.spec.specs.Flags.{Flag, IsFlag}
+use Rattle.lookup.specs.Points.{Lone}
 use Rattle.ranked.specs.Words.{solidIn}
 use Rattle.ranked.specs.Bench.{solidAt}
 use Rattle.flag.specs.Reading.{flagIn}
 use Rattle.flag.proofs.Numbered.{nth-first, nth-flag}
 use Rattle.symmetry.specs.declared.listing.Tried.the-variants.{Skipped, Added}
-use Rattle.symmetry.proofs.Bounds.{rising}
+use Rattle.symmetry.proofs.Bounds.{rising, vertices-are, vertices-few, coordinates-in, points-read}
 use Rattle.symmetry.proofs.Members.{Tally, tally-first, tally-end, inside, tally-skipped, tally-added, tally-short}
 use Rattle.symmetry.proofs.Turning.{Turn, toCome, turn-first, turn-end, later, turn-at, turn-next, fewer}
 use Rattle.symmetry.proofs.listing.list_members.Statement.{statement}
 use Rattle.symmetry.proofs.listing.list_members.Tie as tie
 
 abbrev Inv : tie.InvT-loop
-Inv words low sh at floats inv rotations room matrices₀ rows₀ first d v flag₀ n₀ more₀ matrices rows flag n more =
+Inv words low sh at floats inv rotations room matrices₀ rows₀ first d v lone places flag₀ n₀ more₀ matrices rows flag n more =
     (length matrices ≡ length matrices₀) × (length rows ≡ length rows₀)
     × Turn (solidIn sh (take low words)) more (flagIn (sh .rank) flag) (Tally sh low words floats inv rotations room (sh .dimension) v matrices₀ matrices rows₀ rows n)
 
 abbrev μ : tie.MeasureT-loop
-μ words low sh at floats inv rotations room matrices₀ rows₀ first d v flag₀ n₀ more₀ matrices rows flag n more =
+μ words low sh at floats inv rotations room matrices₀ rows₀ first d v lone places flag₀ n₀ more₀ matrices rows flag n more =
     toCome (solidIn sh (take low words)) more (flagIn (sh .rank) flag)
 
 abbrev start : tie.At-loop Inv μ → tie.Start Inv μ
-start c = c .before .before .before .before .before .before .before .before
+start c = c .before .before .before .before .before .before .before .before .before .before
+
+-- where the vertices are counted
+abbrev counted : tie.At-loop Inv μ → tie.After-vertex-count Inv μ
+counted l = l .before .before .before
 
 slice-aggregate-first : tie.Need-slice-aggregate-first Inv μ
 slice-aggregate-first c = let s = c .before .before .before .before .before in sym (length-take-le (s .args .low) (s .args .words .now) (s .pre .bench .words-in))
@@ -48,22 +53,32 @@ vertex-count-requires c κs = rising (c .before .before .before .before .before 
 tall : (s : tie.Start Inv μ) → s .args .sh .dimension ≤ length (s .args .inv)
 tall s = let k : length (s .args .inv) ≡ maxDimension = search needs in omega (arith, k, s .pre .bench .held .wide)
 
+-- the points lie in the floats
+points-requires : (v : tie.After-vertex-count Inv μ) → let s = v .before .before .before .before .before .before .before in
+    (s .args .sh .dimension ≤ maxDimension) × (v .vertex-count .result ≤ maxCount) × (v .vertex-count .result * s .args .sh .dimension ≤ length (s .args .floats .now))
+points-requires v =
+    let h = v .before .before .before .before .before .before .before .pre in
+    let m = v .vertex-count .ensures in
+    let e = vertices-are h in
+    (h .bench .held .wide, rw (m, ← e) (vertices-few h), rw (m, ← e) (coordinates-in h))
+
 loop-holds : tie.Need-loop-holds Inv μ
 loop-holds c =
-    let s = c .before .before .before .before .before .before .before in
+    let v = c .before .before in
+    let s = v .before .before .before .before .before .before .before in
     let a = s .args in (
       refl,
       refl,
-      turn-first (solidIn (a .sh) (take (a .low) (a .words .now))) _ (flagIn (a .sh .rank) (c .before .first .result))
-          (nth-first (a .sh) (take (a .low) (a .words .now)) (s .pre .bench .held) _ (c .before .first .ensures))
-          (tally-first (s .pre) (a .inv) (tall s) (a .rotations) (a .room) (c .vertex-count .result) (c .vertex-count .ensures) (a .matrices .now) (a .rows .now)),
+      turn-first (solidIn (a .sh) (take (a .low) (a .words .now))) _ (flagIn (a .sh .rank) (v .before .first .result))
+          (nth-first (a .sh) (take (a .low) (a .words .now)) (s .pre .bench .held) _ (v .before .first .ensures))
+          (tally-first (s .pre) (a .inv) (tall s) (a .rotations) (a .room) (v .vertex-count .result) (v .vertex-count .ensures) (a .matrices .now) (a .rows .now)),
     )
 
 -- what stands of the flags that are to come, the flag and those after it
 abbrev Stands : tie.At-loop Inv μ → List Flag → Type 0
 Stands l =
     let a = start l .args in
-    Tally (a .sh) (a .low) (a .words .now) (a .floats .now) (a .inv) (a .rotations) (a .room) (a .sh .dimension) (l .before .vertex-count .result) (a .matrices .now) (l .loop .matrices) (a .rows .now) (l .loop .rows) (l .loop .n)
+    Tally (a .sh) (a .low) (a .words .now) (a .floats .now) (a .inv) (a .rotations) (a .room) (a .sh .dimension) (counted l .vertex-count .result) (a .matrices .now) (l .loop .matrices) (a .rows .now) (l .loop .rows) (l .loop .n)
 
 abbrev flag : tie.At-loop Inv μ → Flag
 flag l = flagIn (start l .args .sh .rank) (l .loop .flag)
@@ -82,36 +97,36 @@ stands c =
 
 -- the parts after the members start within the outputs, whose lengths fit a word
 within : (c : tie.In-loop Inv μ) → let l = c .before in let a = start l .args in
-    (l .loop .n * (a .sh .dimension * a .sh .dimension) ≤ length (l .loop .matrices)) × (l .loop .n * l .before .vertex-count .result ≤ length (l .loop .rows)) × (l .loop .n ≤ a .room)
+    (l .loop .n * (a .sh .dimension * a .sh .dimension) ≤ length (l .loop .matrices)) × (l .loop .n * counted l .vertex-count .result ≤ length (l .loop .rows)) × (l .loop .n ≤ a .room)
 within c =
     let l = c .before in
     let s = start l in
     let a = s .args in
-    inside (s .pre) (a .inv) (tall s) (a .rotations) (a .room) (l .before .vertex-count .result) (l .before .vertex-count .ensures) (a .matrices .now) (a .rows .now) (l .loop .matrices) (l .loop .rows) (l .loop .n) (flag l) (rest c) (stands c)
+    inside (s .pre) (a .inv) (tall s) (a .rotations) (a .room) (counted l .vertex-count .result) (counted l .vertex-count .ensures) (a .matrices .now) (a .rows .now) (l .loop .matrices) (l .loop .rows) (l .loop .n) (flag l) (rest c) (stands c)
 
 short : (s : tie.Start Inv μ) → (length (s .args .matrices .now) < 0x1000_0000_0000_0000) × (length (s .args .rows .now) < 0x4000_0000_0000_0000)
 short s = (omega arith, omega arith)
 
 mul-try-flag : tie.Need-mul-try-flag Inv μ
-mul-try-flag c = let s = start (c .before) in omega (arith, mul-le-mul-left (s .args .sh .dimension) (s .pre .bench .held .wide), s .pre .bench .held .wide)
+mul-try-flag c = let s = start (c .before .before) in omega (arith, mul-le-mul-left (s .args .sh .dimension) (s .pre .bench .held .wide), s .pre .bench .held .wide)
 
 mul-try-flag-2 : tie.Need-mul-try-flag-2 Inv μ
-mul-try-flag-2 c = omega (arith, within c .0, c .before .loop .inv .0, short (start (c .before)) .0)
+mul-try-flag-2 c = omega (arith, within (c .before) .0, c .before .before .loop .inv .0, short (start (c .before .before)) .0)
 
 mul-try-flag-3 : tie.Need-mul-try-flag-3 Inv μ
-mul-try-flag-3 c = omega (arith, within c .0, c .before .loop .inv .0, short (start (c .before)) .0)
+mul-try-flag-3 c = omega (arith, within (c .before) .0, c .before .before .loop .inv .0, short (start (c .before .before)) .0)
 
 mul-try-flag-4 : tie.Need-mul-try-flag-4 Inv μ
-mul-try-flag-4 c = omega (arith, within (c .before) .1, c .before .before .loop .inv .1, short (start (c .before .before)) .1)
+mul-try-flag-4 c = omega (arith, within (c .before .before) .1, c .before .before .before .loop .inv .1, short (start (c .before .before .before)) .1)
 
 mul-try-flag-5 : tie.Need-mul-try-flag-5 Inv μ
-mul-try-flag-5 c = omega (arith, within (c .before) .1, c .before .before .loop .inv .1, short (start (c .before .before)) .1)
+mul-try-flag-5 c = omega (arith, within (c .before .before) .1, c .before .before .before .loop .inv .1, short (start (c .before .before .before)) .1)
 
 part-try-flag-start : tie.Need-part-try-flag-start Inv μ
-part-try-flag-start c = omega (arith, within c .0)
+part-try-flag-start c = omega (arith, within (c .before) .0)
 
 part-try-flag-start-2 : tie.Need-part-try-flag-start-2 Inv μ
-part-try-flag-start-2 c = omega (arith, within (c .before) .1)
+part-try-flag-start-2 c = omega (arith, within (c .before .before) .1)
 
 -- the flag is one
 is-flag : (c : tie.In-loop Inv μ) → let l = c .before in let a = start l .args in IsFlag (solidIn (a .sh) (take (a .low) (a .words .now))) (flag l)
@@ -122,63 +137,65 @@ is-flag c =
 
 try-flag-requires : tie.Need-try-flag-requires Inv μ
 try-flag-requires c κs =
-    let w = c .before .before in
-    (start (w .before) .pre, (is-flag w, w .before .before .before .first .ensures))
+    let w = c .before .before .before in
+    let l = w .before in
+    let s = start l in
+    (s .pre, (is-flag w, (counted l .before .first .ensures, λ e. subst Lone (sym (points-read (s .pre) (counted l .vertex-count .result) (counted l .vertex-count .ensures))) (l .before .before .is-lone .ensures e))))
 
 -- the outputs after the flag is tried
 abbrev matrices : tie.After-try-flag Inv μ → List Float
 matrices t =
-    let l = t .before .before .before .before in
+    let l = t .before .before .before .before .before in
     let k = l .loop .n * (start l .args .sh .dimension * start l .args .sh .dimension) in
-    putMid k (length (l .loop .matrices) - k) (l .loop .matrices) (t .try-flag .last .1 .1 .1 .1 .1 .1 .1 .1 .1 .1 .0)
+    putMid k (length (l .loop .matrices) - k) (l .loop .matrices) (t .try-flag .last .1 .1 .1 .1 .1 .1 .1 .1 .1 .1 .1 .1 .0)
 
 abbrev rows : tie.After-try-flag Inv μ → List ℕ
 rows t =
-    let l = t .before .before .before .before in
-    let k = l .loop .n * l .before .vertex-count .result in
-    putMid k (length (l .loop .rows) - k) (l .loop .rows) (t .try-flag .last .1 .1 .1 .1 .1 .1 .1 .1 .1 .1 .1 .0)
+    let l = t .before .before .before .before .before in
+    let k = l .loop .n * counted l .vertex-count .result in
+    putMid k (length (l .loop .rows) - k) (l .loop .rows) (t .try-flag .last .1 .1 .1 .1 .1 .1 .1 .1 .1 .1 .1 .1 .1 .0)
 
-many : (t : tie.After-try-flag Inv μ) → length (matrices t) ≡ length (start (t .before .before .before .before) .args .matrices .now)
+many : (t : tie.After-try-flag Inv μ) → length (matrices t) ≡ length (start (t .before .before .before .before .before) .args .matrices .now)
 many t =
-    let l = t .before .before .before .before in
+    let l = t .before .before .before .before .before in
     let k = l .loop .n * (start l .args .sh .dimension * start l .args .sh .dimension) in
-    same-len-mid k (length (l .loop .matrices) - k) (l .loop .matrices) (t .try-flag .last .1 .1 .1 .1 .1 .1 .1 .1 .1 .1 .0) (t .try-flag .kept .1 .1 .1 .1 .1 .1 .1 .1 .1 .1 .0) ∙ l .loop .inv .0
+    same-len-mid k (length (l .loop .matrices) - k) (l .loop .matrices) (t .try-flag .last .1 .1 .1 .1 .1 .1 .1 .1 .1 .1 .1 .1 .0) (t .try-flag .kept .1 .1 .1 .1 .1 .1 .1 .1 .1 .1 .1 .1 .0) ∙ l .loop .inv .0
 
-long : (t : tie.After-try-flag Inv μ) → length (rows t) ≡ length (start (t .before .before .before .before) .args .rows .now)
+long : (t : tie.After-try-flag Inv μ) → length (rows t) ≡ length (start (t .before .before .before .before .before) .args .rows .now)
 long t =
-    let l = t .before .before .before .before in
-    let k = l .loop .n * l .before .vertex-count .result in
-    same-len-mid k (length (l .loop .rows) - k) (l .loop .rows) (t .try-flag .last .1 .1 .1 .1 .1 .1 .1 .1 .1 .1 .1 .0) (t .try-flag .kept .1 .1 .1 .1 .1 .1 .1 .1 .1 .1 .1 .0) ∙ l .loop .inv .1
+    let l = t .before .before .before .before .before in
+    let k = l .loop .n * counted l .vertex-count .result in
+    same-len-mid k (length (l .loop .rows) - k) (l .loop .rows) (t .try-flag .last .1 .1 .1 .1 .1 .1 .1 .1 .1 .1 .1 .1 .1 .0) (t .try-flag .kept .1 .1 .1 .1 .1 .1 .1 .1 .1 .1 .1 .1 .1 .0) ∙ l .loop .inv .1
 
 -- what stands then
 abbrev Stood : tie.After-try-flag Inv μ → ℕ → List Flag → Type 0
 Stood t n =
-    let l = t .before .before .before .before in
+    let l = t .before .before .before .before .before in
     let a = start l .args in
-    Tally (a .sh) (a .low) (a .words .now) (a .floats .now) (a .inv) (a .rotations) (a .room) (a .sh .dimension) (l .before .vertex-count .result) (a .matrices .now) (matrices t) (a .rows .now) (rows t) n
+    Tally (a .sh) (a .low) (a .words .now) (a .floats .now) (a .inv) (a .rotations) (a .room) (a .sh .dimension) (counted l .vertex-count .result) (a .matrices .now) (matrices t) (a .rows .now) (rows t) n
 
-skipped : (t : tie.After-try-flag Inv μ) → t .try-flag .result ≡ Skipped → Stood t (t .before .before .before .before .loop .n) (rest (t .before .before .before))
+skipped : (t : tie.After-try-flag Inv μ) → t .try-flag .result ≡ Skipped → Stood t (t .before .before .before .before .before .loop .n) (rest (t .before .before .before .before))
 skipped t r =
-    let c = t .before .before .before in
+    let c = t .before .before .before .before in
     let l = c .before in
     let s = start l in
     let a = s .args in
-    tally-skipped (s .pre) (a .inv) (tall s) (a .rotations) (a .room) (l .before .vertex-count .result) (l .before .vertex-count .ensures) (a .matrices .now) (a .rows .now) (l .loop .matrices) (l .loop .rows) (l .loop .n) (flag l) (rest c) (stands c)
-    (t .try-flag .result) (t .try-flag .last .1 .1 .1 .1 .1 .1 .1 .1 .1 .1 .0) (t .try-flag .last .1 .1 .1 .1 .1 .1 .1 .1 .1 .1 .1 .0) (t .try-flag .ensures) r
+    tally-skipped (s .pre) (a .inv) (tall s) (a .rotations) (a .room) (counted l .vertex-count .result) (counted l .vertex-count .ensures) (a .matrices .now) (a .rows .now) (l .loop .matrices) (l .loop .rows) (l .loop .n) (flag l) (rest c) (stands c)
+    (t .try-flag .result) (t .try-flag .last .1 .1 .1 .1 .1 .1 .1 .1 .1 .1 .1 .1 .0) (t .try-flag .last .1 .1 .1 .1 .1 .1 .1 .1 .1 .1 .1 .1 .1 .0) (t .try-flag .ensures) r
 
-added : (t : tie.After-try-flag Inv μ) → t .try-flag .result ≡ Added → Stood t (t .before .before .before .before .loop .n + 1) (rest (t .before .before .before))
+added : (t : tie.After-try-flag Inv μ) → t .try-flag .result ≡ Added → Stood t (t .before .before .before .before .before .loop .n + 1) (rest (t .before .before .before .before))
 added t r =
-    let c = t .before .before .before in
+    let c = t .before .before .before .before in
     let l = c .before in
     let s = start l in
     let a = s .args in
-    tally-added (s .pre) (a .inv) (tall s) (a .rotations) (a .room) (l .before .vertex-count .result) (l .before .vertex-count .ensures) (a .matrices .now) (a .rows .now) (l .loop .matrices) (l .loop .rows) (l .loop .n) (flag l) (rest c) (stands c)
-    (t .try-flag .result) (t .try-flag .last .1 .1 .1 .1 .1 .1 .1 .1 .1 .1 .0) (t .try-flag .last .1 .1 .1 .1 .1 .1 .1 .1 .1 .1 .1 .0) (t .try-flag .ensures) r
+    tally-added (s .pre) (a .inv) (tall s) (a .rotations) (a .room) (counted l .vertex-count .result) (counted l .vertex-count .ensures) (a .matrices .now) (a .rows .now) (l .loop .matrices) (l .loop .rows) (l .loop .n) (flag l) (rest c) (stands c)
+    (t .try-flag .result) (t .try-flag .last .1 .1 .1 .1 .1 .1 .1 .1 .1 .1 .1 .1 .0) (t .try-flag .last .1 .1 .1 .1 .1 .1 .1 .1 .1 .1 .1 .1 .1 .0) (t .try-flag .ensures) r
 
 add-n : tie.Need-add-n Inv μ
 add-n c =
     let t = c .before .before .before .before .before .before in
-    let s = start (t .before .before .before .before) in
+    let s = start (t .before .before .before .before .before) in
     let g = added t (c .enum-told2 .given .1) (solidAt (s .args .sh) (s .args .low) (s .args .words .now) (s .args .floats .now)) in
     omega (arith, g .room .marks)
 
@@ -192,27 +209,27 @@ returns : tie.Need-returns Inv μ
 returns r x =
     let e = r .before in
     let t = e .before .before .before .before .before .before in
-    let c = t .before .before .before in
+    let c = t .before .before .before .before in
     let l = c .before in
     let s = start l in
     let a = s .args in
     rw (r .of .ensures)
-    (tally-short (s .pre) (a .inv) (tall s) (a .rotations) (a .room) (l .before .vertex-count .result) (l .before .vertex-count .ensures) (a .matrices .now) (a .rows .now) (l .loop .matrices) (l .loop .rows) (l .loop .n) (flag l) (rest c) (stands c)
-    (t .try-flag .result) (t .try-flag .last .1 .1 .1 .1 .1 .1 .1 .1 .1 .1 .0) (t .try-flag .last .1 .1 .1 .1 .1 .1 .1 .1 .1 .1 .1 .0) (t .try-flag .ensures) (e .enum-told3 .given .1) x)
+    (tally-short (s .pre) (a .inv) (tall s) (a .rotations) (a .room) (counted l .vertex-count .result) (counted l .vertex-count .ensures) (a .matrices .now) (a .rows .now) (l .loop .matrices) (l .loop .rows) (l .loop .n) (flag l) (rest c) (stands c)
+    (t .try-flag .result) (t .try-flag .last .1 .1 .1 .1 .1 .1 .1 .1 .1 .1 .1 .1 .0) (t .try-flag .last .1 .1 .1 .1 .1 .1 .1 .1 .1 .1 .1 .1 .1 .0) (t .try-flag .ensures) (e .enum-told3 .given .1) x)
 
 slice-aggregate-next : tie.Need-slice-aggregate-next Inv μ
 slice-aggregate-next c =
-    let s = start (c .before .before .before .before .before .before .before .before .before .before) in
+    let s = start (c .before .before .before .before .before .before .before .before .before .before .before) in
     sym (length-take-le (s .args .low) (s .args .words .now) (s .pre .bench .words-in))
 
 next-requires : tie.Need-next-requires Inv μ
 next-requires c κs =
-    let w = c .before .before .before .before .before .before .before .before .before in
+    let w = c .before .before .before .before .before .before .before .before .before .before in
     (start (w .before) .pre .bench .held, is-flag w)
 
 loop-less : tie.Need-loop-less Inv μ
 loop-less c =
-    let w = c .before .before .before .before .before .before .before .before .before .before .before in
+    let w = c .before .before .before .before .before .before .before .before .before .before .before .before in
     let l = w .before in
     let s = start l in
     fewer (s .args .sh) (take (s .args .low) (s .args .words .now)) (s .pre .bench .held) (Stands l) (flag l) (l .loop .more) (w .loop-test .taken) (l .loop .inv .2)
@@ -222,7 +239,7 @@ loop-again : tie.Need-loop-again Inv μ
 loop-again c =
     let m = c .before .before .before in
     let t = m .before .before .before .before .before in
-    let w = t .before .before .before in
+    let w = t .before .before .before .before in
     let l = w .before in
     let s = start l in (
       many t,
@@ -239,7 +256,7 @@ returns-2 r x =
     let s = start l in
     let a = s .args in
     rw (r .of2 .ensures)
-    (tally-end (s .pre) (a .inv) (tall s) (a .rotations) (a .room) (l .before .vertex-count .result) (l .before .vertex-count .ensures) (a .matrices .now) (a .rows .now) (l .loop .matrices) (l .loop .rows) (l .loop .n)
+    (tally-end (s .pre) (a .inv) (tall s) (a .rotations) (a .room) (counted l .vertex-count .result) (counted l .vertex-count .ensures) (a .matrices .now) (a .rows .now) (l .loop .matrices) (l .loop .rows) (l .loop .n)
     (turn-end (solidIn (a .sh) (take (a .low) (a .words .now))) (Stands l) (flag l) (l .loop .more) (c .loop-test .left) (l .loop .inv .2)) x)
 
 pub list-members-spec : {M : Type 1} → statement M
@@ -251,17 +268,19 @@ list-members-spec =
     slice-aggregate-first
     first-requires
     vertex-count-requires
+    (λ c κs. points-requires c)
+    (λ c κs. points-requires (c .before))
     loop-holds
-    (λ c. within c .2)
+    (λ c. within (c .before) .2)
     mul-try-flag
     mul-try-flag-2
     mul-try-flag-3
-    (λ c. within c .0)
+    (λ c. within (c .before) .0)
     part-try-flag-start
     (λ c. search needs)
     mul-try-flag-4
     mul-try-flag-5
-    (λ c. within (c .before) .1)
+    (λ c. within (c .before .before) .1)
     part-try-flag-start-2
     (λ c. search needs)
     try-flag-requires

@@ -1,4 +1,4 @@
--- By whether it passes, whether it is wanted, and whether there is room.
+-- By whether it is wanted, whether it passes, and whether there is room.
 -- Assumes nothing.
 use mathlib.Core.Path.{_≡_, sym, ap, _∙_}
 use mathlib.Core.Logic.{_⊎_, inl, inr, ⊎-elim}
@@ -24,11 +24,6 @@ use Rattle.symmetry.proofs.Trying.{fits-means, candidate-not, candidate
 use Rattle.symmetry.proofs.listing.try_candidate.Statement.{statement}
 use Rattle.symmetry.proofs.listing.try_candidate.Tie as tie
 
-passes-requires : tie.Need-passes-requires
-passes-requires c κs =
-    let s = c .before .before .before .before .before in
-    (s .pre, vertices-few (s .pre))
-
 -- the solid, the types and the candidate
 abbrev solid : tie.Start → Concrete
 solid s = let a = s .args in solidAt (a .sh) (a .low) (a .words .now) (a .floats .now)
@@ -39,94 +34,106 @@ types s = let a = s .args in stateIn (a .sh) (a .low) (a .words .now)
 abbrev matrix : tie.Start → Matrix
 matrix s = corner (s .args .sh .dimension) (s .args .m)
 
-returns : tie.Need-returns
-returns c x i =
-    let p = c .before .before in
-    let s = p .before .before .before .before .before .before in
-    let a = s .args in
-    candidate-not (solid s) (types s) (matrix s) (a .rotations) (a .sh .dimension) (length (solid s .points)) (a .left) (a .matrices .now) (a .rows .now) x i (sym (not-true _ (c .if1 .taken)) ∙ p .passes .ensures .0)
+-- where it is wanted, and where it passes
+abbrev start : tie.Joined1 → tie.Start
+start j = j .before .before .before .before .before
 
--- it passes
-passed : (c : tie.Else1) → let s = c .before .before .before .before .before .before .before .before in true ≡ passing (solid s) (types s) (matrix s)
-passed c = sym (not-false _ (c .if1 .left)) ∙ c .before .before .passes .ensures .0
+abbrev joined : tie.Else3 → tie.Joined1
+joined e = e .before .before .before .before
+
+returns : tie.Need-returns
+unfolding zeroF
+returns c x i =
+    let t = c .before .before in
+    let s = t .before .before .before .before .before in
+    let a = s .args in
+    candidate-turned (solid s) (types s) (matrix s) (a .rotations) (a .sh .dimension) (length (solid s .points)) (a .left) (a .matrices .now) (a .rows .now) x i (t .if1 .taken)
+    (ap (lt zeroF) (sym (c .before .determinant .ensures)) ∙ not-true _ (c .if2 .taken))
+
+-- it is wanted
+wanted : (j : tie.Joined1) → let s = start j in (s .args .rotations ≡ false) ⊎ (lt zeroF (determinant (matrix s)) ≡ true)
+unfolding zeroF
+wanted j = ⊎-elim (λ w. inr (ap (lt zeroF) (sym (w .1 .ensures)) ∙ not-false _ (w .2 .left))) (λ w. inl (w .left)) (j .if1 .came)
+
+passes-requires : tie.Need-passes-requires
+passes-requires c κs =
+    let s = start (c .before) in
+    (s .pre .0, (vertices-few (s .pre .0), s .pre .1))
 
 returns-2 : tie.Need-returns-2
-unfolding zeroF
 returns-2 c x i =
-    let e = c .before .before .before in
-    let s = e .before .before .before .before .before .before .before .before in
+    let p = c .before .before in
+    let s = start (p .before .before) in
     let a = s .args in
-    candidate-turned (solid s) (types s) (matrix s) (a .rotations) (a .sh .dimension) (length (solid s .points)) (a .left) (a .matrices .now) (a .rows .now) x i (passed e) (c .before .before .if2 .taken)
-    (ap (lt zeroF) (sym (c .before .determinant .ensures)) ∙ not-true _ (c .if3 .taken))
+    candidate-not (solid s) (types s) (matrix s) (a .rotations) (a .sh .dimension) (length (solid s .points)) (a .left) (a .matrices .now) (a .rows .now) x i (sym (not-true _ (c .if3 .taken)) ∙ p .passes .ensures .0)
 
--- and it is wanted
-wanted : (c : tie.Joined2) → let s = c .before .before .before .before .before .before .before .before .before in (s .args .rotations ≡ false) ⊎ (lt zeroF (determinant (matrix s)) ≡ true)
-unfolding zeroF
-wanted c = ⊎-elim (λ w. inr (ap (lt zeroF) (sym (w .1 .ensures)) ∙ not-false _ (w .2 .left))) (λ w. inl (w .left)) (c .if2 .came)
+-- and it passes
+passed : (e : tie.Else3) → let s = start (joined e) in true ≡ passing (solid s) (types s) (matrix s)
+passed e = sym (not-false _ (e .if3 .left)) ∙ e .before .before .passes .ensures .0
 
 vertex-count-requires : tie.Need-vertex-count-requires
-vertex-count-requires c κs = rising (c .before .before .before .before .before .before .before .before .before .pre)
+vertex-count-requires c κs = rising (start (joined c) .pre .0)
 
 -- how many vertices there are
-many : (c : tie.After-vertex-count) → c .vertex-count .result ≡ length (solid (c .before .before .before .before .before .before .before .before .before .before) .points)
-many c = c .vertex-count .ensures ∙ sym (points-many (c .before .before .before .before .before .before .before .before .before .before .pre))
+many : (v : tie.After-vertex-count) → v .vertex-count .result ≡ length (solid (start (joined (v .before))) .points)
+many v = v .vertex-count .ensures ∙ sym (points-many (start (joined (v .before)) .pre .0))
 
 -- whether there is room
-room : (c : tie.After-has-room) → let s = c .before .before .before .before .before .before .before .before .before .before .before in
+room : (c : tie.After-has-room) → let s = start (joined (c .before .before)) in
     c .has-room .result ≡ fits (s .args .sh .dimension) (length (solid s .points)) (length (s .args .matrices .now)) (length (s .args .rows .now)) (s .args .left)
-room c = let a = c .before .before .before .before .before .before .before .before .before .before .before .args in
+room c = let a = start (joined (c .before .before)) .args in
     c .has-room .ensures ∙ ap (λ n. fits (a .sh .dimension) n (length (a .matrices .now)) (length (a .rows .now)) (a .left)) (many (c .before))
 
 returns-3 : tie.Need-returns-3
 returns-3 c x i =
-    let j = c .before .before .before in
-    let s = j .before .before .before .before .before .before .before .before .before in
+    let e = c .before .before .before in
+    let s = start (joined e) in
     let a = s .args in
-    candidate-short (solid s) (types s) (matrix s) (a .rotations) (a .sh .dimension) (length (solid s .points)) (a .left) (a .matrices .now) (a .rows .now) x i (passed (j .before)) (wanted j)
+    candidate-short (solid s) (types s) (matrix s) (a .rotations) (a .sh .dimension) (length (solid s .points)) (a .left) (a .matrices .now) (a .rows .now) x i (passed e) (wanted (joined e))
     (sym (room (c .before)) ∙ not-true _ (c .if4 .taken))
 
 -- there is
-roomy : (c : tie.Else4) → let s = c .before .before .before .before .before .before .before .before .before .before .before .before in
+roomy : (c : tie.Else4) → let s = start (joined (c .before .before .before)) in
     fits (s .args .sh .dimension) (length (solid s .points)) (length (s .args .matrices .now)) (length (s .args .rows .now)) (s .args .left) ≡ true
 roomy c = sym (room (c .before)) ∙ not-false _ (c .if4 .left)
 
 put-matrix-requires : tie.Need-put-matrix-requires
 put-matrix-requires c κs =
-    let s = c .before .before .before .before .before .before .before .before .before .before .before .before .before in
-    (s .pre .bench .held .wide, fits-means _ _ _ _ _ (roomy (c .before)) .0)
+    let s = start (joined (c .before .before .before .before)) in
+    (s .pre .0 .bench .held .wide, fits-means _ _ _ _ _ (roomy (c .before)) .0)
 
 put-entries-requires : tie.Need-put-entries-requires
 put-entries-requires c κs =
-    let e = c .before .before .before .before .before .before in
-    let v = e .before .before in
-    let p = v .before .before .before .before in
-    let s = p .before .before .before .before .before .before in
-    let k : length (p .passes .last .1 .1 .1 .1 .1 .1 .0) ≡ 2048 = p .passes .kept .1 .1 .1 .1 .1 .1 .0 in
-    (omega (arith, k, v .vertex-count .ensures, vertices-are (s .pre), vertices-few (s .pre)), omega (arith, many v, fits-means _ _ _ _ _ (roomy e) .1))
+    let r = c .before .before .before .before .before .before in
+    let v = r .before .before in
+    let p = v .before .before .before in
+    let s = start (p .before .before) in
+    let k : length (p .passes .last .1 .1 .1 .1 .1 .1 .1 .1 .0) ≡ 2048 = p .passes .kept .1 .1 .1 .1 .1 .1 .1 .1 .0 in
+    (omega (arith, k, v .vertex-count .ensures, vertices-are (s .pre .0), vertices-few (s .pre .0)), omega (arith, many v, fits-means _ _ _ _ _ (roomy r) .1))
 
 returns-4 : tie.Need-returns-4
 returns-4 c x i =
     let q = c .before .before in
     let m = q .before .before .before .before .before in
-    let e = m .before .before in
-    let v = e .before .before in
-    let j = v .before in
-    let p = j .before .before .before in
-    let s = p .before .before .before .before .before .before in
+    let r = m .before .before in
+    let v = r .before .before in
+    let e = v .before in
+    let p = e .before .before in
+    let s = start (joined e) in
     let a = s .args in
-    let row = p .passes .last .1 .1 .1 .1 .1 .1 .0 in
-    let r : take (v .vertex-count .result) row ≡ rowOf (solid s .points) (matrix s) = ap (λ n. take n row) (v .vertex-count .ensures ∙ sym (vertices-are (s .pre))) ∙ p .passes .ensures .1 (not-false _ (j .before .if1 .left)) in
-    candidate-added (solid s) (types s) (matrix s) (a .rotations) (a .sh .dimension) (length (solid s .points)) (a .left) (a .matrices .now) (a .rows .now) x i (passed (j .before)) (wanted j) (roomy e)
-    (m .put-matrix .last .1 .1 .0) (q .put-entries .last .1 .1 .0) (m .put-matrix .ensures) (q .put-entries .ensures ∙ ap (λ l. written l (a .rows .now)) r)
+    let row = p .passes .last .1 .1 .1 .1 .1 .1 .1 .1 .0 in
+    let w : take (v .vertex-count .result) row ≡ rowOf (solid s .points) (matrix s) = ap (λ n. take n row) (v .vertex-count .ensures ∙ sym (vertices-are (s .pre .0))) ∙ p .passes .ensures .1 (not-false _ (e .if3 .left)) in
+    candidate-added (solid s) (types s) (matrix s) (a .rotations) (a .sh .dimension) (length (solid s .points)) (a .left) (a .matrices .now) (a .rows .now) x i (passed e) (wanted (joined e)) (roomy r)
+    (m .put-matrix .last .1 .1 .0) (q .put-entries .last .1 .1 .0) (m .put-matrix .ensures) (q .put-entries .ensures ∙ ap (λ l. written l (a .rows .now)) w)
 
 pub try-candidate-spec : {M : Type 1} → statement M
 try-candidate-spec =
     tie.close
     (tie.spec
+    (λ c κs. search needs)
+    returns
     (λ c. search needs)
     passes-requires
-    returns
-    (λ c κs. search needs)
     returns-2
     vertex-count-requires
     (λ c κs. search needs)

@@ -18,14 +18,14 @@ use Rattle.symmetry.proofs.listing.try_flag.Tie as tie
 same-types-requires : tie.Need-same-types-requires
 same-types-requires c κs =
     let s = c .before .before .before .before in
-    (s .pre .0 .bench .held, (s .pre .0 .counted .room, (s .pre .1 .0, first-is (s .pre .0) (s .pre .1 .1))))
+    (s .pre .0 .bench .held, (s .pre .0 .counted .room, (s .pre .1 .0, first-is (s .pre .0) (s .pre .1 .1 .0))))
 
 returns : tie.Need-returns
 returns c x =
     let t = c .before in
     let s = t .before .before .before .before .before in
     let a = s .args in
-    flag-not (s .pre .0) (stateIn (a .sh) (a .low) (a .words .now)) (flagIn (a .sh .rank) (a .flag)) (flagIn (a .sh .rank) (a .first)) (s .pre .1 .1) (a .rotations) (a .sh .dimension) (length (solidAt (a .sh) (a .low) (a .words .now) (a .floats .now) .points)) (a .left) (a .matrices .now) (a .rows .now) x (corner (s .args .sh .dimension) (s .args .inv)) (sym (not-true _ (c .if1 .taken)) ∙ t .same-types .ensures)
+    flag-not (s .pre .0) (stateIn (a .sh) (a .low) (a .words .now)) (flagIn (a .sh .rank) (a .flag)) (flagIn (a .sh .rank) (a .first)) (s .pre .1 .1 .0) (a .rotations) (a .sh .dimension) (length (solidAt (a .sh) (a .low) (a .words .now) (a .floats .now) .points)) (a .left) (a .matrices .now) (a .rows .now) x (corner (s .args .sh .dimension) (s .args .inv)) (sym (not-true _ (c .if1 .taken)) ∙ t .same-types .ensures)
 
 slice-aggregate-candidate : tie.Need-slice-aggregate-candidate
 slice-aggregate-candidate c =
@@ -38,6 +38,9 @@ candidate-requires c κs =
     let h = s .pre .0 in
     (h .bench .held, (h .bench .diamonds, (s .pre .1 .0, (omega (arith, h .tall), coordinates-in h))))
 
+try-candidate-requires : tie.Need-try-candidate-requires
+try-candidate-requires c κs = let s = c .before .before .before .before .before .before .before .before .before .before in (s .pre .0, s .pre .1 .1 .1)
+
 returns-2 : tie.Need-returns-2
 returns-2 c x =
     let g = c .before .before .before .before in
@@ -45,8 +48,8 @@ returns-2 c x =
     let e = m .before .before in
     let s = e .before .before .before .before .before .before in
     let a = s .args in
-    flag-is (s .pre .0) (stateIn (a .sh) (a .low) (a .words .now)) (flagIn (a .sh .rank) (a .flag)) (flagIn (a .sh .rank) (a .first)) (s .pre .1 .1) (a .rotations) (a .sh .dimension) (length (solidAt (a .sh) (a .low) (a .words .now) (a .floats .now) .points)) (a .left) (a .matrices .now) (a .rows .now) x (corner (s .args .sh .dimension) (s .args .inv)) (sym (not-false _ (e .if1 .left)) ∙ e .before .same-types .ensures)
-    (corner (a .sh .dimension) (m .candidate .result)) (m .candidate .ensures) (g .try-candidate .result) (g .try-candidate .last .1 .1 .1 .1 .1 .1 .1 .1 .0) (g .try-candidate .last .1 .1 .1 .1 .1 .1 .1 .1 .1 .0) (g .try-candidate .ensures x (corner (s .args .sh .dimension) (s .args .inv)))
+    flag-is (s .pre .0) (stateIn (a .sh) (a .low) (a .words .now)) (flagIn (a .sh .rank) (a .flag)) (flagIn (a .sh .rank) (a .first)) (s .pre .1 .1 .0) (a .rotations) (a .sh .dimension) (length (solidAt (a .sh) (a .low) (a .words .now) (a .floats .now) .points)) (a .left) (a .matrices .now) (a .rows .now) x (corner (s .args .sh .dimension) (s .args .inv)) (sym (not-false _ (e .if1 .left)) ∙ e .before .same-types .ensures)
+    (corner (a .sh .dimension) (m .candidate .result)) (m .candidate .ensures) (g .try-candidate .result) (g .try-candidate .last .1 .1 .1 .1 .1 .1 .1 .1 .1 .1 .0) (g .try-candidate .last .1 .1 .1 .1 .1 .1 .1 .1 .1 .1 .1 .0) (g .try-candidate .ensures x (corner (s .args .sh .dimension) (s .args .inv)))
 
 pub try-flag-spec : {M : Type 1} → statement M
 try-flag-spec =
@@ -56,7 +59,7 @@ try-flag-spec =
     returns
     slice-aggregate-candidate
     candidate-requires
-    (λ c κs. search needs)
+    try-candidate-requires
     (λ c. search needs)
     (λ c. search needs)
     returns-2)

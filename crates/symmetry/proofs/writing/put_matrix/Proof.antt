@@ -19,7 +19,7 @@ use Rattle.float.specs.Reading.{leading, corner}
 use Rattle.float.proofs.Parts.{part-end}
 use Rattle.float.proofs.Sized.{wide}
 use Rattle.float.proofs.Tails.{tail-is}
-use Rattle.symmetry.proofs.Parts.{part-written}
+use Rattle.float.proofs.Tails.{part-written}
 use Rattle.symmetry.proofs.Rows.{rows-next}
 use Rattle.symmetry.proofs.writing.put_matrix.Statement.{statement}
 use Rattle.symmetry.proofs.writing.put_matrix.Tie as tie

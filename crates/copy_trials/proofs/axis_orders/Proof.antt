@@ -1,0 +1,12 @@
+-- The table that is handed out is the one of which rule and closure are shown.
+-- Assumes nothing.
+use borrow.Author.Needs.{needs}
+use Rattle.trials.specs.AxisOrders.{axis-order-table}
+use Rattle.copy_trials.proofs.axis_orders.Statement.{statement}
+use Rattle.copy_trials.proofs.axis_orders.Tie as tie
+
+returns : tie.Need-returns
+returns c = rw (c .axis-orders .ensures) axis-order-table
+
+pub axis-orders-spec : {M : Type 1} → statement M
+axis-orders-spec = tie.close (tie.spec (λ c κs. search needs) returns)

@@ -1,0 +1,20 @@
+-- The lists that a change at rank r looks through, of the element above and of the one below.
+-- Assumes nothing.
+use mathlib.Core.Path.{_≡_}
+use mathlib.Core.List.{List}
+use Prim.Native.Nat.{ℕ, zero, suc, _+_, _-_, _*_, _<_}
+use native.Mathlib.Omega.{arith}
+use Rattle.ranked.specs.declared.Shape.{Shape}
+use Rattle.ranked.specs.Words.{firstAt, sizeAt, Held}
+use Rattle.ranked.specs.Reading.{subsWord, supsWord, Fork}
+use Rattle.ranked.proofs.Judged.{fork}
+
+-- g is of the rank above, x of the one below
+pub sides : (sh : Shape) (w : List ℕ) → Held sh w → (r : ℕ) → 0 < r → r < sh .rank → (g : ℕ) → g < sizeAt sh (suc r) → (x : ℕ) → x < sizeAt sh (r - 1)
+    → Fork w (subsWord (firstAt sh (suc r)) g) (supsWord (firstAt sh (r - 1)) x) (4 * (firstAt sh r + 0)) g x
+sides sh w h zero a b g k x l = absurd (omega arith)
+sides sh w h (suc q) a b g k x l =
+    let e : suc q - 1 ≡ q = omega arith in
+    let z : 4 * (firstAt sh (suc q) + 0) ≡ 4 * firstAt sh (suc q) = omega arith in
+    let m : x < sizeAt sh q = rw e at l in
+    rw (e, z) (fork sh w h q b g k x m)

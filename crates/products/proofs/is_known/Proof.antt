@@ -1,0 +1,31 @@
+-- The loop's invariant: j is at most as many as there are slots. The measure is what is left of them.
+-- Assumes nothing.
+use borrow.Author.Needs.{needs}
+use mathlib.Core.Bool.{false≢true}
+use Prim.Native.Nat.{_≤_, _-_}
+use Rattle.products.proofs.is_known.Statement.{statement}
+use Rattle.products.proofs.is_known.Tie as tie
+
+abbrev Inv-loop : tie.InvT-loop
+Inv-loop v rows marks k guesses cells j₀ j = j ≤ 16
+
+abbrev μ-loop : tie.MeasureT-loop
+μ-loop v rows marks k guesses cells j₀ j = 16 - j
+
+pub is-known-spec : {M : Type 1} → statement M
+is-known-spec =
+    tie.close
+    (tie.spec
+    Inv-loop
+    μ-loop
+    (λ c. search needs)
+    (λ c. search needs)
+    (λ c. search needs)
+    (λ c. search needs)
+    (λ c e. absurd (false≢true e))
+    (λ c κs. search needs)
+    (λ c e. c .before .is-met .ensures (c .if2 .taken))
+    (λ c. search needs)
+    (λ c. search needs)
+    (λ c. search needs)
+    (λ c e. absurd (false≢true e)))

@@ -1,0 +1,37 @@
+-- The loop's invariant: i is at most as many as there are tries. The measure is what is left of them.
+-- Assumes nothing.
+use borrow.Author.Needs.{needs}
+use mathlib.Core.Bool.{false≢true}
+use Prim.Native.Nat.{_≤_, _-_}
+use Rattle.products.proofs.is_met.Statement.{statement}
+use Rattle.products.proofs.is_met.Tie as tie
+
+abbrev Inv-loop : tie.InvT-loop
+Inv-loop v rows marks k guesses cells j g at i₀ i = i ≤ 4
+
+abbrev μ-loop : tie.MeasureT-loop
+μ-loop v rows marks k guesses cells j g at i₀ i = 4 - i
+
+pub is-met-spec : {M : Type 1} → statement M
+is-met-spec =
+    tie.close
+    (tie.spec
+    Inv-loop
+    μ-loop
+    (λ c. search needs)
+    (λ c. search needs)
+    (λ c. search needs)
+    (λ c κs. search needs)
+    (λ c κs. search needs)
+    (λ c κs. search needs)
+    (λ c. search needs)
+    (λ c. search needs)
+    (λ c. search needs)
+    (λ c. search needs)
+    (λ c κs. search needs)
+    (λ c κs. search needs)
+    (λ c e. c .before .is-factored .ensures (c .if1 .taken))
+    (λ c. search needs)
+    (λ c. search needs)
+    (λ c. search needs)
+    (λ c e. absurd (false≢true e)))

@@ -1,0 +1,28 @@
+-- The loop's invariant: i is at most as many as there are entries. The measure is what is left of them.
+-- Assumes nothing.
+use borrow.Author.Needs.{needs}
+use Prim.Native.Nat.{_≤_, _<_, _-_}
+use Rattle.products.proofs.none.Statement.{statement}
+use Rattle.products.proofs.none.Tie as tie
+
+abbrev Inv-loop : tie.InvT-loop
+Inv-loop cells₀ i₀ cells i = i ≤ 8
+
+abbrev μ-loop : tie.MeasureT-loop
+μ-loop cells₀ i₀ cells i = 8 - i
+
+pub none-spec : {M : Type 1} → statement M
+none-spec =
+    tie.close
+    (tie.spec
+    Inv-loop
+    μ-loop
+    (λ c. search needs)
+    (λ c. search needs)
+    (λ c. search needs)
+    (λ c. search needs)
+    (λ c. search needs)
+    (λ c. search needs)
+    (λ c. search needs)
+    (λ c. search needs)
+    (λ c. search needs))

@@ -1,0 +1,34 @@
+-- The loop's invariant: at is at most the row's length. The measure is what is left of it.
+-- Assumes nothing.
+use borrow.Author.Needs.{needs}
+use Prim.Native.Nat.{_≤_, _<_, _-_}
+use lib.ListN.{length}
+use Rattle.products.proofs.note.Statement.{statement}
+use Rattle.products.proofs.note.Tie as tie
+
+abbrev Inv-loop : tie.InvT-loop
+Inv-loop row cells₀ j at₀ cells at = at ≤ length row
+
+abbrev μ-loop : tie.MeasureT-loop
+μ-loop row cells₀ j at₀ cells at = length row - at
+
+pub note-spec : {M : Type 1} → statement M
+note-spec =
+    tie.close
+    (tie.spec
+    Inv-loop
+    μ-loop
+    (λ c. search needs)
+    (λ c. search needs)
+    (λ c. search needs)
+    (λ c κs. search needs)
+    (λ c. search needs)
+    (λ c. search needs)
+    (λ c. search needs)
+    (λ c. search needs)
+    (λ c. search needs)
+    (λ c. search needs)
+    (λ c. search needs)
+    (λ c. search needs)
+    (λ c. search needs)
+    (λ c. search needs))
