@@ -192,7 +192,7 @@ mod on_solids {
             ("stars", vec![("great dodecahedron".to_owned(), great_dodecahedron())]),
             ("facet 0 through the centre", vec![("tetrahemihexahedron".to_owned(), tetrahemihexahedron())]),
             ("members that are no symmetries", vec![("disphenoid".to_owned(), disphenoid())]),
-            ("pleated", sized(&[4, 8, 16, 32], &|n| dihedron(&regular(n, 1), 1.0))),
+            ("dihedra", sized(&[4, 8, 16, 32], &|n| dihedron(&regular(n, 1), 1.0))),
             ("duoprisms", sized(&[3, 4, 6, 8, 12], &|n| product(&regular(n, 1), &regular(n, 1)))),
             ("polychora", polychora()),
             ("hulls of random points", [125, 250, 500].map(|n| (n.to_string(), asymmetric(n, random))).into()),

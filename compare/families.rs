@@ -1,4 +1,5 @@
-//! Solids by name, for the times: regular and uniform ones, and one that has no symmetry.
+//! Solids by name, for the times: regular and uniform ones, antiprisms, a star, one with members that are no symmetries, and one without any
+//! symmetry.
 
 use crate::copyings::{icosians, signed_orders};
 use crate::random::Random;

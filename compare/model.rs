@@ -27,7 +27,7 @@ impl Reader<'_> {
     }
 }
 
-/// A sheet that passed 1 to 6, for a workspace of any size; the rank is kept apart, since it may be 0 or 1.
+/// A sheet that passed 1 to 7; the rank is kept apart, since it may be 0 or 1.
 pub struct Judged {
     pub rank: usize,
     pub solid: Option<Solid>,
