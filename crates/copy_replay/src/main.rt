@@ -1,5 +1,5 @@
 // Replays stored copyings: reads records and writes each answer with every cell of the two outputs. All numbers are whole, eight bytes
-// each, highest byte first; a float goes as its bit pattern. A record is the dimension, how many floats there are of points, how many of
+// each and two for a table's cell, highest byte first; a float goes as its bit pattern. A record is the dimension, how many floats there are of points, how many of
 // turns, how long the two outputs are, and then those floats. Its answer is the refusal's number, or 0; the count; the output of copies;
 // the table. Both outputs are filled with numbers of the place beforehand, so that a cell that is to stay is seen to stay.
 // After the last answer comes the table of 48. tools/make_copies.py made stdin and stdout.

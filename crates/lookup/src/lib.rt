@@ -1,7 +1,7 @@
 // Finding a point among listed points that are apart: "within EPS, EPS included, on every axis (lowest number taken)", fast for many points.
 // A table guesses the number. A guess that is near the point sought is the lowest near it if it has that point's very bits, as the points are
-// apart; or if the points are lone, no two within WIDE on every axis, as then it is the only one near. A wrong guess costs time only, so nothing
-// is said of the table.
+// apart; or if the points are lone, no two within WIDE on every axis, as then it is the only one near. A wrong guess costs time only, so of
+// the table it is only said that its numbers are points'.
 ghost use mathlib.Core.Path.{_≡_};
 ghost use mathlib.Core.Bool.{true, false};
 ghost use Prim.Native.Nat.{ℕ, _+_, _*_, _≤_, _<_};
