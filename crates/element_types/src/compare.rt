@@ -1,4 +1,4 @@
-// Keys that stand in lent words, compared.
+// Comparing keys that stand in lent words.
 use ranked::lists::get;
 ghost use mathlib.Core.Path.{_≡_};
 ghost use Prim.Native.Nat.{ℕ, _+_, _≤_, _<_};
@@ -6,7 +6,7 @@ ghost use lib.ListN.{length, getD, take, drop};
 ghost use Rattle.spec.specs.Lists.{eqList, place};
 ghost use Rattle.element_types.specs.Runs.{keyAt, repKeys, Keyed};
 
-// Do n words from a and n words from b hold the same?
+// Tells whether the n words from a and the n words from b hold the same numbers.
 fn same_run(w: &[u32], a: usize, b: usize, n: usize) -> bool
     requires { ⌜ (a + n ≤ length (now w)) × (b + n ≤ length (now w)) ⌝ }
     ensures { λ r. ⌜ r ≡ eqList (take n (drop a (now (w .entry)))) (take n (drop b (now (w .entry)))) ⌝ }
@@ -21,7 +21,7 @@ fn same_run(w: &[u32], a: usize, b: usize, n: usize) -> bool
     true
 }
 
-// Are the keys at words p and q the same?
+// Tells whether the keys at words p and q are the same.
 pub fn same_key(w: &[u32], p: usize, q: usize) -> bool
     requires { ⌜ Keyed (now w) p × Keyed (now w) q ⌝ }
     ensures { λ r. ⌜ r ≡ eqList (keyAt (now (w .entry)) p) (keyAt (now (w .entry)) q) ⌝ }
@@ -33,7 +33,7 @@ pub fn same_key(w: &[u32], p: usize, q: usize) -> bool
     same_run(w, p + 1, q + 1, n + 1)
 }
 
-// Which of m keys, that stand where the words from `reps` say, is the first that is the key at word q? m if none is.
+// Returns the number of the first of m keys that equals the key at word q, or m if none does. The words from `reps` say where the m keys stand.
 pub fn find_key(w: &[u32], reps: usize, m: usize, q: usize) -> usize
     requires { ⌜ reps + m ≤ length (now w) ⌝ }
     requires { ⌜ ((j : ℕ) → j < m → Keyed (now w) (getD (now w) (reps + j) 0)) ⌝ }

@@ -1,4 +1,4 @@
-// "the number of types", over the proper ranks.
+// Counting "the number of types" over the proper ranks.
 use ranked::Shape;
 use ranked::lists::get;
 ghost use mathlib.Core.Path.{_≡_};
@@ -10,7 +10,8 @@ ghost use Rattle.spec.specs.Types.{typeCount};
 ghost use Rattle.ranked.specs.Words.{solidIn};
 ghost use Rattle.element_types.specs.State.{stateIn, Countable};
 
-// How many types the n elements have whose types stand from word `from`, numbered from 0 by first appearance: one more than the greatest number.
+// Counts the types of the n elements whose types stand from word `from`. They are numbered from 0 by first appearance, so there is one type more
+// than the greatest number says.
 fn types_in(words: &[u32], from: usize, n: usize) -> usize
     requires { ⌜ from + n ≤ length (now words) ⌝ }
     requires { ⌜ distinct eqb (take n (drop from (now words))) ≡ range 0 (length (distinct eqb (take n (drop from (now words))))) ⌝ }

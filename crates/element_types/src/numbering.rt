@@ -1,4 +1,4 @@
-// "numbers go from 0 in each rank by first appearance": the elements of a rank numbered by their keys.
+// "numbers go from 0 in each rank by first appearance": this file numbers the elements of a rank by their keys.
 use crate::compare::find_key;
 use crate::sorting::write_key;
 use ranked::lists::count_at;

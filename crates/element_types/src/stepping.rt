@@ -1,4 +1,4 @@
-// Steps: the elements of a rank are numbered by their keys, and the numbers are their types from then on.
+// A step numbers the elements of a rank by their keys, and these numbers are their types from then on.
 use crate::numbering::number_rank;
 use ranked::Shape;
 ghost use mathlib.Core.Path.{_≡_};
@@ -25,7 +25,8 @@ fn copy_down(words: &mut [u32], to: usize, from: usize, n: usize)
     }
 }
 
-// The types of the n elements of a rank, from word `from`, become the numbers of their keys. The words from `out` are used for them.
+// Makes the types of the n elements of a rank, which stand from word `from`, the numbers of their keys. The words from `out` hold the new numbers
+// until all are known.
 fn step_at(
     words: &mut [u32],
     low: usize,
@@ -42,7 +43,7 @@ fn step_at(
     copy_down(words, from, out, n);
 }
 
-// "Step up at proper rank r": by an element's type and its subs'.
+// "Step up at proper rank r": elements are told apart by their types and their subs' types.
 pub fn step_up(words: &mut [u32], low: usize, sh: Shape, r: usize)
     requires { ⌜ Steppable sh low (now words) (up r) ⌝ }
     ensures { λ _. ⌜ take low (now (words .exit)) ≡ take low (now (words .entry)) ⌝ }
@@ -56,7 +57,7 @@ pub fn step_up(words: &mut [u32], low: usize, sh: Shape, r: usize)
     step_at(words, low, 4 * first, n, base, low + first, out);
 }
 
-// "Step down: the same with sups and rank r+1".
+// "Step down: the same with sups and rank r+1": elements are told apart by their types and their sups' types.
 pub fn step_down(words: &mut [u32], low: usize, sh: Shape, r: usize)
     requires { ⌜ Steppable sh low (now words) (down r) ⌝ }
     ensures { λ _. ⌜ take low (now (words .exit)) ≡ take low (now (words .entry)) ⌝ }

@@ -9,7 +9,7 @@ ghost use Rattle.ranked.specs.Words.{firstAt, sizeAt, total, solidIn};
 ghost use Rattle.ranked.specs.Bench.{Laid};
 ghost use Rattle.exchange.specs.Swapping.{swapped, swappedLists};
 
-// Words i and j change places.
+// Lets words i and j change places.
 fn swap(words: &mut [u32], i: usize, j: usize)
     requires { ⌜ (i < length (now words)) × (j < length (now words)) ⌝ }
     ensures { λ _. ⌜ now (words .exit) ≡ swapped (now (words .entry)) i j ⌝ }
@@ -20,7 +20,7 @@ fn swap(words: &mut [u32], i: usize, j: usize)
     words[j] = x;
 }
 
-// The lists of subs of elements g and h change places: where each starts and how long it is.
+// Lets the lists of subs of elements g and h change places: the words that say where each starts and how long it is.
 fn swap_lists(words: &mut [u32], g: usize, h: usize)
     requires { ⌜ (4 * g + 1 < length (now words)) × (4 * h + 1 < length (now words)) × (g < 2 ^ 32) × (h < 2 ^ 32) ⌝ }
     ensures { λ _. ⌜ now (words .exit) ≡ swappedLists (now (words .entry)) g h ⌝ }
@@ -29,7 +29,7 @@ fn swap_lists(words: &mut [u32], g: usize, h: usize)
     swap(words, 4 * g + 1, 4 * h + 1);
 }
 
-// How many elements lie below rank r.
+// Counts the elements that lie below rank r.
 fn first_of(sh: Shape, r: usize) -> usize
     requires { ⌜ r < 7 ⌝ }
     ensures { λ n. ⌜ n ≡ firstAt sh r ⌝ }
@@ -37,7 +37,7 @@ fn first_of(sh: Shape, r: usize) -> usize
     sh.first[r]
 }
 
-// Facet f changes places with facet 0, and the sups are derived anew. There are as many as before, so the solid takes the same words.
+// Lets facet f change places with facet 0, and derives the sups anew. There are as many as before, so the solid takes the same words.
 pub fn exchange(words: &mut [u32], low: usize, sh: Shape, f: usize)
     requires { ⌜ Laid sh low (now words) ⌝ }
     requires { ⌜ (2 ≤ sh .rank) × (f < sizeAt sh (sh .rank - 1)) ⌝ }
@@ -48,6 +48,6 @@ pub fn exchange(words: &mut [u32], low: usize, sh: Shape, f: usize)
     let g = first_of(sh, sh.rank - 1);
     let n = first_of(sh, sh.rank + 1);
     swap_lists(words, g, g + f);
-    // The sups' entries stand after four words an element and the subs' entries, of which there are as many: low = 4 n + 2 I.
+    // The sups' entries stand after four words for each element and after the subs' entries, of which there are as many: low = 4 n + 2 I.
     derive_sups(words, sh, 2 * n + low / 2);
 }

@@ -14,20 +14,20 @@ use spec::Refusal;
 use text::counting;
 use text::lines;
 
-// "input past 8,192 bytes is refused 1".
+// The longest input that is read as a sheet: "input past 8,192 bytes is refused 1".
 const LONGEST: usize = 8192;
 
-// What `kit` lends to both calls.
+// The workspace that `kit` lends to both calls.
 const WORDS: usize = 4096;
 
 const FLOATS: usize = 2048;
 
-// To the types call.
+// The outputs that it lends to the types call.
 const ELEMENTS: usize = 256;
 
 const TYPES: usize = 256;
 
-// To the search.
+// The outputs that it lends to the search.
 const MATRICES: usize = 1024;
 
 const ROWS: usize = 8192;
@@ -37,7 +37,7 @@ const MARKS: usize = 512;
 // The longest text: the line that counts the types has at most 27 bytes, a type's 24, and the last line 91.
 const TEXT: usize = 6262;
 
-// The lines of the n types that the table begins with: cells of 16 bits, so that the buffer has room, and for the last line too.
+// Writes the lines of the n types that the table begins with. Cells have 16 bits, so the buffer has room for these lines and for the last one too.
 fn put_types(out: &mut [u8; TEXT], table: &[u16], n: usize) -> usize
     requires { ⌜ (4 * n ≤ length (now table)) × (n ≤ 256) ⌝ }
     ensures { λ r. ⌜ Puts 0 (typesLines (typesFrom (take (4 * n) (now (table .entry))))) (now (out .entry)) (now (out .exit)) r × (r + 91 ≤ 6262) ⌝ }
@@ -45,7 +45,7 @@ fn put_types(out: &mut [u8; TEXT], table: &[u16], n: usize) -> usize
     lines::element_types(out, 0, table, n)
 }
 
-// The sheet's D.
+// Returns the sheet's dimension D.
 fn dimension(sheet: &[u8]) -> usize
     ensures { λ r. ⌜ r ≡ (judgementOf (readSheet (now (sheet .entry)))) .header .dimension ⌝ }
 {
@@ -53,7 +53,7 @@ fn dimension(sheet: &[u8]) -> usize
     judgement.header.dimension
 }
 
-// The last line, behind the types: what the search found, or its refusal.
+// Writes the last line, behind the types: what the search found, or its refusal.
 fn last_line(sheet: &[u8], out: &mut [u8; TEXT], at: usize) -> usize
     requires { ⌜ at + 91 ≤ 6262 ⌝ }
     ensures { λ r. ⌜ Puts at (lastLine (outcome (membersIn (now (sheet .entry)) workWords workFloats) lent)) (now (out .entry)) (now (out .exit)) r ⌝ }
@@ -82,7 +82,7 @@ fn last_line(sheet: &[u8], out: &mut [u8; TEXT], at: usize) -> usize
     }
 }
 
-// The whole text, from the buffer's first byte on. Says where it ends.
+// Writes the whole text, from the buffer's first byte on, and returns where it ends.
 fn kit_text(sheet: &[u8], out: &mut [u8; TEXT]) -> usize
     ensures { λ r. ⌜ Puts 0 (kitText (now (sheet .entry))) (now (out .entry)) (now (out .exit)) r ⌝ }
 {

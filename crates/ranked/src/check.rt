@@ -13,7 +13,7 @@ ghost use Rattle.spec.specs.Solid.{bound, diamond};
 ghost use Rattle.ranked.specs.Words.{listAt, solidIn, Held};
 ghost use Rattle.ranked.specs.Reading.{Lies, supsWord, boundIn, Each, holding, Fork, twoUnder, Tier, twoAt, twoRank, twoFrom};
 
-// Is each of the n elements of a rank that starts at `first` in a list?
+// Tells whether each of the n elements of a rank that starts at `first` is in a list.
 fn bound_rank(w: &[u32], first: usize, n: usize) -> bool
     requires { ⌜ ((e : ℕ) → e < n → Lies (now w) (supsWord first e)) ⌝ }
     ensures { λ res. ⌜ res ≡ boundIn (now (w .entry)) first n ⌝ }
@@ -28,7 +28,7 @@ fn bound_rank(w: &[u32], first: usize, n: usize) -> bool
     true
 }
 
-// Not 5: is every proper element below rank R - 1 in a list?
+// Tells whether refusal 5 is not met: every proper element below rank R - 1 is in a list.
 pub fn is_bound(w: &[u32], sh: Shape) -> bool
     requires { ⌜ Held sh (now w) ⌝ }
     ensures { λ res. ⌜ res ≡ bound (solidIn sh (now (w .entry))) ⌝ }
@@ -46,7 +46,7 @@ pub fn is_bound(w: &[u32], sh: Shape) -> bool
     true
 }
 
-// How many entries y of the list at word i have x in their list at word base + 4 * y?
+// Counts the entries y of the list at word i that have x in their list at word base + 4 * y.
 fn counting(w: &[u32], i: usize, base: usize, x: usize) -> usize
     requires { ⌜ Lies (now w) i ⌝ }
     requires { ⌜ Each (now w) i base ⌝ }
@@ -65,7 +65,7 @@ fn counting(w: &[u32], i: usize, base: usize, x: usize) -> usize
     m
 }
 
-// How many elements lie between g, whose subs are at word i, and h, whose sups are at word j? The shorter list is gone through.
+// Counts the elements between g, whose subs are at word i, and h, whose sups are at word j. The shorter of the two lists is gone through.
 fn between(w: &[u32], i: usize, j: usize, base: usize, g: usize, h: usize) -> usize
     requires { ⌜ Fork (now w) i j base g h ⌝ }
     ensures { λ res. ⌜ res ≡ length (holding (now (w .entry)) i base h) ⌝ }
@@ -77,7 +77,8 @@ fn between(w: &[u32], i: usize, j: usize, base: usize, g: usize, h: usize) -> us
     }
 }
 
-// Exactly two between g, whose subs are at word i, and each entry of the list at word j, of the rank that starts at `below`?
+// Tells whether exactly two elements lie between g, whose subs are at word i, and each entry of the list at word j, of the rank that starts at
+// `below`.
 fn diamond_under(w: &[u32], i: usize, j: usize, base: usize, below: usize, g: usize) -> bool
     requires { ⌜ Lies (now w) j ⌝ }
     requires { ⌜ ((h : ℕ) → In h (listAt (now w) j) → Fork (now w) i (supsWord below h) base g h) ⌝ }
@@ -95,7 +96,7 @@ fn diamond_under(w: &[u32], i: usize, j: usize, base: usize, below: usize, g: us
     true
 }
 
-// Exactly two between g and every sub of its subs? The three ranks start at `below`, `at` and `above`.
+// Tells whether exactly two elements lie between g and every sub of its subs. The three ranks start at `below`, `at` and `above`.
 fn diamond_at(w: &[u32], below: usize, at: usize, above: usize, g: usize) -> bool
     requires { ⌜ Tier (now w) below at above g ⌝ }
     ensures { λ res. ⌜ res ≡ twoAt (now (w .entry)) at above g ⌝ }
@@ -114,7 +115,7 @@ fn diamond_at(w: &[u32], below: usize, at: usize, above: usize, g: usize) -> boo
     true
 }
 
-// The same for each of the n elements above.
+// Tells whether the same holds for each of the n elements of the uppermost rank.
 fn diamond_rank(w: &[u32], below: usize, at: usize, above: usize, n: usize) -> bool
     requires { ⌜ ((g : ℕ) → g < n → Tier (now w) below at above g) ⌝ }
     ensures { λ res. ⌜ res ≡ twoRank (now (w .entry)) at above n ⌝ }
@@ -129,7 +130,7 @@ fn diamond_rank(w: &[u32], below: usize, at: usize, above: usize, n: usize) -> b
     true
 }
 
-// The same for the ranks above `from` and the one after it, from the bottom up.
+// Tells whether the same holds for the ranks above `from` and the one after it, from the bottom up.
 fn diamond_from(w: &[u32], sh: Shape, from: usize) -> bool
     requires { ⌜ (Held sh (now w)) × (from ≤ sh .rank) ⌝ }
     ensures { λ res. ⌜ res ≡ twoFrom sh (now (w .entry)) from ⌝ }
@@ -149,8 +150,8 @@ fn diamond_from(w: &[u32], sh: Shape, from: usize) -> bool
     true
 }
 
-// Not 6: exactly two elements between every element and every sub of its subs, the least and the top included? The top comes first: once
-// every ridge is known to lie in just two facets, what the ranks below cost is bounded by the sheet's length.
+// Tells whether refusal 6 is not met: exactly two elements lie between every element and every sub of its subs, the least and the top included. The
+// top comes first: once every ridge is known to lie in just two facets, what the ranks below cost is bounded by the sheet's length.
 pub fn is_diamond(w: &[u32], sh: Shape) -> bool
     requires { ⌜ Held sh (now w) ⌝ }
     ensures { λ res. ⌜ res ≡ diamond (solidIn sh (now (w .entry))) ⌝ }

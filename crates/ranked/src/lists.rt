@@ -9,7 +9,7 @@ ghost use Rattle.spec.specs.Types.{subs, sups};
 ghost use Rattle.ranked.specs.Words.{sizeAt, listAt, solidIn, Held};
 ghost use Rattle.ranked.specs.Reading.{Lies};
 
-// The word at p.
+// Returns the word at p.
 pub fn get(w: &[u32], p: usize) -> usize
     requires { ⌜ p < length (now w) ⌝ }
     ensures { λ r. ⌜ r ≡ getD (now (w .entry)) p 0 ⌝ }
@@ -17,7 +17,7 @@ pub fn get(w: &[u32], p: usize) -> usize
     w[p] as usize
 }
 
-// How many entries the list at word i has.
+// Counts the entries of the list at word i.
 pub fn count_at(w: &[u32], i: usize) -> usize
     requires { ⌜ Lies (now w) i ⌝ }
     ensures { λ r. ⌜ r ≡ length (listAt (now (w .entry)) i) ⌝ }
@@ -25,7 +25,7 @@ pub fn count_at(w: &[u32], i: usize) -> usize
     get(w, i + 1)
 }
 
-// Entry k of the list at word i.
+// Returns entry k of the list at word i.
 pub fn entry_at(w: &[u32], i: usize, k: usize) -> usize
     requires { ⌜ Lies (now w) i ⌝ }
     requires { ⌜ k < length (listAt (now w) i) ⌝ }
@@ -35,7 +35,7 @@ pub fn entry_at(w: &[u32], i: usize, k: usize) -> usize
     get(w, start + k)
 }
 
-// Where the list of element e's subs is said, of a rank that starts at `first`.
+// Returns the word that describes the list of element e's subs, where e's rank starts at `first`.
 pub fn subs_at(first: usize, e: usize) -> usize
     requires { ⌜ 4 * (first + e) + 2 < 2 ^ 64 ⌝ }
     ensures { λ r. ⌜ r ≡ 4 * (first + e) ⌝ }
@@ -43,7 +43,7 @@ pub fn subs_at(first: usize, e: usize) -> usize
     4 * (first + e)
 }
 
-// Where the list of its sups is.
+// Returns the word that describes the list of element e's sups.
 pub fn sups_at(first: usize, e: usize) -> usize
     requires { ⌜ 4 * (first + e) + 2 < 2 ^ 64 ⌝ }
     ensures { λ r. ⌜ r ≡ 4 * (first + e) + 2 ⌝ }
@@ -51,7 +51,7 @@ pub fn sups_at(first: usize, e: usize) -> usize
     4 * (first + e) + 2
 }
 
-// Does the list at word i hold x?
+// Tells whether the list at word i holds x.
 pub fn holds_at(w: &[u32], i: usize, x: usize) -> bool
     requires { ⌜ Lies (now w) i ⌝ }
     ensures { λ r. ⌜ r ≡ holds eqb x (listAt (now (w .entry)) i) ⌝ }
@@ -67,7 +67,7 @@ pub fn holds_at(w: &[u32], i: usize, x: usize) -> bool
     false
 }
 
-// How many subs element e of rank r has.
+// Counts the subs of element e of rank r.
 pub fn sub_count(w: &[u32], sh: Shape, r: usize, e: usize) -> usize
     requires { ⌜ Held sh (now w) ⌝ }
     requires { ⌜ (r ≤ sh .rank) × (e < sizeAt sh r) ⌝ }
@@ -77,7 +77,7 @@ pub fn sub_count(w: &[u32], sh: Shape, r: usize, e: usize) -> usize
     count_at(w, subs_at(first[r], e))
 }
 
-// Its sub k.
+// Returns sub k of element e of rank r.
 pub fn sub(w: &[u32], sh: Shape, r: usize, e: usize, k: usize) -> usize
     requires { ⌜ Held sh (now w) ⌝ }
     requires { ⌜ (r ≤ sh .rank) × (e < sizeAt sh r) × (k < length (subs (solidIn sh (now w)) r e)) ⌝ }
@@ -87,7 +87,7 @@ pub fn sub(w: &[u32], sh: Shape, r: usize, e: usize, k: usize) -> usize
     entry_at(w, subs_at(first[r], e), k)
 }
 
-// How many sups element e of rank r has.
+// Counts the sups of element e of rank r.
 pub fn sup_count(w: &[u32], sh: Shape, r: usize, e: usize) -> usize
     requires { ⌜ Held sh (now w) ⌝ }
     requires { ⌜ (r ≤ sh .rank) × (e < sizeAt sh r) ⌝ }
@@ -97,7 +97,7 @@ pub fn sup_count(w: &[u32], sh: Shape, r: usize, e: usize) -> usize
     count_at(w, sups_at(first[r], e))
 }
 
-// Its sup k.
+// Returns sup k of element e of rank r.
 pub fn sup(w: &[u32], sh: Shape, r: usize, e: usize, k: usize) -> usize
     requires { ⌜ Held sh (now w) ⌝ }
     requires { ⌜ (r ≤ sh .rank) × (e < sizeAt sh r) × (k < length (sups (solidIn sh (now w)) r e)) ⌝ }

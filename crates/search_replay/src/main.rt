@@ -51,7 +51,7 @@ fn half(a: u8, b: u8, c: u8, d: u8) -> u64
     wide(a) * 0x100_0000 + wide(b) * 0x1_0000 + wide(c) * 0x100 + wide(d)
 }
 
-// The next number of the input, or END.
+// Reads the next number of the input, or END.
 fn next() -> u64 {
     let mut b = [0u8; 8];
     let got = io::read_full(0, &mut b);
@@ -61,7 +61,7 @@ fn next() -> u64 {
     half(b[0], b[1], b[2], b[3]) * 0x1_0000_0000 + half(b[4], b[5], b[6], b[7])
 }
 
-// A digit below 16.
+// Writes a digit below 16.
 fn digit(n: u64) -> u8 {
     let d = n % 16;
     if d < 10 {
@@ -70,7 +70,7 @@ fn digit(n: u64) -> u8 {
     (87 + d) as u8
 }
 
-// Four hexadecimal digits.
+// Writes four hexadecimal digits.
 fn write_piece(n: u64) -> bool {
     let b = [
         digit(n / 0x1000),
@@ -88,7 +88,7 @@ fn write_pattern(n: u64) -> bool {
         && write_piece(n)
 }
 
-// Five decimal digits: no number here is larger.
+// Writes a number of at most five decimal digits: no number here is larger.
 fn write_number(n: u64) -> bool {
     let b = [
         digit(n / 10000 % 10),
@@ -100,7 +100,7 @@ fn write_number(n: u64) -> bool {
     io::write_all(1, &b)
 }
 
-// What stands after a number.
+// Writes what stands after a number: a blank, or a new line.
 fn write_gap(last: bool) -> bool {
     if last {
         return io::write_all(1, b"\n");
@@ -108,7 +108,7 @@ fn write_gap(last: bool) -> bool {
     io::write_all(1, b" ")
 }
 
-// Of each writing of an output: so many numbers to a line.
+// This function and the two after it write an output, with `line` numbers on each line.
 fn write_floats(s: &[f64], line: usize)
     requires { ⌜ 0 < line ⌝ }
 {
@@ -142,7 +142,7 @@ fn write_bytes(s: &[u8], line: usize)
     }
 }
 
-// How many of the cells come to one of the lines.
+// Returns how many of the cells go on each line.
 fn to_a_line(cells: usize, lines: usize) -> usize
     ensures { λ r. ⌜ 0 < r ⌝ }
 {
@@ -156,7 +156,7 @@ fn to_a_line(cells: usize, lines: usize) -> usize
     n
 }
 
-// The outputs themselves: a line for each member's matrix and row, where the marks are as many as the members, and one for the marks.
+// Writes the outputs themselves: a line for each member's matrix and row, where there are as many marks as members, and one line for the marks.
 fn write_outputs(matrices: &[f64], rows: &[u16], marks: &[u8]) -> bool {
     let n = marks.len();
     write_floats(matrices, to_a_line(matrices.len(), n));
@@ -165,7 +165,7 @@ fn write_outputs(matrices: &[f64], rows: &[u16], marks: &[u8]) -> bool {
     true
 }
 
-// Floats that no member has, another in each cell.
+// Fills cells with floats that no member has, a different one in each.
 fn fill_floats(out: &mut [f64]) {
     let mut i: usize = 0;
     while i < out.len() {
@@ -174,7 +174,7 @@ fn fill_floats(out: &mut [f64]) {
     }
 }
 
-// Numbers that no vertex has.
+// Fills cells with numbers that no vertex has.
 fn fill_cells(out: &mut [u16]) {
     let mut i: usize = 0;
     while i < out.len() {
@@ -183,7 +183,7 @@ fn fill_cells(out: &mut [u16]) {
     }
 }
 
-// Bytes that no mark is.
+// Fills cells with bytes that are no mark.
 fn fill_bytes(out: &mut [u8]) {
     let mut i: usize = 0;
     while i < out.len() {
@@ -192,7 +192,7 @@ fn fill_bytes(out: &mut [u8]) {
     }
 }
 
-// The digest after one more piece.
+// Returns the digest after one more piece.
 fn digest(state: u64, piece: u64) -> u64
     requires { ⌜ (state < 2 ^ 44) × (piece < 65536) ⌝ }
     ensures { λ r. ⌜ r < 2 ^ 44 ⌝ }
@@ -249,7 +249,7 @@ fn write_digests(matrices: &[f64], rows: &[u16], marks: &[u8]) -> bool {
         && write_gap(true)
 }
 
-// The refusal's number and the count.
+// Writes the refusal's number and the count.
 fn write_answer(answer: Answer, last: bool) -> bool {
     match answer {
         Answer::Done(n) => {
@@ -302,7 +302,7 @@ fn replay(
     write_digests(matrices, rows, marks)
 }
 
-// A length that the input asks for, of at most the limit given; or one above it.
+// Reads a length that the input asks for, of at most the limit given. A longer one gives a number above the limit.
 fn next_length(limit: usize) -> usize
     requires { ⌜ limit < 2 ^ 32 ⌝ }
 {
@@ -313,7 +313,7 @@ fn next_length(limit: usize) -> usize
     limit + 1
 }
 
-// One record; whether there may be more.
+// Replays one record, and tells whether there may be more.
 fn replay_one(
     sheet: &mut [u8],
     words: &mut [u32],

@@ -1,4 +1,4 @@
-// Section 2's sheet: its bits, and the judging of refusals 1 to 4 in one pass that uses no workspace.
+// Section 2's sheet: this crate reads its bits and judges refusals 1 to 4 in one pass, which uses no workspace.
 ghost use mathlib.Core.Path.{_≡_};
 ghost use Prim.Native.Nat.{ℕ, _+_, _-_, _*_, _/_, _^_, _≤_, _<_};
 ghost use lib.ListN.{length, getD, take};
@@ -17,7 +17,7 @@ use spec::MAX_ENTRIES;
 use spec::MAX_RANK;
 use spec::Refusal;
 
-// The proper ranks of the greatest R.
+// The greatest number of proper ranks that a solid can have.
 pub const PROPER: usize = MAX_RANK - 1;
 
 // What a sheet says beside its coordinates and lists: R, D, the counts of ranks 1 to R - 1 and zeros after them, the sum of the counts (E) and
@@ -47,20 +47,20 @@ enum Place {
     Refused(Refusal),
 }
 
-// The same of the counts, with the counts read and their sum, zeros where it is refused.
+// Where the reading of the counts ends, with the counts read and their sum; these are zeros where the sheet is refused.
 struct Counted {
     place: Place,
     counts: [usize; PROPER],
     elements: usize,
 }
 
-// The same of lists, with the number of entries.
+// Where the reading of lists ends, with the number of their entries.
 enum Listed {
     At(usize, usize),
     Refused(Refusal),
 }
 
-// Bit `at` of the sheet.
+// Returns bit `at` of the sheet.
 fn bit(sheet: &[u8], at: usize) -> u64
     requires { ⌜ at / 8 < length (now sheet) ⌝ }
     ensures { λ r. ⌜ r ≡ bits.bit (now (sheet .entry)) at ⌝ }
@@ -68,7 +68,7 @@ fn bit(sheet: &[u8], at: usize) -> u64
     ((sheet[at / 8] >> (7 - at % 8)) % 2) as u64
 }
 
-// Whether the `width` bits from bit `at` on are all there. A sheet's length in bits may not fit 64 bits, so bytes are compared.
+// Tells whether the `width` bits from bit `at` on are all there. A sheet's length in bits may not fit 64 bits, so bytes are compared.
 fn whole(sheet: &[u8], at: usize, width: usize) -> bool
     requires { ⌜ at + width + 7 < 2 ^ 64 ⌝ }
     ensures { λ r. ⌜ r ≡ leb (at + width) (8 * length (now (sheet .entry))) ⌝ }
@@ -76,7 +76,7 @@ fn whole(sheet: &[u8], at: usize, width: usize) -> bool
     (at + width + 7) / 8 <= sheet.len()
 }
 
-// The number that the `width` bits from bit `at` on are.
+// Returns the number that the `width` bits from bit `at` on stand for.
 pub fn field(sheet: &[u8], at: usize, width: usize) -> u64
     requires { ⌜ (width ≤ 64) × (at + width < 2 ^ 64) × (at + width ≤ 8 * length (now sheet)) ⌝ }
     ensures { λ r. ⌜ r ≡ bits.field (now (sheet .entry)) at width ⌝ }
@@ -90,15 +90,15 @@ pub fn field(sheet: &[u8], at: usize, width: usize) -> u64
     v
 }
 
-// Whether a pattern's value is finite and of magnitude at most 1,048,576. A NaN's pattern may not become a float, so the pattern is judged:
-// without its sign it is at most the greatest magnitude's.
+// Tells whether a pattern's value is finite and of magnitude at most 1,048,576. A NaN's pattern may not become a float, so the pattern itself is
+// judged: without its sign bit it is at most the pattern of the greatest magnitude.
 fn on_board(pattern: u64) -> bool
     ensures { λ r. ⌜ r ≡ inRange (ofBits binary64 pattern) ⌝ }
 {
     pattern % 0x8000_0000_0000_0000 <= 0x4130_0000_0000_0000
 }
 
-// What a refusal says of counts.
+// The result of reading counts where the sheet is refused.
 fn uncounted(why: Refusal) -> Counted
     ensures { λ r. ⌜ r ≡ countedOf (judged.refused why) ⌝ }
 {
@@ -109,7 +109,7 @@ fn uncounted(why: Refusal) -> Counted
     }
 }
 
-// The counts of `n` proper ranks, 12 bits each.
+// Reads the counts of `n` proper ranks, 12 bits each.
 fn counts(sheet: &[u8], start: usize, n: usize) -> Counted
     requires { ⌜ (start + 12 * n + 7 < 2 ^ 64) × (n ≤ proper) ⌝ }
     ensures { λ r. ⌜ r ≡ countedOf (form.times n (form.count (now (sheet .entry))) start) ⌝ }
@@ -141,7 +141,7 @@ fn counts(sheet: &[u8], start: usize, n: usize) -> Counted
     }
 }
 
-// `n` coordinates, 64 bits each.
+// Reads `n` coordinates, 64 bits each.
 fn coordinates(sheet: &[u8], start: usize, n: usize) -> Place
     requires { ⌜ start + 64 * n + 7 < 2 ^ 64 ⌝ }
     ensures { λ r. ⌜ r ≡ placeOf (form.times n (form.coordinate (now (sheet .entry))) start) ⌝ }
@@ -161,7 +161,7 @@ fn coordinates(sheet: &[u8], start: usize, n: usize) -> Place
     Place::At(at)
 }
 
-// `n` subs, 11 bits each: below `below`, and strictly rising.
+// Reads `n` subs, 11 bits each, which have to be below `below` and to rise strictly.
 fn subs(sheet: &[u8], start: usize, below: usize, n: usize) -> Place
     requires { ⌜ start + 11 * n + 7 < 2 ^ 64 ⌝ }
     ensures { λ r. ⌜ r ≡ placeOf (form.subList (now (sheet .entry)) below n 0 start) ⌝ }
@@ -187,7 +187,7 @@ fn subs(sheet: &[u8], start: usize, below: usize, n: usize) -> Place
     Place::At(at)
 }
 
-// One list, its length in 12 bits and its subs, after `used` entries of its rank.
+// Reads one list, its length in 12 bits and then its subs, where its rank has `used` entries before it.
 fn list(sheet: &[u8], at: usize, below: usize, used: usize) -> Listed
     requires { ⌜ (at < 2 ^ 32) × (used ≤ maxEntries) ⌝ }
     ensures { λ r. ⌜ r ≡ listedOf length used (form.list (now (sheet .entry)) below used at) ⌝ }
@@ -208,7 +208,7 @@ fn list(sheet: &[u8], at: usize, below: usize, used: usize) -> Listed
     }
 }
 
-// The lists of a rank's `n` elements.
+// Reads the lists of a rank's `n` elements.
 fn rank_lists(sheet: &[u8], start: usize, below: usize, n: usize) -> Listed
     requires { ⌜ (start < 2 ^ 31) × (n ≤ maxCount) ⌝ }
     ensures { λ r. ⌜ r ≡ listedOf rankEntries 0 (form.listsAt (now (sheet .entry)) below n 0 start) ⌝ }
@@ -231,7 +231,7 @@ fn rank_lists(sheet: &[u8], start: usize, below: usize, n: usize) -> Listed
     Listed::At(at, used)
 }
 
-// The lists of ranks 2 to n, by the counts of ranks 1 to n.
+// Reads the lists of ranks 2 to n, by the counts of ranks 1 to n.
 fn lists(sheet: &[u8], start: usize, counts: [usize; PROPER], n: usize) -> Listed
     requires { ⌜ (start < 2 ^ 30) × (n ≤ proper) × ((k : ℕ) → getD counts k 0 ≤ maxCount) ⌝ }
     ensures { λ r. ⌜ r ≡ listedOf allEntries 0 (form.lists (now (sheet .entry)) (take n counts) start) ⌝ }
@@ -256,7 +256,7 @@ fn lists(sheet: &[u8], start: usize, counts: [usize; PROPER], n: usize) -> Liste
     Listed::At(at, entries)
 }
 
-// Whether the sheet ends here: no byte follows, and the filling bits are 0.
+// Tells whether the sheet ends here: no byte follows, and the filling bits are 0.
 fn ends(sheet: &[u8], at: usize) -> bool
     requires { ⌜ at < 2 ^ 63 ⌝ }
     ensures { λ r. ⌜ r ≡ passes (form.end (now (sheet .entry)) at) ⌝ }
@@ -271,14 +271,14 @@ fn ends(sheet: &[u8], at: usize) -> bool
     field(sheet, at, end - at) == 0
 }
 
-// The number of proper ranks.
+// Returns the number of proper ranks.
 fn proper_ranks(rank: usize) -> usize
     ensures { λ r. ⌜ r ≡ rank - 1 ⌝ }
 {
     if rank == 0 { 0 } else { rank - 1 }
 }
 
-// V: rank 1's count, but 1 where R = 1 and 0 where R = 0.
+// Returns V, the number of vertices: rank 1's count, but 1 where R = 1 and 0 where R = 0.
 fn vertices(rank: usize, counts: [usize; PROPER]) -> usize
     ensures { λ r. ⌜ r ≡ form.vertexCount rank (take (rank - 1) counts) ⌝ }
 {
@@ -288,7 +288,7 @@ fn vertices(rank: usize, counts: [usize; PROPER]) -> usize
     counts[0]
 }
 
-// The coordinates, the lists of `n` proper ranks and the end.
+// Reads the coordinates and the lists of `n` proper ranks, and judges the end.
 fn body(
     sheet: &[u8],
     start: usize,
@@ -315,7 +315,7 @@ fn body(
     }
 }
 
-// What a refusal says.
+// The judgement where a sheet is refused.
 fn refused(why: Refusal) -> Judgement
     ensures { λ r. ⌜ r ≡ judgementOf (judged.refused why) ⌝ }
 {
@@ -331,7 +331,7 @@ fn refused(why: Refusal) -> Judgement
     }
 }
 
-// All that comes after R and D.
+// Judges all that comes after R and D.
 fn rest(sheet: &[u8], rank: usize, dimension: usize) -> Judgement
     requires { ⌜ (rank ≤ maxRank) × (dimension ≤ maxDimension) ⌝ }
     ensures { λ r. ⌜ r ≡ judgementAt (restAt (now (sheet .entry)) rank dimension 6) ⌝ }
@@ -361,7 +361,7 @@ fn rest(sheet: &[u8], rank: usize, dimension: usize) -> Judgement
     }
 }
 
-// A sheet of any bytes and any length: its verdict, and what it says. R and D come first, 3 bits each.
+// Judges a sheet of any bytes and any length, and returns its verdict and what it says. R and D come first, 3 bits each.
 pub fn judge(sheet: &[u8]) -> Judgement
     ensures { λ r. ⌜ r ≡ judgementOf (form.readSheet (now (sheet .entry))) ⌝ }
 {

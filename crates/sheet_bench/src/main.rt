@@ -39,7 +39,7 @@ fn repeat(sheet: &[u8], words: &mut [u32], floats: &mut [f64], times: u64) -> u6
     last
 }
 
-// One time is the last one, which is printed.
+// Returns how often the sheet is judged before the last time, whose result is printed.
 fn power(n: u8) -> u64 {
     match n {
         b'1' => 7,

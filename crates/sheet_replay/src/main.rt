@@ -3,7 +3,7 @@
 ghost use Prim.Native.Nat.{_<_, _^_};
 use sheet::Verdict;
 
-// The longest sheet, and the lent workspace.
+// The length of the longest sheet, and the sizes of the lent workspace.
 const BYTES: usize = 65536;
 
 const WORDS: usize = 65536;
@@ -16,7 +16,7 @@ fn wide(x: u8) -> usize
     x as usize
 }
 
-// The next sheet's length, or one that is too long at the end of the input.
+// Reads the next sheet's length; at the end of the input it is one that is too long.
 fn next_length() -> usize {
     let mut b = [0u8; 4];
     let got = io::read_full(0, &mut b);
@@ -41,7 +41,7 @@ fn judge_one(sheet: &mut [u8], words: &mut [u32], floats: &mut [f64]) -> bool {
     io::print_decimal(1, number(verdict)) && io::write_all(1, &[b'\n'])
 }
 
-// One sheet; whether there may be more.
+// Replays one sheet, and tells whether there may be more.
 fn replay_one(bytes: &mut [u8], words: &mut [u32], floats: &mut [f64]) -> bool {
     let n = next_length();
     if n <= bytes.len() {

@@ -1,4 +1,4 @@
-// The members of a solid, one flag after another.
+// Listing the members of a solid, one flag after another.
 ghost use mathlib.Core.Path.{_≡_};
 ghost use mathlib.Core.Bool.{true};
 ghost use Prim.Native.Nat.{_≤_};
@@ -63,7 +63,7 @@ fn vertex_count(sh: Shape) -> usize
     sh.first[2] - sh.first[1]
 }
 
-// A member of d * d floats and v row entries fits, with `left` marks left.
+// Tells whether a member of d * d floats and v row entries fits, where `left` marks are left.
 fn has_room(d: usize, v: usize, floats: usize, entries: usize, left: usize) -> bool
     requires { ⌜ d ≤ maxDimension ⌝ }
     ensures { λ r. ⌜ r ≡ fits d v floats entries left ⌝ }

@@ -1,4 +1,4 @@
-// A member's cells, written to the front of the part of each output that lies after the finished members.
+// Writing a member's cells to the front of the part of each output that lies after the finished members.
 ghost use mathlib.Core.Path.{_≡_};
 ghost use Prim.Native.Nat.{_*_, _≤_};
 ghost use lib.ListN.{length, take};
@@ -9,7 +9,7 @@ ghost use Rattle.float.specs.Reading.{corner};
 use float::DIMENSION;
 use float::points;
 
-// The d by d matrix, row by row.
+// Writes the d by d matrix, row by row.
 pub fn put_matrix(m: [[f64; DIMENSION]; DIMENSION], d: usize, out: &mut [f64])
     requires { ⌜ (d ≤ maxDimension) × (d * d ≤ length (now out)) ⌝ }
     ensures { λ _. ⌜ now (out .exit) ≡ written (join (corner d m)) (now (out .entry)) ⌝ }
@@ -21,7 +21,7 @@ pub fn put_matrix(m: [[f64; DIMENSION]; DIMENSION], d: usize, out: &mut [f64])
     }
 }
 
-// The first n entries of the row.
+// Writes the first n entries of the row.
 pub fn put_entries(row: &[u16], n: usize, out: &mut [u16])
     requires { ⌜ (n ≤ length (now row)) × (n ≤ length (now out)) ⌝ }
     ensures { λ _. ⌜ now (out .exit) ≡ written (take n (now (row .entry))) (now (out .entry)) ⌝ }

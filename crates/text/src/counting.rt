@@ -1,4 +1,4 @@
-// What the line of members counts.
+// Counting what the line of members says.
 ghost use mathlib.Core.Path.{_≡_};
 ghost use Prim.Native.Nat.{_*_, _≤_, _<_, _^_};
 ghost use lib.ListN.{length, take};
@@ -18,7 +18,7 @@ fn wide(x: u8) -> usize
     x as usize
 }
 
-// How many of the first n members are marked: a mark is 1 or 0.
+// Counts the confirmed ones among the first n members: a mark is 1 or 0.
 pub fn confirmed(marks: &[u8], n: usize) -> usize
     requires { ⌜ (n ≤ length (now marks)) × (255 * n < 2 ^ 64) ⌝ }
     ensures { λ r. ⌜ r ≡ sum (take n (now (marks .entry))) ⌝ }
@@ -32,7 +32,7 @@ pub fn confirmed(marks: &[u8], n: usize) -> usize
     held
 }
 
-// 1 for a matrix "of determinant above 0", and else 0.
+// Returns 1 for a matrix "of determinant above 0", and otherwise 0.
 fn rotation(m: [[f64; DIMENSION]; DIMENSION], d: usize) -> usize
     requires { ⌜ d ≤ maxDimension ⌝ }
     ensures { λ r. ⌜ r ≡ rotationCount (corner d m ∷ []) ⌝ }
@@ -43,7 +43,7 @@ fn rotation(m: [[f64; DIMENSION]; DIMENSION], d: usize) -> usize
     0
 }
 
-// How many of the n matrices, row by row, are rotations.
+// Counts the rotations among the n matrices, which stand row by row.
 pub fn rotations(matrices: &[f64], d: usize, n: usize) -> usize
     requires { ⌜ (d ≤ maxDimension) × (n * (d * d) ≤ length (now matrices)) ⌝ }
     ensures { λ r. ⌜ r ≡ rotationCount (map (parts d d) (parts n (d * d) (now (matrices .entry)))) ⌝ }

@@ -1,4 +1,4 @@
-// The lines.
+// The lines that `kit` prints.
 ghost use mathlib.Core.Path.{_≡_};
 ghost use Prim.Native.Nat.{_+_, _*_, _≤_, _<_};
 ghost use lib.ListN.{length, getD, take};
@@ -11,7 +11,7 @@ use crate::writing::put_decimal;
 use crate::writing::put_labelled;
 use spec::Refusal;
 
-// "A refusal prints `refused` and its number".
+// Writes a refusal's line: "A refusal prints `refused` and its number".
 pub fn refused(out: &mut [u8], at: usize, why: Refusal) -> usize
     requires { ⌜ at + length (refusedLine why) ≤ length (now out) ⌝ }
     ensures { λ r. ⌜ Puts at (refusedLine why) (now (out .entry)) (now (out .exit)) r ⌝ }
@@ -21,7 +21,7 @@ pub fn refused(out: &mut [u8], at: usize, why: Refusal) -> usize
     put_bytes(out, end, b"\n")
 }
 
-// "rank, type, example, count".
+// Writes a type's line: "rank, type, example, count".
 pub fn element_type(
     out: &mut [u8],
     at: usize,
@@ -40,14 +40,14 @@ pub fn element_type(
     put_bytes(out, fourth, b"\n")
 }
 
-// A cell as a number.
+// Widens a cell to a number.
 fn wide(x: u16) -> usize
     ensures { λ r. ⌜ r ≡ x ⌝ }
 {
     x as usize
 }
 
-// A cell of a table.
+// Returns a cell of a table.
 fn cell(table: &[u16], p: usize) -> usize
     requires { ⌜ p < length (now table) ⌝ }
     ensures { λ r. ⌜ r ≡ getD (now (table .entry)) p 0 ⌝ }
@@ -55,7 +55,7 @@ fn cell(table: &[u16], p: usize) -> usize
     wide(table[p])
 }
 
-// The lines of the first n types of a table.
+// Writes the lines of the first n types of a table.
 fn type_lines(out: &mut [u8], at: usize, table: &[u16], n: usize) -> usize
     requires { ⌜ (4 * n ≤ length (now table)) × (at + length (linesTo (now table) n) ≤ length (now out)) ⌝ }
     ensures { λ r. ⌜ Puts at (linesTo (now (table .entry)) n) (now (out .entry)) (now (out .exit)) r ⌝ }
@@ -74,7 +74,7 @@ fn type_lines(out: &mut [u8], at: usize, table: &[u16], n: usize) -> usize
     end
 }
 
-// "The first line counts types": then a line for each of the n types whose cells the table begins with.
+// Writes all lines of the types. "The first line counts types", and then comes a line for each of the n types whose cells the table begins with.
 pub fn element_types(out: &mut [u8], at: usize, table: &[u16], n: usize) -> usize
     requires { ⌜ (4 * n ≤ length (now table)) × (at + length (typesLines (typesFrom (take (4 * n) (now table)))) ≤ length (now out)) ⌝ }
     ensures { λ r. ⌜ Puts at (typesLines (typesFrom (take (4 * n) (now (table .entry))))) (now (out .entry)) (now (out .exit)) r ⌝ }
@@ -84,7 +84,7 @@ pub fn element_types(out: &mut [u8], at: usize, table: &[u16], n: usize) -> usiz
     type_lines(out, second, table, n)
 }
 
-// "the members, those marked 1, and those of determinant above 0".
+// Writes the last line, which counts "the members, those marked 1, and those of determinant above 0".
 pub fn members(out: &mut [u8], at: usize, n: usize, confirmed: usize, rotations: usize) -> usize
     requires { ⌜ at + length (membersText n confirmed rotations) ≤ length (now out) ⌝ }
     ensures { λ r. ⌜ Puts at (membersText n confirmed rotations) (now (out .entry)) (now (out .exit)) r ⌝ }

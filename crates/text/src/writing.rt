@@ -18,7 +18,7 @@ pub fn put_bytes(out: &mut [u8], at: usize, s: &[u8]) -> usize
     at + i
 }
 
-// The character of a digit.
+// Returns the character of a digit.
 fn digit(n: usize) -> u8
     requires { ⌜ n < 10 ⌝ }
     ensures { λ r. ⌜ r ≡ 48 + n ⌝ }
@@ -26,7 +26,7 @@ fn digit(n: usize) -> u8
     b'0' + n as u8
 }
 
-// The digits in order: those of a tenth first.
+// Writes a number's digits in order: those of its tenth part come first.
 pub fn put_decimal(out: &mut [u8], at: usize, n: usize) -> usize
     requires { ⌜ at + length (decimal n) ≤ length (now out) ⌝ }
     ensures { λ r. ⌜ Puts at (decimal n) (now (out .entry)) (now (out .exit)) r ⌝ }
@@ -40,7 +40,7 @@ pub fn put_decimal(out: &mut [u8], at: usize, n: usize) -> usize
     end + 1
 }
 
-// A number behind its label.
+// Writes a number behind its label.
 pub fn put_labelled(out: &mut [u8], at: usize, label: &[u8], n: usize) -> usize
     requires { ⌜ at + length (now label ++ decimal n) ≤ length (now out) ⌝ }
     ensures { λ r. ⌜ Puts at (now (label .entry) ++ decimal n) (now (out .entry)) (now (out .exit)) r ⌝ }

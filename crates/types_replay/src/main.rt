@@ -5,7 +5,7 @@
 ghost use Prim.Native.Nat.{_<_, _^_};
 use spec::Answer;
 
-// The most that a record may ask for.
+// The largest lengths that a record may ask for.
 const BYTES: usize = 8192;
 
 const WORDS: usize = 65536;
@@ -22,7 +22,7 @@ fn wide(x: u8) -> usize
     x as usize
 }
 
-// A length of at most the limit given; or one above it, at the end of the input too.
+// Reads a length of at most the limit given. A longer one, or the end of the input, gives a number above the limit.
 fn next_length(limit: usize) -> usize
     requires { ⌜ limit < 2 ^ 32 ⌝ }
 {
@@ -38,7 +38,7 @@ fn next_length(limit: usize) -> usize
     limit + 1
 }
 
-// Numbers that no type has.
+// Fills cells with numbers that no type has.
 fn fill_cells(out: &mut [u16]) {
     let mut i: usize = 0;
     while i < out.len() {
@@ -66,7 +66,7 @@ fn write_answer(number: u64, count: usize) -> bool {
     io::print_decimal(1, number) && write_number(count as u64) && io::write_all(1, &[b'\n'])
 }
 
-// Reads a sheet that just fills its slice, and has its types.
+// Reads a sheet that just fills its slice, and runs the types call on it.
 fn replay(
     sheet: &mut [u8],
     words: &mut [u32],
@@ -85,7 +85,7 @@ fn replay(
     told && write_cells(of) && write_cells(table)
 }
 
-// One record; whether there may be more.
+// Replays one record, and tells whether there may be more.
 fn replay_one(
     bytes: &mut [u8],
     words: &mut [u32],

@@ -1,4 +1,4 @@
-// "no two elements of a rank have one vertex set".
+// The first clause of the mark: "no two elements of a rank have one vertex set".
 use crate::finding::is_found;
 use crate::printing::print_of;
 use ranked::Shape;
@@ -12,7 +12,7 @@ ghost use Rattle.spec.specs.Mark.{noRepeats, vertices, vertexSets, setsApart};
 ghost use Rattle.ranked.specs.Words.{solidIn};
 ghost use Rattle.vertex_sets.specs.Prints.{Element, Ready};
 
-// Has a later element of rank r the vertices of element e?
+// Tells whether a later element of rank r has the same vertices as element e.
 fn is_repeated(words: &[u32], low: usize, sh: Shape, at: usize, r: usize, e: usize) -> bool
     requires { ⌜ Ready sh low (now words) at ⌝ }
     requires { ⌜ Element sh r e ⌝ }
@@ -24,7 +24,7 @@ fn is_repeated(words: &[u32], low: usize, sh: Shape, at: usize, r: usize, e: usi
     is_found(words, low, sh, at, r, e + 1, &list, n, p)
 }
 
-// Have all elements of rank r different vertices?
+// Tells whether no two elements of rank r have the same vertices.
 fn rank_apart(words: &[u32], low: usize, sh: Shape, at: usize, r: usize) -> bool
     requires { ⌜ Ready sh low (now words) at ⌝ }
     requires { ⌜ (1 ≤ r) × (r < sh .rank) ⌝ }
@@ -41,7 +41,7 @@ fn rank_apart(words: &[u32], low: usize, sh: Shape, at: usize, r: usize) -> bool
     true
 }
 
-// And so at each proper rank?
+// Tells whether, at each proper rank, no two elements have the same vertices.
 pub fn are_apart(words: &[u32], low: usize, sh: Shape, at: usize) -> bool
     requires { ⌜ Ready sh low (now words) at ⌝ }
     ensures { λ b. ⌜ b ≡ setsApart (solidIn sh (take low (now (words .entry)))) ⌝ }

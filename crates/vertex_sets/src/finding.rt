@@ -1,4 +1,4 @@
-// Is a list of vertices the vertex set of some element of a rank?
+// Finding out whether a list of vertices is the vertex set of some element of a rank.
 use crate::printing::print_of;
 use ranked::Shape;
 use ranked::lists::get;
@@ -12,7 +12,7 @@ ghost use Rattle.spec.specs.Mark.{vertices, vertexSets};
 ghost use Rattle.ranked.specs.Words.{sizeAt, solidIn, Held};
 ghost use Rattle.vertex_sets.specs.Prints.{printOf, Element, Ready};
 
-// Are the first n entries of two lists the same?
+// Tells whether the first n entries of two lists are the same.
 fn same_list(a: &[u16], b: &[u16], n: usize) -> bool
     requires { ⌜ (n ≤ length (now a)) × (n ≤ length (now b)) ⌝ }
     ensures { λ r. ⌜ r ≡ eqList (take n (now (a .entry))) (take n (now (b .entry))) ⌝ }
@@ -27,7 +27,7 @@ fn same_list(a: &[u16], b: &[u16], n: usize) -> bool
     true
 }
 
-// Are the vertices of element e of rank r the first n entries of the list?
+// Tells whether the vertices of element e of rank r are the first n entries of the list.
 fn same_vertices(w: &[u32], sh: Shape, r: usize, e: usize, list: &[u16], n: usize) -> bool
     requires { ⌜ Held sh (now w) ⌝ }
     requires { ⌜ Element sh r e ⌝ }
@@ -42,7 +42,7 @@ fn same_vertices(w: &[u32], sh: Shape, r: usize, e: usize, list: &[u16], n: usiz
     same_list(&own, list, n)
 }
 
-// Has some element of rank r, from number `from` on, the first n entries of the list for its vertices? p is their print: an
+// Tells whether some element of rank r, from number `from` on, has the first n entries of the list for its vertices. Here p is their print: an
 // element's vertices are listed only where the prints agree.
 pub fn is_found(
     words: &[u32],
@@ -75,7 +75,7 @@ pub fn is_found(
     false
 }
 
-// Are the first n entries of the list the vertex set of some element of rank r? None has more than 2,048 vertices.
+// Tells whether the first n entries of the list are the vertex set of some element of rank r. No element has more than 2,048 vertices.
 pub fn is_vertex_set(
     words: &[u32],
     low: usize,

@@ -1,4 +1,5 @@
-// Section 6's vertex sets: is a list of vertices some element's, have two elements one set, and do the types' examples go to elements.
+// Section 6's vertex sets: whether a list of vertices is some element's, whether two elements have the same set, and whether the types' examples go
+// to elements.
 
 pub mod apart;
 pub mod examples;

@@ -1,4 +1,5 @@
-// Prints: the sum of the squares of an element's vertices, kept in lent words. Vertex sets with different prints differ.
+// The print of an element is the sum of the squares of its vertices' numbers; prints are kept in lent words. Vertex sets with different prints
+// differ, so most sets are told apart without being listed.
 use ranked::Shape;
 use ranked::vertices::vertex_list;
 use spec::MAX_COUNT;
@@ -10,7 +11,7 @@ ghost use Rattle.spec.specs.Mark.{vertices};
 ghost use Rattle.ranked.specs.Words.{firstAt, sizeAt, total, solidIn, Held};
 ghost use Rattle.vertex_sets.specs.Prints.{printOf, Printed, Element};
 
-// The print of the first n entries.
+// Returns the print of the first n entries.
 pub fn print_of(list: &[u16], n: usize) -> usize
     requires { ⌜ (n ≤ length (now list)) × (n ≤ maxCount) ⌝ }
     ensures { λ p. ⌜ p ≡ printOf (take n (now (list .entry))) ⌝ }
@@ -25,7 +26,7 @@ pub fn print_of(list: &[u16], n: usize) -> usize
     p
 }
 
-// The print of element e of rank r.
+// Returns the print of element e of rank r.
 fn print_element(w: &[u32], sh: Shape, r: usize, e: usize) -> u32
     requires { ⌜ Held sh (now w) ⌝ }
     requires { ⌜ Element sh r e ⌝ }
