@@ -12,7 +12,7 @@ use Rattle.spec.proofs.Distinct.{Test, Once, Split, split, without-yes,
 
 -- ---- the tests
 
-T→true : (b : Bool) → T b → b ≡ true
+pub T→true : (b : Bool) → T b → b ≡ true
 T→true true t = refl
 
 true→T : (b : Bool) → b ≡ true → T b

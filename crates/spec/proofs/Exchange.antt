@@ -25,7 +25,7 @@ use Rattle.spec.proofs.FlagChange.{diamond-at}
 
 -- ---- lists
 
-in-every : {A : Type 0} (p : A → Bool) (l : List A) → ((x : A) → In x l → p x ≡ true) → every p l ≡ true
+pub in-every : {A : Type 0} (p : A → Bool) (l : List A) → ((x : A) → In x l → p x ≡ true) → every p l ≡ true
 unfolding every
 in-every p [] f = refl
 in-every p (x ∷ l) f = rw (f x (inl refl), every) (in-every p l (λ y m. f y (inr m)))

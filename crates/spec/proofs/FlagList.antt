@@ -126,12 +126,12 @@ before-more F G t n hF hG b = record {
 
 module _ (s : Solid) where
   -- F is a chain of ranks 0 to r, and e its element of rank r
-  record To (r e : ℕ) (F : Flag) : Type 0 where
-    long : length F ≡ suc r
-    end : elementAt F r ≡ e
-    chain : (q : ℕ) → q < r → In (elementAt F q) (subs s (suc q) (elementAt F (suc q)))
+  pub record To (r e : ℕ) (F : Flag) : Type 0 where
+    pub long : length F ≡ suc r
+    pub end : elementAt F r ≡ e
+    pub chain : (q : ℕ) → q < r → In (elementAt F q) (subs s (suc q) (elementAt F (suc q)))
 
-  more : (r f e : ℕ) (G : Flag) → To r f G → In f (subs s (suc r) e) → To (suc r) e (G ++ (e ∷ []))
+  pub more : (r f e : ℕ) (G : Flag) → To r f G → In f (subs s (suc r) e) → To (suc r) e (G ++ (e ∷ []))
   more r f e G w m = record {
     long = rw length-append (omega (arith, w .long));
     end = last;

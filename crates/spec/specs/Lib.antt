@@ -30,3 +30,4 @@ pub mod FlagLaws
 pub mod TypeLaws
 pub mod Demand3Calls
 pub mod Pack
+pub mod Polytope

@@ -1,0 +1,163 @@
+-- Solids in the terms of McMullen and Schulte (Abstract Regular Polytopes, section 2A), who decide what flags and the diamond are: the order of a solid's
+-- elements, its maximal chains, and the two elements between any two whose ranks differ by two. Each is said here as the book says it, and
+-- the theorems below tie it to the list or to the test that the calls go by.
+-- The book counts ranks from -1, the least element's; here they count from 0. Its property P3, that a polytope is strongly connected, is not asked by 01,
+-- so compounds pass and no statement here speaks of it.
+-- Assumes nothing.
+use mathlib.Core.Path.{_≡_}
+use mathlib.Core.Logic.{_≢_, _⊎_, _↔_}
+use Prim.Native.Nat.{ℕ, suc, _-_, _≤_, _<_}
+use mathlib.Core.Bool.{true}
+use mathlib.Core.List.{List, [], _∷_, map}
+use lib.ListN.{length}
+use Rattle.spec.specs.Lists.{In, range}
+use Rattle.spec.specs.Types.{Solid, top, size, subs}
+use Rattle.spec.specs.Demand.{Sound}
+use Rattle.spec.specs.Judged.{passed}
+use Rattle.spec.specs.Solid.{Concrete, bound, diamond, preflight}
+use Rattle.spec.specs.Flags.{Flag, elementAt, flags, IsFlag}
+use Rattle.spec.specs.Search.{exchangedIn}
+
+-- ---- the order
+
+-- an element, which the book calls a face, by its rank and its number in that rank
+pub record Element : Type 0 where
+  pub rank : ℕ
+  pub number : ℕ
+
+abbrev pub element : ℕ → ℕ → Element
+element r e = record { rank = r; number = e }
+
+-- F is an element of the solid s
+abbrev pub IsElement : Solid → Element → Type 0
+IsElement s F = (F .rank ≤ top s) × (F .number < size s (F .rank))
+
+-- F is a sub of G
+abbrev pub IsSub : Solid → Element → Element → Type 0
+IsSub s F G = (G .rank ≡ suc (F .rank)) × In (F .number) (subs s (G .rank) (G .number))
+
+-- F ≤ G: the reflexive and transitive closure of "is a sub of"
+pub data AtMost (s : Solid) (F : Element) : Element → Type 0 where
+  itself : AtMost s F F
+  over : {G H : Element} → AtMost s F G → IsSub s G H → AtMost s F H
+
+-- F < G
+abbrev pub Below : Solid → Element → Element → Type 0
+Below s F G = AtMost s F G × (F ≢ G)
+
+-- F ≤ G or G ≤ F
+abbrev pub Comparable : Solid → Element → Element → Type 0
+Comparable s F G = AtMost s F G ⊎ AtMost s G F
+
+abbrev pub leastElement : Element
+leastElement = element 0 0
+
+abbrev pub topElement : Solid → Element
+topElement s = element (top s) 0
+
+-- "a partially ordered set", with a rank function; and P1: it has a least and a greatest element
+pub record Ordered (s : Solid) : Type 0 where
+  pub reflexive : (F : Element) → AtMost s F F
+  pub transitive : (F G H : Element) → AtMost s F G → AtMost s G H → AtMost s F H
+  pub antisymmetric : (F G : Element) → AtMost s F G → AtMost s G F → F ≡ G
+  -- ranks rise strictly along the order
+  pub ranks : (F G : Element) → Below s F G → F .rank < G .rank
+  -- whatever is at most an element of s is an element of s
+  pub closed : (F G : Element) → IsElement s G → AtMost s F G → IsElement s F
+  pub least : IsElement s leastElement × ((F : Element) → IsElement s F → AtMost s leastElement F)
+  pub greatest : IsElement s (topElement s) × ((F : Element) → IsElement s F → AtMost s F (topElement s))
+
+-- ---- chains
+
+-- "a chain": a set of elements of which any two are comparable. A list stands for the set of its members, so neither their order nor repeats matter
+pub record IsChain (s : Solid) (C : List Element) : Type 0 where
+  pub elements : (F : Element) → In F C → IsElement s F
+  pub comparable : (F G : Element) → In F C → In G C → Comparable s F G
+
+-- every member of C is a member of D
+abbrev pub Within : List Element → List Element → Type 0
+Within C D = (F : Element) → In F C → In F D
+
+-- "a maximal chain": one that is contained in no larger chain
+pub record IsMaximal (s : Solid) (C : List Element) : Type 0 where
+  pub chain : IsChain s C
+  pub largest : (D : List Element) → IsChain s D → Within C D → Within D C
+
+-- C and D are one set
+abbrev pub SameSet : List Element → List Element → Type 0
+SameSet C D = Within C D × Within D C
+
+-- no element stands twice in C
+abbrev pub NoneTwice : List Element → Type 0
+NoneTwice [] = Unit {0}
+NoneTwice (F ∷ C) = (¬ In F C) × NoneTwice C
+
+-- the elements of a flag, one of each rank that it has
+unfoldable pub elementsOf : Flag → List Element
+elementsOf F = map (λ r. element r (elementAt F r)) (range 0 (length F))
+
+-- "flags" are the maximal chains
+pub record MaximalChains (s : Solid) : Type 0 where
+  -- a chain is maximal exactly when every element that is comparable with all of its members is a member
+  pub saturated : (C : List Element) → IsMaximal s C
+      ↔ (IsChain s C × ((F : Element) → IsElement s F → ((G : Element) → In G C → Comparable s F G) → In F C))
+  -- a list of one element for each rank is a flag exactly when its elements are a maximal chain
+  pub flag : (F : Flag) → IsFlag s F ↔ IsMaximal s (elementsOf F)
+  -- the maximal chains are exactly the sets of elements of the listed flags
+  pub listed : (C : List Element) → IsMaximal s C ↔ ((F : Flag) × In F (flags s) × SameSet C (elementsOf F))
+  -- P2: every maximal chain has as many elements as there are ranks, exactly one of each
+  pub one-each : (C : List Element) → IsMaximal s C → (r : ℕ) → r ≤ top s → (e : ℕ) × In (element r e) C × ((f : ℕ) → In (element r f) C → f ≡ e)
+  pub as-many : (C : List Element) → IsMaximal s C → NoneTwice C → length C ≡ suc (top s)
+
+-- ---- the diamond
+
+-- exactly two elements have the property P
+pub record ExactlyTwo (P : Element → Type 0) : Type 0 where
+  pub first : Element
+  pub second : Element
+  pub differ : first ≢ second
+  pub first-has : P first
+  pub second-has : P second
+  pub no-other : (H : Element) → P H → (H ≡ first) ⊎ (H ≡ second)
+
+-- F < H < G
+abbrev pub Between : Solid → Element → Element → Element → Type 0
+Between s F G H = Below s F H × Below s H G
+
+-- P4: if F < G and their ranks differ by two, there are exactly two elements H with F < H < G
+abbrev pub Diamonds : Solid → Type 0
+Diamonds s = (F G : Element) → IsElement s F → IsElement s G → Below s F G → G .rank ≡ suc (suc (F .rank)) → ExactlyTwo (Between s F G)
+
+-- ---- theorems
+
+-- every element but the least has a sub
+abbrev pub Filled : Solid → Type 0
+Filled s = (r e : ℕ) → e < size s (suc r) → 0 < length (subs s (suc r) e)
+
+abbrev pub EveryOrder : Type 0
+EveryOrder = (s : Solid) → Sound s → Filled s → bound s ≡ true → Ordered s
+
+-- the test behind refusal 5 asks for exactly what the order lacks: that every element is at most the top
+abbrev pub EveryBound : Type 0
+EveryBound = (s : Solid) → Sound s → Filled s → (bound s ≡ true) ↔ ((F : Element) → IsElement s F → AtMost s F (topElement s))
+
+abbrev pub EveryMaximalChain : Type 0
+EveryMaximalChain = (s : Solid) → Sound s → Filled s → bound s ≡ true → MaximalChains s
+
+-- the test behind refusal 6 is P4
+abbrev pub EveryDiamond : Type 0
+EveryDiamond = (s : Solid) → Sound s → (diamond s ≡ true) ↔ Diamonds s
+
+-- the book's properties of a polytope, less P3
+pub record Polytope (s : Solid) : Type 0 where
+  pub order : Ordered s
+  pub chains : MaximalChains s
+  pub diamonds : Diamonds s
+
+-- of the solid as read, and of the one that search walks, where facet f has changed places with facet 0
+pub record Polytopes (c : Concrete) : Type 0 where
+  pub read : Polytope (c .abs)
+  pub searched : 2 ≤ top (c .abs) → (f : ℕ) → f < size (c .abs) (top (c .abs) - 1) → Polytope (exchangedIn (c .abs) f)
+
+abbrev pub EveryPolytope : Type 0
+EveryPolytope = (b : List ℕ) (words floats : ℕ) (c : Concrete) → preflight b words floats ≡ passed c → Polytopes c
