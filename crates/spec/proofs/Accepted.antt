@@ -1,10 +1,9 @@
 -- Every sheet that passes gives a solid that section 2 allows: `Sound`, of the rank that the sheet says, within the limits.
 -- Assumes nothing.
 use mathlib.Core.Path.{_≡_, refl, sym, _∙_, ap, subst}
-use mathlib.Core.Logic.{_⊎_, inl, inr, _≢_}
+use mathlib.Core.Logic.{_⊎_, inl, inr}
 use Prim.Native.Nat.{ℕ, zero, suc, _+_, _-_, _≤_, _<_}
 use mathlib.Core.Bool.{Bool, true, false, _&&_}
-use mathlib.Core.Option.{none}
 use mathlib.Core.List.{List, [], _∷_, _++_}
 use native.Mathlib.Omega.{arith}
 use lib.ListN.{length, getD, replicate, length-append, length-replicate, List·getD-append}
@@ -22,12 +21,10 @@ use Rattle.spec.specs.Judged as Judging
 use Rattle.spec.specs.Judged.{Judged, refused, passed}
 use Rattle.spec.specs.Sheet.{Parsed, Reader, _>>=_, _>>_, done, judge, times, bits, rank, dimension, count, coordinate, subList, list, listsAt, lists, end, sheet, readSheet, vertexCount}
 use Rattle.spec.specs.Solid.{Concrete, properLists, withTop, solidOf, roomy, bound, diamond, preflight}
-use Rattle.spec.specs.Classes.{classTable, byTable, typesOf}
 use Rattle.spec.proofs.Lists.{length-range, in-getD}
 use Rattle.spec.proofs.FlagList.{in-either}
 use Rattle.spec.proofs.Marked.{both, lt-test}
 use Rattle.spec.proofs.Soundness.{point-sound}
-use Rattle.spec.proofs.Settled.{settled}
 use Rattle.spec.specs.Passed.{EveryPassed}
 
 -- ---- what a passed reading passed through
@@ -500,10 +497,6 @@ module _ (b : List ℕ) (p : Parsed) (e : readSheet b ≡ passed p) where
   pub read-filled : (r f : ℕ) → f < size (solidOf p) (suc r) → 0 < length (subs (solidOf p) (suc r) f)
   read-filled = filled-of p (whole-sheet b p e)
 
-never-unsettled : (c : Concrete) → typesOf c ≢ none
-unfolding typesOf
-never-unsettled c = settled (c .abs) (byTable (classTable c))
-
 -- the solid of what was read
 abbrev read-solid : Parsed → Concrete
 read-solid p = record { dimension = p .dimension; points = p .points; abs = solidOf p }
@@ -563,5 +556,4 @@ every-passed b words floats c e =
       points = subst (λ (x : Concrete). length (x .points) ≡ size (x .abs) 1) q (points-of p w);
       joined = t .joined;
       diamonds = t .diamonds;
-      settled = never-unsettled c;
     }

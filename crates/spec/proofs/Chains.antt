@@ -8,14 +8,14 @@ use mathlib.Core.List.{List, [], _∷_, _++_, map}
 use native.Mathlib.Nat.{le-antisymm}
 use native.Mathlib.Omega.{arith}
 use native.Mathlib.Decide.{ℕ-discrete, decLt}
-use lib.ListN.{length, getD, length-map, List·getD-append}
+use lib.ListN.{length, length-map, List·getD-append}
 use lib.Dec.{eqb}
 use Rattle.spec.specs.Lists.{In, range}
-use Rattle.spec.specs.Types.{Solid, top, size, subs}
+use Rattle.spec.specs.Types.{Solid, top, subs}
 use Rattle.spec.specs.Demand.{Sound}
 use Rattle.spec.specs.Solid.{bound}
-use Rattle.spec.specs.Flags.{Flag, elementAt, flags, IsFlag}
-use Rattle.spec.specs.Polytope.{Element, element, IsElement, IsSub, AtMost, itself, over, Comparable, leastElement, topElement, IsChain, Within, IsMaximal, SameSet, NoneTwice, elementsOf, Filled, EveryMaximalChain}
+use Rattle.spec.specs.Flags.{Flag, elementAt, IsFlag}
+use Rattle.spec.specs.Polytope.{Element, element, IsElement, IsSub, AtMost, itself, over, Comparable, leastElement, topElement, IsChain, IsMaximal, SameSet, NoneTwice, elementsOf, Filled, EveryMaximalChain}
 use Rattle.spec.proofs.Distinct.{Once, pigeons}
 use Rattle.spec.proofs.Lists.{map-in, in-map, once-map, in-range, of-range, once-range, length-range}
 use Rattle.spec.proofs.Counts.{numbers}

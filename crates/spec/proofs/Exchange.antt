@@ -315,4 +315,5 @@ every-exchange s v d full tall f low = record {
   rank = top-same s tall f low;
   sizes = size-same s tall f low;
   filled = filled-t s tall f low v d full;
+  joined = bound-same s tall f low;
 }

@@ -1,7 +1,7 @@
 -- The order that subs generate: its laws, its least and its greatest element, and the test behind refusal 5.
 -- Assumes nothing.
-use mathlib.Core.Path.{_≡_, refl, sym, _∙_, ap, subst}
-use mathlib.Core.Logic.{_≢_, _⊎_, _↔_, inl, inr}
+use mathlib.Core.Path.{_≡_, refl, sym, ap, subst}
+use mathlib.Core.Logic.{_≢_, inl, inr}
 use Prim.Native.Nat.{ℕ, zero, suc, _+_, _-_, _≤_, _<_}
 use mathlib.Core.Bool.{true}
 use mathlib.Core.List.{List, [], _∷_}
@@ -13,7 +13,7 @@ use Rattle.spec.specs.Lists.{In, range, every}
 use Rattle.spec.specs.Types.{Solid, top, size, subs, sups}
 use Rattle.spec.specs.Demand.{Sound}
 use Rattle.spec.specs.Solid.{bound}
-use Rattle.spec.specs.Polytope.{Element, element, IsElement, IsSub, AtMost, itself, over, Below, Comparable, leastElement, topElement, Filled, EveryOrder, EveryBound}
+use Rattle.spec.specs.Polytope.{Element, element, IsElement, IsSub, AtMost, itself, over, Comparable, leastElement, topElement, Filled, EveryOrder, EveryBound}
 use Rattle.spec.proofs.Lists.{in-getD, in-range, of-range}
 use Rattle.spec.proofs.Counts.{T→true}
 use Rattle.spec.proofs.Marked.{lt-test, every-in}

@@ -1,15 +1,15 @@
 -- The test behind refusal 6 is the book's P4; and every solid that passes preflight has the book's properties, as read and as search walks it.
 -- Assumes nothing.
 use mathlib.Core.Path.{_≡_, refl, sym, _∙_, ap, subst}
-use mathlib.Core.Logic.{_≢_, _⊎_, _↔_, inl, inr}
-use Prim.Native.Nat.{ℕ, zero, suc, _-_, _≤_, _<_}
+use mathlib.Core.Logic.{_⊎_, inl, inr}
+use Prim.Native.Nat.{ℕ, zero, suc, _-_, _<_}
 use mathlib.Core.Bool.{true}
 use mathlib.Core.List.{List, [], _∷_}
 use native.Mathlib.Nat.{le-antisymm}
 use native.Mathlib.Omega.{arith}
 use lib.ListN.{length}
 use lib.Dec.{eqb}
-use Rattle.spec.specs.Lists.{In, holds, range, keep}
+use Rattle.spec.specs.Lists.{In, holds, range}
 use Rattle.spec.specs.Types.{Solid, top, size, subs, properRanks}
 use Rattle.spec.specs.Demand.{Sound}
 use Rattle.spec.specs.Solid.{bound, between, diamond}
@@ -19,9 +19,9 @@ use Rattle.spec.proofs.Lists.{of-range}
 use Rattle.spec.proofs.Counts.{numbers, keep-in, in-keep, once-keep, holds-in, in-holds}
 use Rattle.spec.proofs.Carry.{rising-once}
 use Rattle.spec.proofs.FlagChange.{diamond-at}
-use Rattle.spec.proofs.Exchange.{in-every, bound-same, every-exchange}
+use Rattle.spec.proofs.Exchange.{in-every, every-exchange}
 use Rattle.spec.proofs.Accepted.{every-passed}
-use Rattle.spec.proofs.Order.{at-most-rank, below-rank, last, one-up, every-order}
+use Rattle.spec.proofs.Order.{below-rank, last, one-up, every-order}
 use Rattle.spec.proofs.Chains.{every-maximal-chain}
 
 -- ---- the list of the elements between two
@@ -162,5 +162,5 @@ every-polytope b words floats c e =
       read = polytope (c .abs) (p .sound) (p .filled) (p .joined) (p .diamonds);
       searched = λ tall f low.
           let k = every-exchange (c .abs) (p .sound) (p .diamonds) (p .filled) tall f low in
-          polytope _ (k .sound) (k .filled) (bound-same (c .abs) tall f low ∙ p .joined) (k .diamonds);
+          polytope _ (k .sound) (k .filled) (k .joined ∙ p .joined) (k .diamonds);
     }

@@ -1,10 +1,8 @@
 -- What holds of every solid that passes preflight; and what the exchange of facets keeps.
 -- Assumes nothing.
 use mathlib.Core.Path.{_≡_}
-use mathlib.Core.Logic.{_≢_}
 use Prim.Native.Nat.{ℕ, suc, _-_, _≤_, _<_}
 use mathlib.Core.Bool.{true}
-use mathlib.Core.Option.{none}
 use mathlib.Core.List.{List}
 use lib.ListN.{length}
 use lib.Ieee.{Float}
@@ -16,10 +14,9 @@ use Rattle.spec.specs.Demand.{Sound}
 use Rattle.spec.specs.Judged.{passed}
 use Rattle.spec.specs.Sheet.{Parsed, readSheet}
 use Rattle.spec.specs.Solid.{Concrete, solidOf, bound, diamond, preflight}
-use Rattle.spec.specs.Classes.{typesOf}
 use Rattle.spec.specs.Search.{exchangedIn}
 
--- the sheet was read; the solid is the sheet's, as section 2 allows it; and 5 and 6 are not met
+-- The sheet was read, the solid is the one that the sheet says, it is as section 2 allows, and neither 5 nor 6 is met
 pub record Passed (b : List ℕ) (c : Concrete) : Type 0 where
   pub parsed : Parsed
   pub read : readSheet b ≡ passed parsed
@@ -28,30 +25,29 @@ pub record Passed (b : List ℕ) (c : Concrete) : Type 0 where
   pub dimension : c .dimension ≡ parsed .dimension
   pub same-points : c .points ≡ parsed .points
   pub sound : Sound (c .abs)
-  -- the limits
+  -- it keeps to the limits of section 2
   pub tall : top (c .abs) ≤ maxRank
   pub wide : c .dimension ≤ maxDimension
   pub sizes : (r : ℕ) → r ≤ top (c .abs) → (0 < size (c .abs) r) × (size (c .abs) r ≤ maxCount)
-  -- a point for each vertex, of D coordinates on the board
+  -- each vertex has a point, of D coordinates that are on the board
   pub points : length (c .points) ≡ size (c .abs) 1
   pub coordinates : (x : List Float) → In x (c .points) → (length x ≡ c .dimension) × ((y : Float) → In y x → inRange y ≡ true)
   -- every element but the least has a sub
   pub filled : (r e : ℕ) → e < size (c .abs) (suc r) → 0 < length (subs (c .abs) (suc r) e)
   pub joined : bound (c .abs) ≡ true
   pub diamonds : diamond (c .abs) ≡ true
-  -- 15 is never met
-  pub settled : typesOf c ≢ none
 
 abbrev pub EveryPassed : Type 0
 EveryPassed = (b : List ℕ) (words floats : ℕ) (c : Concrete) → preflight b words floats ≡ passed c → Passed b c
 
--- the exchange of facets keeps what section 2 and the diamond ask, and every rank's size
+-- The exchange of facets keeps what section 2 and the diamond ask, every rank's size, and the verdict of the test behind refusal 5
 pub record Kept (s t : Solid) : Type 0 where
   pub sound : Sound t
   pub diamonds : diamond t ≡ true
   pub rank : top t ≡ top s
   pub sizes : (r : ℕ) → size t r ≡ size s r
   pub filled : (r e : ℕ) → e < size t (suc r) → 0 < length (subs t (suc r) e)
+  pub joined : bound t ≡ bound s
 
 abbrev pub EveryExchange : Type 0
 EveryExchange =

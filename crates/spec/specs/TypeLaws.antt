@@ -1,17 +1,26 @@
--- Statements about section 4: the numbers after any list of steps, what the start and each step do, and what the types call gives out.
+-- Statements about section 4: the numbers after any list of steps, what the start and each step do, what the types call gives out, and that refusal 15
+-- never comes.
 -- Assumes nothing.
 use mathlib.Core.Path.{_≡_}
 use mathlib.Core.Logic.{_≢_, _⊎_, _↔_}
 use Prim.Native.Nat.{ℕ, _<_}
-use mathlib.Core.Option.{some}
+use mathlib.Core.Option.{none, some}
 use mathlib.Core.List.{List, map}
 use lib.ListN.{length}
 use lib.Dec.{eqb}
+use lib.Ieee.{Float}
+use Rattle.spec.specs.declared.Refusal.the-variants.{Unsettled}
+use Rattle.spec.specs.declared.Answer.{Answer}
+use Rattle.spec.specs.declared.Answer.the-variants.{Refused}
 use Rattle.spec.specs.Lists.{In, distinct, count, range, sum, join}
-use Rattle.spec.specs.Types.{Solid, top, size, properRanks, Classes, State, typesAt, typeOf, start, Step, at, next, neighbours, step, play, ElementType, elementTypesAt, elementTypes}
+use Rattle.spec.specs.Types.{Solid, top, size, properRanks, Classes, State, typesAt, typeOf, start, Step, at, next, neighbours, step, play, result, ElementType, elementTypesAt, elementTypes}
 use Rattle.spec.specs.Demand.{Proper, AllProper}
 use Rattle.spec.specs.Solid.{Concrete}
+use Rattle.spec.specs.Judged.{refused}
 use Rattle.spec.specs.Classes.{typesOf}
+use Rattle.spec.specs.Copying.{copyCall}
+use Rattle.spec.specs.Search.{setting}
+use Rattle.spec.specs.Calls.{TypesOut, typesCall, SearchOut, searchCall, rotationsCall}
 
 -- ---- numbers
 
@@ -81,3 +90,20 @@ pub record TypeLaws : Type 0 where
   -- and over the proper ranks, rising: the rank and number of each type given out
   pub listed : (c : Concrete) (z : State) → typesOf c ≡ some z
       → map {B = ℕ × ℕ} (λ k. (k .rank, k .number)) (elementTypes (c .abs) z) ≡ join (map (λ r. map (λ t. (r, t)) (range 0 (inUse z r))) (properRanks (c .abs)))
+
+-- ---- refusal 15
+
+-- an answer that is not refusal 15
+abbrev pub NotUnsettled : Answer → Type 0
+NotUnsettled a = (k : ℕ) → a ≢ Refused Unsettled k
+
+-- Refusal 15, "E + 2 sweeps done, still changing", never comes. The sweeps of every solid whatever end in time, whatever its distance classes are. So both the solid
+-- of a sheet and the solid that search makes of it by exchanging facets have types, and no call answers 15
+pub record NeverUnsettled : Type 0 where
+  pub settles : (s : Solid) (cls : Classes) → result s cls ≢ none
+  pub types : (c : Concrete) → typesOf c ≢ none
+  pub searching : (c : Concrete) → setting c ≢ refused Unsettled
+  pub types-call : (b : List ℕ) (words floats : ℕ) (old : TypesOut) → NotUnsettled (typesCall b words floats old .0)
+  pub search-call : (b : List ℕ) (words floats : ℕ) (old : SearchOut) → NotUnsettled (searchCall b words floats old .0)
+  pub rotations-call : (b : List ℕ) (words floats : ℕ) (old : SearchOut) → NotUnsettled (rotationsCall b words floats old .0)
+  pub copy-call : (d : ℕ) (ps ts outPoints : List Float) (outTable : List ℕ) → NotUnsettled (copyCall d ps ts outPoints outTable .0)
