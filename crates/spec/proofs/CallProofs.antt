@@ -1,22 +1,23 @@
--- The laws of the calls: no empty list passes for success, what a refusal leaves in the outputs, and that these keep their lengths.
+-- The laws of the calls: no empty list passes for success, when a call answers 13, what a refusal leaves in the outputs, and that these keep their lengths.
 -- Assumes nothing.
 use mathlib.Core.Path.{_≡_, refl, sym, _∙_, ap, subst}
 use mathlib.Core.Logic.{_≢_, _⊎_, inl, inr, ⊎-elim}
-use Prim.Native.Nat.{ℕ, _*_, _/_, _%_, _≤_, _<_, min}
-use native.Mathlib.Nat.{le-trans, mul-le-mul-right, div-mul-le-self, div-lt-iff-lt-mul}
+use Prim.Native.Nat.{ℕ, suc, _+_, _*_, _/_, _%_, _≤_, _<_, min}
+use native.Mathlib.Nat.{zero-mul, le-trans, mul-le-mul-right, div-mul-le-self, div-lt-iff-lt-mul}
 use mathlib.Core.Bool.{Bool, true, false, not, _&&_}
 use mathlib.Core.Option.{some}
 use mathlib.Core.List.{List, [], _∷_, map}
 use native.Mathlib.Omega.{arith}
 use native.Mathlib.Decide.{decLt}
+use borrow.Author.Tests.{le-leb, leb-false}
 use lib.ListN.{length, take, replicate, length-replicate}
-use lib.Dec.{leb, ltb, eqb, nleb→lt, nltb→le, lit<, T}
+use lib.Seq.{take-all}
+use lib.Dec.{leb, ltb, eqb, nleb→lt, nltb→le, T}
 use lib.Ieee.{Float}
 use Rattle.spec.specs.declared.Refusal.{Refusal}
 use Rattle.spec.specs.declared.Refusal.the-variants.{CutSheet, Format, OffTheBoard, Blank, ShortSheet, Open, Unsettled}
 use Rattle.spec.specs.declared.Answer.{Answer}
 use Rattle.spec.specs.declared.Answer.the-variants.{Done, Refused}
-use Rattle.spec.specs.Refusal.{number}
 use Rattle.spec.specs.Limits.{maxDimension, maxCount}
 use Rattle.spec.specs.Lists.{holds, join, every}
 use Rattle.spec.specs.Float.{inRange}
@@ -28,11 +29,12 @@ use Rattle.spec.specs.Judged.{Judged, refused, passed}
 use Rattle.spec.specs.Copying.{copies, copyTable, points, matrices, written, judgeCopy, copyOut, copyCall}
 use Rattle.spec.specs.Solid.{Concrete, preflight}
 use Rattle.spec.specs.Search.{Member}
-use Rattle.spec.specs.Calls.{Given, typeCells, TypesOut, typesGiven, typesWritten, typesCall, Room, Outcome, fitting, keptOf, outcome, membersIn, rotationsIn, SearchOut, roomOf, searchWritten, searchCall, rotationsCall}
-use Rattle.spec.specs.CallLaws.{SameLength, SearchLaws, CallLaws, EveryCopyCall}
+use Rattle.spec.specs.Calls.{Given, typeCells, TypesOut, typesGiven, typesWritten, typesCall, Room, Outcome, haveRoom, fitting, keptOf, outcome, membersIn, rotationsIn, SearchOut, roomOf, searchWritten, searchCall, rotationsCall}
+use Rattle.spec.specs.CallLaws.{SameLength, AllMembers, FirstMembers, SearchLaws, AllTypes, NoRoom, CallLaws, EveryCopyCall}
 use Rattle.spec.proofs.Counts.{numbers}
 use Rattle.spec.proofs.Marked.{both, lt-test}
-use Rattle.spec.proofs.Accepted.{same, bound-to, then-to, tested, le-test}
+use Rattle.spec.proofs.Accepted.{never, same, bound-to, then-to, tested, le-test}
+use Rattle.spec.proofs.Refuses.{by-judge, by-wanted, by-then, unlike, not13, Spares, spares-preflight, spares-members, spares-rotations}
 use Rattle.spec.proofs.Shapes.{wanted-some, Shaped, members-shaped, rotations-shaped, found-cells, type-cells}
 use Rattle.spec.proofs.CopyLaws.{Wide, all-wide, kept-fit, written-length, table-length, some-copy}
 
@@ -41,6 +43,9 @@ apart why k m e = let z : _≡_ {A = ℕ} 0 1 = cc in omega arith
 
 same-refusal : (why other : Refusal) (k l : ℕ) → Refused why k ≡ Refused other l → why ≡ other
 same-refusal why other k l e = cc
+
+same-count : (why : Refusal) (k l : ℕ) → Refused why k ≡ Refused why l → k ≡ l
+same-count why k l e = cc
 
 open-short : (k l : ℕ) → Refused Open k ≡ Refused ShortSheet l → ⊥
 open-short k l e = let z : _≡_ {A = ℕ} 0 1 = cc in omega arith
@@ -51,39 +56,99 @@ counted n m e = cc
 unfoldable pub choose : (kept : List Member) → Bool → Outcome
 choose kept b = elim b [ true ↦ record { answer = Refused ShortSheet (length kept); members = kept } | false ↦ record { answer = Done (length kept); members = kept } ]
 
-kept-some : (l kept : List Member) (n : ℕ) → keptOf l kept .answer ≡ Done n → 0 < n
-unfolding keptOf choose
-kept-some [] kept n e = absurd (apart Blank 0 n e)
-kept-some (x ∷ l) kept n e = go (ltb (length kept) (length (x ∷ l))) refl e
+-- ---- what fits
+
+-- Of members l, after n others, those that are kept are the first; there is room for them, and for one more only where no more are left.
+record Kept (m : Room) (d v n : ℕ) (l kept : List Member) : Type 0 where
+  first : kept ≡ take (length kept) l
+  fit : haveRoom m d v (n + length kept) ≡ true
+  full : length kept < length l → haveRoom m d v (suc (n + length kept)) ≡ false
+
+fitting-kept : (m : Room) (d v n : ℕ) (l : List Member) → haveRoom m d v n ≡ true → Kept m d v n l (fitting m d v n l)
+unfolding fitting
+fitting-kept m d v n [] h = record { first = refl; fit = let q : n + 0 ≡ n = omega arith in rw q h; full = λ k. absurd (omega arith) }
+fitting-kept m d v n (x ∷ l) h = go (haveRoom m d v (suc n)) refl (λ k. fitting-kept m d v (suc n) l k)
   where
-    go : (b : Bool) → ltb (length kept) (length (x ∷ l)) ≡ b → choose kept b .answer ≡ Done n → 0 < n
-    go true q e = absurd (apart ShortSheet (length kept) n e)
-    go false q e =
-        let h : length (x ∷ l) ≤ length kept = nltb→le (length kept) (length (x ∷ l)) (subst (λ (b : Bool). T (not b)) (sym q) tt) in
-        rw (← counted (length kept) n e) (omega arith)
+    go : (b : Bool) → haveRoom m d v (suc n) ≡ b → (haveRoom m d v (suc n) ≡ true → Kept m d v (suc n) l (fitting m d v (suc n) l))
+        → Kept m d v n (x ∷ l) (elim b as (λ z. List Member) [ true ↦ x ∷ fitting m d v (suc n) l | false ↦ [] ])
+    go true e f =
+        let k = f e in
+        let q : n + suc (length (fitting m d v (suc n) l)) ≡ suc n + length (fitting m d v (suc n) l) = omega arith in
+        record { first = ap {B = List Member} (λ ys. x ∷ ys) (k .first); fit = rw q (k .fit); full = λ i. rw q (k .full (omega arith)) }
+    go false e f = let q : n + 0 ≡ n = omega arith in record { first = refl; fit = rw q h; full = λ i. rw q e }
 
-kept-none : (l kept : List Member) (why : Refusal) (k : ℕ) → keptOf l kept .answer ≡ Refused why k → why ≢ ShortSheet → keptOf l kept .members ≡ []
-unfolding keptOf choose
-kept-none [] kept why k e h = refl
-kept-none (x ∷ l) kept why k e h = go (ltb (length kept) (length (x ∷ l))) e
-  where
-    go : (b : Bool) → choose kept b .answer ≡ Refused why k → choose kept b .members ≡ []
-    go true e = absurd (h (sym (same-refusal ShortSheet why (length kept) k e)))
-    go false e = absurd (apart why k (length kept) (sym e))
+no-members-fit : (m : Room) (d v : ℕ) → haveRoom m d v 0 ≡ true
+unfolding haveRoom
+no-members-fit m d v = rw (zero-mul (d * d), zero-mul v, le-leb 0 (m .floats) (omega arith), le-leb 0 (m .entries) (omega arith), le-leb 0 (m .marks) (omega arith)) refl
 
-found-some : (o : Judged (Concrete × List Member)) (m : Room) (n : ℕ) → outcome o m .answer ≡ Done n → 0 < n
+-- ---- search and rotations
+
+module _ (o : Judged (Concrete × List Member)) (m : Room) where
+  -- n members of the solid c fit.
+  abbrev Fits : Concrete → ℕ → Bool
+  Fits c n = haveRoom m (c .dimension) (length (c .points)) n
+
+  -- How a search ends whose members are o, with the room m: by a refusal that is not 13, with the first k members, or with all.
+  data SearchEnds : Outcome → Type 0 where
+    before : (why : Refusal) → why ≢ ShortSheet → SearchEnds (record { answer = Refused why 0; members = [] })
+    short : (c : Concrete) (ms : List Member) (k : ℕ) → o ≡ passed (c, ms) → Fits c k ≡ true → Fits c (suc k) ≡ false → k < length ms
+        → SearchEnds (record { answer = Refused ShortSheet k; members = take k ms })
+    whole : (c : Concrete) (ms : List Member) → o ≡ passed (c, ms) → Fits c (length ms) ≡ true → 0 < length ms → SearchEnds (record { answer = Done (length ms); members = ms })
+
+  kept-ends : (c : Concrete) (ms kept : List Member) → o ≡ passed (c, ms) → Kept m (c .dimension) (length (c .points)) 0 ms kept → SearchEnds (keptOf ms kept)
+  unfolding keptOf choose
+  kept-ends c [] kept q h = before Blank (unlike Blank ShortSheet tt)
+  kept-ends c (x ∷ l) kept q h = go (ltb (length kept) (length (x ∷ l))) refl
+    where
+      none-before : 0 + length kept ≡ length kept
+      none-before = omega arith
+
+      go : (b : Bool) → ltb (length kept) (length (x ∷ l)) ≡ b → SearchEnds (choose kept b)
+      go true e =
+          let k = lt-test (length kept) (length (x ∷ l)) e in
+          subst (λ (ys : List Member). SearchEnds (record { answer = Refused ShortSheet (length kept); members = ys })) (sym (h .first))
+          (short c (x ∷ l) (length kept) q (rw none-before at (h .fit)) (rw none-before at (h .full k)) k)
+      go false e =
+          let k : length (x ∷ l) ≤ length kept = nltb→le (length kept) (length (x ∷ l)) (subst (λ (b : Bool). T (not b)) (sym e) tt) in
+          let r : kept ≡ x ∷ l = h .first ∙ take-all (length kept) (x ∷ l) k in
+          let f : Fits c (length (x ∷ l)) ≡ true = subst (λ (ys : List Member). Fits c (length ys) ≡ true) r (rw none-before at (h .fit)) in
+          subst (λ (ys : List Member). SearchEnds (record { answer = Done (length ys); members = ys })) (sym r) (whole c (x ∷ l) q f (omega arith))
+
+search-ends : (o : Judged (Concrete × List Member)) (m : Room) → Spares o → SearchEnds o m (outcome o m)
 unfolding outcome
-found-some (refused k) m n e = absurd (apart k 0 n e)
-found-some (passed x) m n e = kept-some (x .1) (fitting m (x .0 .dimension) (length (x .0 .points)) 0 (x .1)) n e
+search-ends (refused why) m s = before why s
+search-ends (passed x) m s =
+    let d = x .0 .dimension in
+    let v = length (x .0 .points) in
+    kept-ends (passed x) m (x .0) (x .1) (fitting m d v 0 (x .1)) refl (fitting-kept m d v 0 (x .1) (no-members-fit m d v))
 
-found-none : (o : Judged (Concrete × List Member)) (m : Room) (why : Refusal) (k : ℕ) → outcome o m .answer ≡ Refused why k → why ≢ ShortSheet → outcome o m .members ≡ []
-unfolding outcome
-found-none (refused j) m why k e h = refl
-found-none (passed x) m why k e h = kept-none (x .1) (fitting m (x .0 .dimension) (length (x .0 .points)) 0 (x .1)) why k e h
+module _ (o : Judged (Concrete × List Member)) (old : SearchOut) where
+  ended-some : (f : Outcome) → SearchEnds o (roomOf old) f → (n : ℕ) → f .answer ≡ Done n → 0 < n
+  ended-some f (before why h) n e = absurd (apart why 0 n e)
+  ended-some f (short c ms k q r t h) n e = absurd (apart ShortSheet k n e)
+  ended-some f (whole c ms q r h) n e = rw (← counted (length ms) n e) h
 
-same-out : (f : Outcome) (old : SearchOut) → f .members ≡ [] → searchWritten f old .1 ≡ old
-unfolding searchWritten written join
-same-out f old q = ap (λ (l : List Member). searchWritten (record { answer = f .answer; members = l }) old .1) q
+  ended-done : (f : Outcome) → SearchEnds o (roomOf old) f → (n : ℕ) → f .answer ≡ Done n → AllMembers o old (searchWritten f old .1) n
+  unfolding searchWritten
+  ended-done f (before why h) n e = absurd (apart why 0 n e)
+  ended-done f (short c ms k q r t h) n e = absurd (apart ShortSheet k n e)
+  ended-done f (whole c ms q r h) n e =
+      let k = counted (length ms) n e in
+      record { solid = c; members = ms; listed = q; count = sym k; fit = rw (← k) r; hold = record { matrices = refl; rows = refl; marks = refl } }
+
+  ended-short : (f : Outcome) → SearchEnds o (roomOf old) f → (n : ℕ) → f .answer ≡ Refused ShortSheet n → FirstMembers o old (searchWritten f old .1) n
+  unfolding searchWritten
+  ended-short f (before why h) n e = absurd (h (same-refusal why ShortSheet 0 n e))
+  ended-short f (whole c ms q r h) n e = absurd (apart ShortSheet n (length ms) (sym e))
+  ended-short f (short c ms k q r t h) n e =
+      subst (λ (i : ℕ). FirstMembers o old (searchWritten (record { answer = Refused ShortSheet k; members = take k ms }) old .1) i) (same-count ShortSheet k n e)
+      (record { solid = c; members = ms; listed = q; fit = r; full = t; more = h; hold = record { matrices = refl; rows = refl; marks = refl } })
+
+  ended-untouched : (f : Outcome) → SearchEnds o (roomOf old) f → (why : Refusal) (k : ℕ) → f .answer ≡ Refused why k → why ≢ ShortSheet → searchWritten f old .1 ≡ old
+  unfolding searchWritten written join
+  ended-untouched f (before why h) other k e p = refl
+  ended-untouched f (short c ms n q r t h) why k e p = absurd (p (sym (same-refusal ShortSheet why n k e)))
+  ended-untouched f (whole c ms q r h) why k e p = absurd (apart why k (length ms) (sym e))
 
 search-lengths : (o : Judged (Concrete × List Member)) → Shaped o → (old : SearchOut) →
     let new = searchWritten (outcome o (roomOf old)) old .1 in
@@ -93,20 +158,28 @@ search-lengths o s old =
     let c = found-cells o s (roomOf old) in
     (written-length _ (old .matrices) (c .matrices), written-length _ (old .rows) (c .rows), written-length _ (old .marks) (c .marks))
 
-search-laws : (inside : List ℕ → ℕ → ℕ → Judged (Concrete × List Member)) → ((b : List ℕ) (words floats : ℕ) → Shaped (inside b words floats)) → SearchLaws (λ b words floats old. searchWritten (outcome (inside b words floats) (roomOf old)) old)
+search-laws : (inside : List ℕ → ℕ → ℕ → Judged (Concrete × List Member)) → ((b : List ℕ) (words floats : ℕ) → Shaped (inside b words floats)) → ((b : List ℕ) (words floats : ℕ) → Spares (inside b words floats))
+    → SearchLaws inside (λ b words floats old. searchWritten (outcome (inside b words floats) (roomOf old)) old)
 unfolding searchWritten
-search-laws inside shaped = record {
-  some-member = λ b words floats old n e. found-some (inside b words floats) (roomOf old) n e;
-  untouched = λ b words floats old why k e h. same-out (outcome (inside b words floats) (roomOf old)) old (found-none (inside b words floats) (roomOf old) why k e h);
+search-laws inside shaped spares = record {
+  some-member = λ b words floats old. ended-some (inside b words floats) old _ (ends b words floats old);
+  done = λ b words floats old. ended-done (inside b words floats) old _ (ends b words floats old);
+  short = λ b words floats old. ended-short (inside b words floats) old _ (ends b words floats old);
+  untouched = λ b words floats old. ended-untouched (inside b words floats) old _ (ends b words floats old);
   lengths = λ b words floats old. search-lengths (inside b words floats) (shaped b words floats) old;
 }
+  where
+    ends : (b : List ℕ) (words floats : ℕ) (old : SearchOut) → SearchEnds (inside b words floats) (roomOf old) (outcome (inside b words floats) (roomOf old))
+    ends b words floats old = search-ends (inside b words floats) (roomOf old) (spares b words floats)
+
+-- ---- types
 
 types-out : (g : Judged Given) (old : TypesOut) (why : Refusal) (k : ℕ) → typesWritten g old .0 ≡ Refused why k → typesWritten g old .1 ≡ old
 unfolding typesWritten
 types-out (refused m) old why k e = refl
 types-out (passed g) old why k e = absurd (apart why k (length (g .types)) (sym e))
 
--- what stands behind a types call that passes: the sheet's solid, its result, and room for what is given out
+-- What stands behind a types call that passes: the sheet's solid, the result of the sweeps, and that there is room for what is given out.
 pub record Behind (b : List ℕ) (words floats n m : ℕ) (g : Given) : Type 0 where
   pub solid : Concrete
   pub result : State
@@ -136,6 +209,56 @@ behind b words floats n m g q =
       types = subst (λ (x : Given). 4 * length (x .types) ≤ m) p (le-test _ _ (k .1));
     }
 
+types-done : (b : List ℕ) (words floats : ℕ) (old : TypesOut) (o : Judged Given) → typesGiven b words floats (length (old .elements)) (length (old .types)) ≡ o
+    → (n : ℕ) → typesWritten o old .0 ≡ Done n → AllTypes b words floats old (typesWritten o old .1) n
+unfolding typesWritten
+types-done b words floats old (refused why) q n e = absurd (apart why 0 n e)
+types-done b words floats old (passed g) q n e =
+    let h = behind b words floats (length (old .elements)) (length (old .types)) g q in
+    record {
+      out = g;
+      settled = record { solid = h .solid; result = h .result; read = h .read; ended = h .ended; out = h .out };
+      count = sym (counted (length (g .types)) n e);
+      elements-fit = h .elements;
+      types-fit = h .types;
+      elements = refl;
+      types = refl;
+    }
+
+-- A sequence of judgements that ends with 13, and not in its first one, passes that one.
+passed-by : {A B : Type 0} (m : Judged A) (k : A → Judged B) → Spares m → Judging._>>=_ m k ≡ refused ShortSheet → (x : A) × (m ≡ passed x) × (k x ≡ refused ShortSheet)
+unfolding Judging._>>=_
+passed-by (refused why) k s e = let q : why ≡ ShortSheet = cc in absurd (s q)
+passed-by (passed x) k s e = (x, refl, e)
+
+-- The last judgement is what refuses.
+test-failed : {A : Type 0} (why : Refusal) (a b : Bool) (x : A) → Judging._>>_ (Judging.judge why (a && b)) (passed x) ≡ refused why → (a ≡ false) ⊎ (b ≡ false)
+unfolding Judging._>>_ Judging.judge
+test-failed why false b x e = inl refl
+test-failed why true false x e = inr refl
+test-failed why true true x e = absurd (never why x (sym e))
+
+types-short : (b : List ℕ) (words floats : ℕ) (old : TypesOut) (o : Judged Given) → typesGiven b words floats (length (old .elements)) (length (old .types)) ≡ o
+    → (k : ℕ) → typesWritten o old .0 ≡ Refused ShortSheet k → NoRoom b words floats old k
+unfolding typesWritten typesGiven
+types-short b words floats old (passed g) q k e = absurd (apart ShortSheet k (length (g .types)) (sym e))
+types-short b words floats old (refused why) q k e =
+    let h₁ = passed-by (preflight b words floats) _ (spares-preflight b words floats) (q ∙ ap refused (same-refusal why ShortSheet 0 k e)) in
+    let h₂ = passed-by (Judging.wanted Unsettled (typesOf (h₁ .0))) _ (by-wanted not13 Unsettled (typesOf (h₁ .0)) (unlike Unsettled ShortSheet tt)) (h₁ .2) in
+    let g : Given = record { elements = given (h₁ .0 .abs) (h₂ .0); types = elementTypes (h₁ .0 .abs) (h₂ .0) } in
+    let h₃ = passed-by (passed g) _ tt (h₂ .2) in
+    let l = h₃ .0 in
+    let t = test-failed ShortSheet (leb (length (l .elements)) (length (old .elements))) (leb (4 * length (l .types)) (length (old .types))) l (h₃ .2) in
+    record {
+      out = l;
+      settled = record { solid = h₁ .0; result = h₂ .0; read = h₁ .1; ended = wanted-some Unsettled (typesOf (h₁ .0)) (h₂ .0) (h₂ .1); out = sym (same g l (h₃ .1)) };
+      count = sym (same-zero why k e);
+      exceed = ⊎-elim (λ p. inl (leb-false _ _ p)) (λ p. inr (leb-false _ _ p)) t;
+    }
+  where
+    same-zero : (why : Refusal) (k : ℕ) → Refused why 0 ≡ Refused ShortSheet k → _≡_ {A = ℕ} 0 k
+    same-zero why k e = cc
+
 types-lengths : (b : List ℕ) (words floats : ℕ) (old : TypesOut) (o : Judged Given) → typesGiven b words floats (length (old .elements)) (length (old .types)) ≡ o
     → SameLength (old .elements) (typesWritten o old .1 .elements) × SameLength (old .types) (typesWritten o old .1 .types)
 unfolding typesWritten
@@ -147,38 +270,25 @@ types-lengths b words floats old (passed g) q =
 pub call-laws : CallLaws
 unfolding searchCall rotationsCall typesCall
 call-laws = record {
-  searches = search-laws membersIn members-shaped;
-  rotations = search-laws rotationsIn rotations-shaped;
+  searches = search-laws membersIn members-shaped spares-members;
+  rotations = search-laws rotationsIn rotations-shaped spares-rotations;
+  types-done = λ b words floats old n e. types-done b words floats old _ refl n e;
+  types-short = λ b words floats old k e. types-short b words floats old _ refl k e;
   types = λ b words floats old why k e. types-out (typesGiven b words floats (length (old .elements)) (length (old .types))) old why k e;
   lengths = λ b words floats old. types-lengths b words floats old (typesGiven b words floats (length (old .elements)) (length (old .types))) refl;
 }
 
 -- ---- copying
 
--- whatever o refuses by comes before 13 in the table
-abbrev Early : {A : Type 0} → Judged A → Type 0
-Early (refused why) = number why < number ShortSheet
-Early (passed x) = Unit {0}
-
-early-judge : (why : Refusal) (ok : Bool) → number why < number ShortSheet → Early (Judging.judge why ok)
-unfolding Judging.judge
-early-judge why true h = tt
-early-judge why false h = h
-
-early-then : {A B : Type 0} (m : Judged A) (k : Judged B) → Early m → Early k → Early (Judging._>>_ m k)
-unfolding Judging._>>_
-early-then (refused why) k h g = h
-early-then (passed x) k h g = g
-
 module _ (d : ℕ) (ps ts : List Float) where
-  early : Early (judgeCopy d ps ts)
+  spares-copy : Spares (judgeCopy d ps ts)
   unfolding judgeCopy
-  early =
-      early-then _ _ (early-judge Format _ (lit< tt))
-      (early-then _ _ (early-judge CutSheet _ (lit< tt))
-      (early-then _ _ (early-judge OffTheBoard _ (lit< tt)) (early-judge Blank _ (lit< tt))))
+  spares-copy =
+      by-then not13 _ _ (by-judge not13 Format _ (unlike Format ShortSheet tt))
+      (by-then not13 _ _ (by-judge not13 CutSheet _ (unlike CutSheet ShortSheet tt))
+      (by-then not13 _ _ (by-judge not13 OffTheBoard _ (unlike OffTheBoard ShortSheet tt)) (by-judge not13 Blank _ (unlike Blank ShortSheet tt))))
 
-  -- one dimension at least, and one copy at least
+  -- A call that is not refused before 13 has at least one dimension and at least one copy.
   judged : (u : Unit {0}) → judgeCopy d ps ts ≡ passed u → (0 < d) × (0 < length (copies (matrices d ts) (points d ps)))
   unfolding judgeCopy
   judged u e =
@@ -192,16 +302,16 @@ module _ (d : ℕ) (ps ts : List Float) where
         some-copy d ps ts (lt-test 0 (length ps) (full .0)) (numbers .sound (length ps % d) 0 (cut .0)) (lt-test 0 (length ts) (full .1)) (numbers .sound (length ts % (d * d)) 0 (cut .1)),
       )
 
--- room for n points of d floats, and for no more, in l cells
+-- In l cells there is room for n points of d floats each, 2,048 at most, and for no more.
 record Fit (n d l : ℕ) : Type 0 where
   limit : n ≤ maxCount
   cells : n * d ≤ l
   most : (c : ℕ) → n < c → (maxCount < c) ⊎ (l < c * d)
 
 module _ (d : ℕ) (ms : List Matrix) (cs : List Vector) (outPoints : List Float) (outTable : List ℕ) where
-  -- how a call with the copies cs under the matrices ms ends: what it answers, and what it leaves in the outputs
+  -- How a call with the copies cs under the matrices ms can end: what it answers, and what it leaves in the outputs.
   data Ends : Answer × List Float × List ℕ → Type 0 where
-    before : (why : Refusal) → number why < number ShortSheet → Ends (Refused why 0, outPoints, outTable)
+    before : (why : Refusal) → why ≢ ShortSheet → Ends (Refused why 0, outPoints, outTable)
     short : (n : ℕ) → Fit n d (length outPoints) → (n < length cs) ⊎ (length outTable < length ms * length cs)
         → Ends (Refused ShortSheet (length (take n cs)), written (join (take n cs)) outPoints, outTable)
     unclosed : (n : ℕ) → Fit n d (length outPoints) → length ms * length cs ≤ length outTable
@@ -236,7 +346,7 @@ module _ (d : ℕ) (ms : List Matrix) (cs : List Vector) (outPoints : List Float
 
   ends-short : (o : Answer × List Float × List ℕ) → Ends o → (k : ℕ) → o .0 ≡ Refused ShortSheet k
       → ((maxCount < length cs) ⊎ (length outPoints < length cs * d) ⊎ (length outTable < length ms * length cs)) × (o .2 ≡ outTable)
-  ends-short o (before why h) k e = absurd (omega (arith, ap number (same-refusal why ShortSheet 0 k e)))
+  ends-short o (before why h) k e = absurd (h (same-refusal why ShortSheet 0 k e))
   ends-short o (short n f (inr h)) k e = (inr (inr h), refl)
   ends-short o (short n f (inl h)) k e = (⊎-elim inl (λ p. inr (inl p)) (f .most (length cs) h), refl)
   ends-short o (unclosed n f t) k e = absurd (open-short _ k e)
@@ -257,7 +367,7 @@ module _ (d : ℕ) (ms : List Matrix) (cs : List Vector) (outPoints : List Float
   ends-lengths w o (unclosed n f t) = (kept-length w n f, written-length _ outTable (rw length-replicate t))
   ends-lengths w o (whole n f s h t) = (kept-length w n f, written-length _ outTable (rw table-length t))
 
--- what is above the lesser of two is above one of them
+-- A number above the lesser of two numbers is above one of them.
 over-min : (a b c : ℕ) → min a b < c → (a < c) ⊎ (b < c)
 over-min a b c h = go (decLt a c)
   where
@@ -265,7 +375,7 @@ over-min a b c h = go (decLt a c)
     go (yes p) = inl p
     go (no n) = inr (omega arith)
 
--- what holds of both branches by a judgement holds of a, which is one of them
+-- Where a is one of two values, chosen by a judgement, what holds of both holds of a.
 either : {A : Type 0} (P : A → Type 0) (j : Judged (Unit {0})) (f : Refusal → A) (x a : A) → a ≡ elim j [ refused why ↦ f why | passed u ↦ x ]
     → ((why : Refusal) → j ≡ refused why → P (f why)) → ((u : Unit {0}) → j ≡ passed u → P x) → P a
 either P (refused why) f x a q g h = rw q (g why refl)
@@ -276,7 +386,7 @@ call-ends : (d : ℕ) (ps ts outPoints : List Float) (outTable : List ℕ)
 unfolding copyCall
 call-ends d ps ts outPoints outTable =
     either (Ends d (matrices d ts) (copies (matrices d ts) (points d ps)) outPoints outTable) (judgeCopy d ps ts) _ _ (copyCall d ps ts outPoints outTable) refl
-    (λ why q. before why (rw q at (early d ps ts)))
+    (λ why q. before why (rw q at (spares-copy d ps ts)))
     (λ u q.
     let k = judged d ps ts u q in
     ends d (matrices d ts) (copies (matrices d ts) (points d ps)) outPoints outTable _ (record {

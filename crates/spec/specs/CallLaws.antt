@@ -1,49 +1,130 @@
--- Statements about the calls: no empty list passes for success, what a refusal leaves untouched, and that outputs keep their lengths; and about
--- finding, which search and copying share.
+-- Statements about the calls: that no empty list passes for success, when a call answers 13 and what then stands in the outputs, what every other refusal
+-- leaves untouched, that outputs keep their lengths, and what the calls answer for a solid without proper ranks; and about finding, which search and copying share.
 -- Assumes nothing.
 use mathlib.Core.Path.{_≡_}
 use mathlib.Core.Logic.{_≢_, _⊎_}
-use Prim.Native.Nat.{ℕ, _*_, _≤_, _<_}
+use Prim.Native.Nat.{ℕ, suc, _*_, _≤_, _<_}
 use mathlib.Core.Bool.{true, false}
-use mathlib.Core.List.{List, []}
-use lib.ListN.{length, getD}
+use mathlib.Core.Option.{some}
+use mathlib.Core.List.{List, [], map}
+use lib.ListN.{length, getD, take}
 use lib.Ieee.{Float}
 use Rattle.spec.specs.declared.Refusal.{Refusal}
-use Rattle.spec.specs.declared.Refusal.the-variants.{ShortSheet, Open}
+use Rattle.spec.specs.declared.Refusal.the-variants.{NotFull, ShortSheet, Open}
 use Rattle.spec.specs.declared.Answer.{Answer}
 use Rattle.spec.specs.declared.Answer.the-variants.{Done, Refused}
 use Rattle.spec.specs.Limits.{maxCount}
+use Rattle.spec.specs.Lists.{join}
+use Rattle.spec.specs.Types.{State, given, elementTypes}
 use Rattle.spec.specs.Matrix.{Vector}
-use Rattle.spec.specs.Copying.{near, found, find, copies, points, matrices, copyCall}
-use Rattle.spec.specs.Calls.{TypesOut, typesCall, SearchOut, searchCall, rotationsCall}
+use Rattle.spec.specs.Judged.{Judged, passed}
+use Rattle.spec.specs.Sheet.{Parsed, readSheet}
+use Rattle.spec.specs.Solid.{Concrete, preflight}
+use Rattle.spec.specs.Classes.{typesOf}
+use Rattle.spec.specs.Search.{Member}
+use Rattle.spec.specs.Copying.{near, found, find, copies, points, matrices, written, copyCall}
+use Rattle.spec.specs.Calls.{Given, typeCells, TypesOut, typesCall, haveRoom, membersIn, rotationsIn, SearchOut, roomOf, searchCall, rotationsCall}
 
--- what is written fits a lent output: it is as long as it was
+-- A lent output is as long after a call as it was before.
 abbrev pub SameLength : {A : Type 0} → List A → List A → Type 0
 SameLength old new = length new ≡ length old
 
--- of a search call, or of a rotations call
-pub record SearchLaws (call : List ℕ → ℕ → ℕ → SearchOut → Answer × SearchOut) : Type 0 where
-  -- an empty list is never a success
+-- ---- search and rotations
+
+-- The outputs `new` hold the members ms from their first cells on, and every cell behind these is as it was in `old`.
+pub record HoldMembers (ms : List Member) (old new : SearchOut) : Type 0 where
+  pub matrices : new .matrices ≡ written (join (map (λ x. join (x .matrix)) ms)) (old .matrices)
+  pub rows : new .rows ≡ written (join (map (λ x. x .row) ms)) (old .rows)
+  pub marks : new .marks ≡ written (map (λ x. x .mark) ms) (old .marks)
+
+-- What success with the count n means, where o lists the members of the sheet's solid: n is how many members there are, and the outputs hold all of them.
+pub record AllMembers (o : Judged (Concrete × List Member)) (old new : SearchOut) (n : ℕ) : Type 0 where
+  pub solid : Concrete
+  pub members : List Member
+  pub listed : o ≡ passed (solid, members)
+  pub count : n ≡ length members
+  pub fit : haveRoom (roomOf old) (solid .dimension) (length (solid .points)) n ≡ true
+  pub hold : HoldMembers members old new
+
+-- What 13 with the count k means: the outputs have room for k whole members and for no more, there are more, and the outputs hold the first k.
+pub record FirstMembers (o : Judged (Concrete × List Member)) (old new : SearchOut) (k : ℕ) : Type 0 where
+  pub solid : Concrete
+  pub members : List Member
+  pub listed : o ≡ passed (solid, members)
+  pub fit : haveRoom (roomOf old) (solid .dimension) (length (solid .points)) k ≡ true
+  pub full : haveRoom (roomOf old) (solid .dimension) (length (solid .points)) (suc k) ≡ false
+  pub more : k < length members
+  pub hold : HoldMembers (take k members) old new
+
+-- The laws of a search call, or of a rotations call. `inside` lists all members, or all rotations, of a sheet's solid.
+pub record SearchLaws (inside : List ℕ → ℕ → ℕ → Judged (Concrete × List Member)) (call : List ℕ → ℕ → ℕ → SearchOut → Answer × SearchOut) : Type 0 where
+  -- An empty list is never a success.
   pub some-member : (b : List ℕ) (words floats : ℕ) (old : SearchOut) (n : ℕ) → call b words floats old .0 ≡ Done n → 0 < n
+  pub done : (b : List ℕ) (words floats : ℕ) (old : SearchOut) (n : ℕ) → call b words floats old .0 ≡ Done n → AllMembers (inside b words floats) old (call b words floats old .1) n
+  -- 13: "members (rotations in their call) .. exceed their buffers", and it "keeps what fitted in search (whole members only)"
+  pub short : (b : List ℕ) (words floats : ℕ) (old : SearchOut) (k : ℕ) → call b words floats old .0 ≡ Refused ShortSheet k → FirstMembers (inside b words floats) old (call b words floats old .1) k
   -- "Outputs are untouched, except: 13"
   pub untouched : (b : List ℕ) (words floats : ℕ) (old : SearchOut) (why : Refusal) (k : ℕ) → call b words floats old .0 ≡ Refused why k → why ≢ ShortSheet → call b words floats old .1 ≡ old
   pub lengths : (b : List ℕ) (words floats : ℕ) (old : SearchOut) →
       let new = call b words floats old .1 in
       SameLength (old .matrices) (new .matrices) × SameLength (old .rows) (new .rows) × SameLength (old .marks) (new .marks)
 
+-- ---- types
+
+-- The sheet passes preflight, the sweeps over its solid end, and g is what the types call then has to give out, before it looks at its buffers.
+pub record Settled (b : List ℕ) (words floats : ℕ) (g : Given) : Type 0 where
+  pub solid : Concrete
+  pub result : State
+  pub read : preflight b words floats ≡ passed solid
+  pub ended : typesOf solid ≡ some result
+  pub out : g ≡ record { elements = given (solid .abs) result; types = elementTypes (solid .abs) result }
+
+-- What success with the count n means: n is how many types there are, both outputs have room for everything, and they hold everything.
+pub record AllTypes (b : List ℕ) (words floats : ℕ) (old new : TypesOut) (n : ℕ) : Type 0 where
+  pub out : Given
+  pub settled : Settled b words floats out
+  pub count : n ≡ length (out .types)
+  pub elements-fit : length (out .elements) ≤ length (old .elements)
+  pub types-fit : 4 * length (out .types) ≤ length (old .types)
+  pub elements : new .elements ≡ written (out .elements) (old .elements)
+  pub types : new .types ≡ written (join (map typeCells (out .types))) (old .types)
+
+-- What 13 means: the types are there, one of the two outputs is too short for them, and the count is 0, since nothing is kept.
+pub record NoRoom (b : List ℕ) (words floats : ℕ) (old : TypesOut) (k : ℕ) : Type 0 where
+  pub out : Given
+  pub settled : Settled b words floats out
+  pub count : k ≡ 0
+  pub exceed : (length (old .elements) < length (out .elements)) ⊎ (length (old .types) < 4 * length (out .types))
+
 pub record CallLaws : Type 0 where
-  pub searches : SearchLaws searchCall
-  pub rotations : SearchLaws rotationsCall
+  pub searches : SearchLaws membersIn searchCall
+  pub rotations : SearchLaws rotationsIn rotationsCall
+  pub types-done : (b : List ℕ) (words floats : ℕ) (old : TypesOut) (n : ℕ) → typesCall b words floats old .0 ≡ Done n → AllTypes b words floats old (typesCall b words floats old .1) n
+  -- 13: "types .. exceed their buffers"
+  pub types-short : (b : List ℕ) (words floats : ℕ) (old : TypesOut) (k : ℕ) → typesCall b words floats old .0 ≡ Refused ShortSheet k → NoRoom b words floats old k
+  -- "Outputs are untouched": every refusal of the types call leaves them so.
   pub types : (b : List ℕ) (words floats : ℕ) (old : TypesOut) (why : Refusal) (k : ℕ) → typesCall b words floats old .0 ≡ Refused why k → typesCall b words floats old .1 ≡ old
   pub lengths : (b : List ℕ) (words floats : ℕ) (old : TypesOut) →
       let new = typesCall b words floats old .1 in
       SameLength (old .elements) (new .elements) × SameLength (old .types) (new .types)
 
+-- ---- solids without proper ranks
+
+-- "R = 1: no types; search 8". The outputs are as they were, whatever they are.
+pub record NoProperRank (b : List ℕ) (words floats : ℕ) : Type 0 where
+  pub types : (old : TypesOut) → typesCall b words floats old ≡ (Done 0, old)
+  pub search : (old : SearchOut) → searchCall b words floats old ≡ (Refused NotFull 0, old)
+  pub rotations : (old : SearchOut) → rotationsCall b words floats old ≡ (Refused NotFull 0, old)
+
+-- Every accepted sheet of rank 0 or 1, on any workspace that 7 does not refuse: E and I are 0, so that 64 words and 64 floats are enough.
+abbrev pub EveryLowSheet : Type 0
+EveryLowSheet = (b : List ℕ) (p : Parsed) → readSheet b ≡ passed p → p .rank < 2 → (words floats : ℕ) → 64 ≤ words → 64 ≤ floats → NoProperRank b words floats
+
 -- ---- copying
 
--- of a copying call in d dimensions, with the points ps, the matrices ts and its two outputs as they were
+-- The laws of a copying call in d dimensions, with the points ps, the matrices ts, and its two outputs as they were before the call.
 pub record CopyCallLaws (d : ℕ) (ps ts outPoints : List Float) (outTable : List ℕ) : Type 0 where
-  -- success has a copy at least, at most 2,048, and both outputs hold them all
+  -- Success means at least one copy and at most 2,048, and both outputs have room for all of them.
   pub done : (n : ℕ) → copyCall d ps ts outPoints outTable .0 ≡ Done n
       → (0 < n) × (n ≤ maxCount) × (n * d ≤ length outPoints) × (length (matrices d ts) * n ≤ length outTable)
   -- 13: "points and then table entries, exceed their buffers; copies over 2,048"
@@ -61,13 +142,13 @@ EveryCopyCall = (d : ℕ) (ps ts outPoints : List Float) (outTable : List ℕ) �
 
 -- ---- finding
 
--- of a point q and the points ps among which it is sought: "lowest number taken"
+-- The laws of finding the point q among the points ps: "lowest number taken".
 pub record FindLaws (ps : List Vector) (q : Vector) : Type 0 where
-  -- what is found is near
+  -- The point that is found is near.
   pub found-near : found ps q ≡ true → (find ps q < length ps) × (near (getD ps (find ps q) []) q ≡ true)
-  -- nothing lower is
+  -- No point with a lower number is near.
   pub not-lower : (i : ℕ) → i < find ps q → near (getD ps i []) q ≡ false
-  -- where nothing is, the number is how many points there are
+  -- Where no point is near, the number is how many points there are.
   pub not-found : found ps q ≡ false → find ps q ≡ length ps
 
 abbrev pub EveryFind : Type 0

@@ -25,6 +25,7 @@ pub mod Eval
 pub mod Passed
 pub mod SolidLaws
 pub mod CallLaws
+pub mod KitLaws
 pub mod CallExamples
 pub mod FlagLaws
 pub mod TypeLaws

@@ -1,0 +1,129 @@
+-- Solids of rank 0 or 1: they have no proper rank, so preflight asks nothing of them but its least workspace, the types call gives out nothing, and a search refuses them.
+-- And what `kit` prints for them, and for an input that is too long.
+-- Assumes nothing.
+use mathlib.Core.Path.{_≡_, refl, ap}
+use mathlib.Core.Logic.{_≢_}
+use Prim.Native.Nat.{ℕ, _-_, _≤_, _<_}
+use mathlib.Core.Bool.{Bool, true}
+use mathlib.Core.Option.{Option, none, some}
+use mathlib.Core.List.{List, [], map}
+use native.Mathlib.Omega.{arith}
+use lib.ListN.{length, getD}
+use borrow.Author.Tests.{lt-ltb, le-ltb, le-leb, lt-leb}
+use Rattle.spec.specs.declared.Refusal.the-variants.{NotFull}
+use Rattle.spec.specs.Lists.{range, every, sum, join}
+use Rattle.spec.specs.Types.{Solid, State, typesAt, top, size, properRanks, elements, given, elementTypesAt, elementTypes}
+use Rattle.spec.specs.Judged as Judging
+use Rattle.spec.specs.Judged.{refused, passed}
+use Rattle.spec.specs.Sheet.{Parsed, readSheet}
+use Rattle.spec.specs.Solid.{Concrete, solidOf, entries, roomy, bound, diamond, preflight}
+use Rattle.spec.specs.Classes.{typesOf}
+use Rattle.spec.specs.Copying.{written}
+use Rattle.spec.specs.Search.{full, setting, search}
+use Rattle.spec.specs.Calls.{typesGiven, typesWritten, typesCall, outcome, membersIn, rotationsIn, searchWritten, searchCall, rotationsCall}
+use Rattle.spec.specs.Ascii.{ascii}
+use Rattle.spec.specs.KitText.{digits, decimal, refusedLine, typesLines, lastLine, elementCells, typeRecords, workWords, workFloats, longest, afterTypes, kitText}
+use Rattle.spec.specs.CallLaws.{NoProperRank, EveryLowSheet}
+use Rattle.spec.specs.KitLaws.{KitLaws}
+use Rattle.spec.proofs.Accepted.{read-rank, every-passed}
+
+-- ---- a solid without proper ranks
+
+none-fails : (t : ℕ → Bool) (l : List ℕ) → l ≡ [] → every t l ≡ true
+unfolding every
+none-fails t l e = rw e refl
+
+module _ (s : Solid) (low : top s < 2) where
+  none-below : top s - 1 ≡ 0
+  none-below = omega arith
+
+  none-listed : top s - 2 ≡ 0
+  none-listed = omega arith
+
+  no-proper : properRanks s ≡ []
+  unfolding properRanks range
+  no-proper = ap (range 1) none-below
+
+  no-elements : elements s ≡ 0
+  unfolding elements sum
+  no-elements = ap (λ (rs : List ℕ). sum (map (λ r. size s r) rs)) no-proper
+
+  no-entries : entries s ≡ 0
+  unfolding entries sum range
+  no-entries = ap (λ (n : ℕ). sum (map (λ r. sum (map length (getD s r []))) (range 2 n))) none-listed
+
+  least-room : (words floats : ℕ) → 64 ≤ words → 64 ≤ floats → roomy s words floats ≡ true
+  unfolding roomy
+  least-room words floats w f = rw (no-elements, no-entries, le-leb 64 words w, le-leb 64 floats f) refl
+
+  all-bound : bound s ≡ true
+  unfolding bound range
+  all-bound = none-fails _ (range 1 (top s - 2)) (ap (range 1) none-listed)
+
+  all-diamonds : diamond s ≡ true
+  unfolding diamond
+  all-diamonds = none-fails _ (properRanks s) no-proper
+
+  no-element-types : (z : State) → given s z ≡ []
+  unfolding given join
+  no-element-types z = ap (λ (rs : List ℕ). join (map (typesAt z) rs)) no-proper
+
+  no-types-listed : (z : State) → elementTypes s z ≡ []
+  unfolding elementTypes join
+  no-types-listed z = ap (λ (rs : List ℕ). join (map (elementTypesAt z) rs)) no-proper
+
+-- ---- the calls
+
+module _ (b : List ℕ) (p : Parsed) (e : readSheet b ≡ passed p) (h : p .rank < 2) where
+  solid : Concrete
+  solid = record { dimension = p .dimension; points = p .points; abs = solidOf p }
+
+  low : top (solidOf p) < 2
+  low = omega (arith, read-rank b p e)
+
+  module _ (words floats : ℕ) (w : 64 ≤ words) (f : 64 ≤ floats) where
+    accepted : preflight b words floats ≡ passed solid
+    unfolding preflight Judging._>>=_ Judging._>>_ Judging.judge solid
+    accepted = rw (e, least-room (solidOf p) low words floats w f, all-bound (solidOf p) low, all-diamonds (solidOf p) low) refl
+
+    settled : (z : State) × (typesOf solid ≡ some z)
+    settled = go (typesOf solid) (every-passed b words floats solid accepted .settled)
+      where
+        go : (o : Option State) → o ≢ none → (z : State) × (o ≡ some z)
+        go none k = absurd (k refl)
+        go (some z) k = (z, refl)
+
+    no-types : (n m : ℕ) → typesGiven b words floats n m ≡ passed (record { elements = []; types = [] })
+    unfolding typesGiven Judging._>>=_ Judging._>>_ Judging.judge Judging.wanted solid
+    no-types n m =
+        let z = settled .0 in
+        let s = solidOf p in
+        rw (accepted, settled .1, no-element-types s low z, no-types-listed s low z, le-leb 0 n (omega arith), le-leb 0 m (omega arith)) refl
+
+    not-full : membersIn b words floats ≡ refused NotFull
+    unfolding membersIn search setting full Judging._>>=_ Judging._>>_ Judging.judge solid
+    not-full = rw (accepted, lt-leb 2 (top (solidOf p)) low) refl
+
+    no-rotations : rotationsIn b words floats ≡ refused NotFull
+    unfolding rotationsIn Judging._>>=_
+    no-rotations = rw not-full refl
+
+    no-proper-rank : NoProperRank b words floats
+    unfolding typesCall typesWritten searchCall rotationsCall searchWritten outcome written join
+    no-proper-rank = record {
+      types = λ old. rw (no-types (length (old .elements)) (length (old .types))) refl;
+      search = λ old. rw not-full refl;
+      rotations = λ old. rw no-rotations refl;
+    }
+
+pub every-low-sheet : EveryLowSheet
+every-low-sheet b p e h words floats w f = no-proper-rank b p e h words floats w f
+
+-- ---- what `kit` prints
+
+pub kit-laws : KitLaws
+unfolding kitText afterTypes refusedLine typesLines lastLine outcome decimal digits join ascii
+kit-laws = record {
+  long = λ b h. rw (lt-ltb longest (length b) h, kitText) refl;
+  low = λ b p e r h. rw (le-ltb longest (length b) h, kitText, no-types b p e r workWords workFloats (omega arith) (omega arith) elementCells typeRecords, not-full b p e r workWords workFloats (omega arith) (omega arith)) refl;
+}

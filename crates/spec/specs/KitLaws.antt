@@ -1,0 +1,16 @@
+-- Statements about what the program `kit` prints, for every input of a kind.
+-- Assumes nothing.
+use mathlib.Core.Path.{_≡_}
+use Prim.Native.Nat.{ℕ, _≤_, _<_}
+use mathlib.Core.List.{List}
+use lib.ListN.{length}
+use Rattle.spec.specs.Judged.{passed}
+use Rattle.spec.specs.Sheet.{Parsed, readSheet}
+use Rattle.spec.specs.Ascii.{ascii}
+use Rattle.spec.specs.KitText.{longest, kitText}
+
+pub record KitLaws : Type 0 where
+  -- "input past 8,192 bytes is refused 1", whatever it holds
+  pub long : (b : List ℕ) → longest < length b → kitText b ≡ ascii "refused 1\n"
+  -- A solid without proper ranks has no types, and a search refuses it with 8.
+  pub low : (b : List ℕ) (p : Parsed) → readSheet b ≡ passed p → p .rank < 2 → length b ≤ longest → kitText b ≡ ascii "types 0\nrefused 8\n"
