@@ -2,20 +2,22 @@
 -- And what `kit` prints for them, and for an input that is too long.
 -- Assumes nothing.
 use mathlib.Core.Path.{_≡_, refl, ap}
-use mathlib.Core.Logic.{_≢_}
-use Prim.Native.Nat.{ℕ, _-_, _≤_, _<_}
+use mathlib.Core.Logic.{_≢_, inl}
+use Prim.Native.Nat.{ℕ, zero, suc, _+_, _-_, _*_, _/_, _%_, _≤_, _<_}
 use mathlib.Core.Bool.{Bool, true}
 use mathlib.Core.Option.{Option, none, some}
-use mathlib.Core.List.{List, [], map}
+use mathlib.Core.List.{List, [], _∷_, map, append-nil}
 use native.Mathlib.Omega.{arith}
-use lib.ListN.{length, getD}
+use lib.ListN.{length, getD, length-append, List·getD-eq-default}
+use lib.Ieee.{Float, binary64, toBits}
 use borrow.Author.Tests.{lt-ltb, le-ltb, le-leb, lt-leb}
 use Rattle.spec.specs.declared.Refusal.the-variants.{NotFull}
-use Rattle.spec.specs.Lists.{range, every, sum, join}
+use Rattle.spec.specs.Lists.{In, range, every, sum, join}
 use Rattle.spec.specs.Types.{Solid, State, typesAt, top, size, properRanks, elements, given, elementTypesAt, elementTypes}
 use Rattle.spec.specs.Judged as Judging
 use Rattle.spec.specs.Judged.{refused, passed}
-use Rattle.spec.specs.Sheet.{Parsed, readSheet}
+use Rattle.spec.specs.Sheet.{Parsed, vertexCount, readSheet}
+use Rattle.spec.specs.Pack.{bitsOf, pointBits, rankBits, packBits}
 use Rattle.spec.specs.Solid.{Concrete, solidOf, entries, roomy, bound, diamond, preflight}
 use Rattle.spec.specs.Classes.{typesOf}
 use Rattle.spec.specs.Copying.{written}
@@ -26,6 +28,8 @@ use Rattle.spec.specs.KitText.{digits, decimal, refusedLine, typesLines,
 use Rattle.spec.specs.CallLaws.{NoProperRank, EveryLowSheet}
 use Rattle.spec.specs.KitLaws.{KitLaws}
 use Rattle.spec.proofs.Accepted.{read-rank, every-passed}
+use Rattle.spec.proofs.SheetBits.{sheet-reads}
+use Rattle.spec.proofs.RoundTrip.{holds-length, sheet-of}
 
 -- ---- a solid without proper ranks
 
@@ -119,11 +123,60 @@ module _ (b : List ℕ) (p : Parsed) (e : readSheet b ≡ passed p) (h : p .rank
 pub every-low-sheet : EveryLowSheet
 every-low-sheet b p e h words floats w f = no-proper-rank b p e h words floats w f
 
+-- ---- such a sheet has at most 33 bytes
+
+bits-length : (w n : ℕ) → length (bitsOf w n) ≡ w
+unfolding bitsOf
+bits-length zero n = refl
+bits-length (suc w) n = let h = bits-length w (n / 2) in rw (length-append (bitsOf w (n / 2)) (n % 2 ∷ [])) (omega arith)
+
+point-length : (v : List Float) → length (pointBits v) ≡ 64 * length v
+unfolding pointBits join
+point-length [] = refl
+point-length (x ∷ v) =
+    let h = point-length v in
+    let k = bits-length 64 (toBits binary64 x) in
+    rw (length-append (bitsOf 64 (toBits binary64 x)) (join (map (λ x. bitsOf 64 (toBits binary64 x)) v))) (omega arith)
+
+-- Where there are no elements, there are no bits.
+no-bits : {A : Type 0} (f : A → List ℕ) (l : List A) → length l ≡ 0 → length (join (map f l)) ≡ 0
+unfolding join
+no-bits f [] e = refl
+no-bits f (x ∷ l) e = absurd (omega arith)
+
+-- There is at most one point, of d coordinates.
+few-bits : (d : ℕ) (vs : List (List Float)) → length vs < 2 → ((v : List Float) → In v vs → length v ≡ d) → length (join (map pointBits vs)) ≤ 64 * d
+unfolding join
+few-bits d [] k f = omega arith
+few-bits d (v ∷ []) k f = rw (append-nil, point-length v, f v (inl refl)) (omega arith)
+few-bits d (v ∷ u ∷ vs) k f = absurd (omega arith)
+
+few-bytes : (b : List ℕ) (p : Parsed) → readSheet b ≡ passed p → p .rank < 2 → length b ≤ longest
+unfolding packBits vertexCount
+few-bytes b p e h =
+    let s = sheet-of b p e in
+    let r = sheet-reads b (p, s .0) (s .1) in
+    let a = r .0 in
+    let none : length (p .counts) ≡ 0 = omega (arith, a .counted) in
+    let one : length (p .points) < 2 = omega (arith, a .pointed, List·getD-eq-default (p .counts) (p .rank) {n = 0} (omega arith)) in
+    let total : length (packBits p) ≤ 6 + 64 * p .dimension =
+    simp length-append
+    (omega (
+      arith,
+      bits-length 3 (p .rank),
+      bits-length 3 (p .dimension),
+      no-bits (bitsOf 12) (p .counts) none,
+      few-bits (p .dimension) (p .points) one (λ v i. a .points v i .wide),
+      no-bits rankBits (p .lists) (omega (arith, a .listed)),
+    ))
+    in
+    omega (arith, holds-length b (packBits p) 0 (s .0) (r .1), r .2 .short, a .wide)
+
 -- ---- what `kit` prints
 
 pub kit-laws : KitLaws
 unfolding kitText afterTypes refusedLine typesLines lastLine outcome decimal digits join ascii
 kit-laws = record {
   long = λ b h. rw (lt-ltb longest (length b) h, kitText) refl;
-  low = λ b p e r h. rw (le-ltb longest (length b) h, kitText, no-types b p e r workWords workFloats (omega arith) (omega arith) elementCells typeRecords, not-full b p e r workWords workFloats (omega arith) (omega arith)) refl;
+  low = λ b p e r. rw (le-ltb longest (length b) (few-bytes b p e r), kitText, no-types b p e r workWords workFloats (omega arith) (omega arith) elementCells typeRecords, not-full b p e r workWords workFloats (omega arith) (omega arith)) refl;
 }

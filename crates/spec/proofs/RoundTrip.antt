@@ -149,7 +149,7 @@ module _ (b : List ℕ) where
   zero-field i zero h = refl
   zero-field i (suc w) h = omega (arith, zero-field i w (λ t k. h t (omega arith)), h w (omega arith))
 
-  holds-length : (l : List ℕ) (i j : ℕ) → Holds b i l j → i + length l ≡ j
+  pub holds-length : (l : List ℕ) (i j : ℕ) → Holds b i l j → i + length l ≡ j
   unfolding Holds
   holds-length [] i j h = omega arith
   holds-length (x ∷ l) i j h = omega (arith, holds-length l (suc i) j (h .2))
