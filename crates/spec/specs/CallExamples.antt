@@ -2,20 +2,23 @@
 -- Assumes nothing.
 use mathlib.Core.Path.{_≡_, refl}
 use Prim.Native.Nat.{ℕ}
-use mathlib.Core.Bool.{true, false}
+use mathlib.Core.Bool.{Bool, true, false}
 use mathlib.Core.Option.{some}
 use mathlib.Core.List.{List, [], _∷_, map}
-use lib.ListN.{getD, replicate}
+use lib.ListN.{length, getD, replicate}
 use lib.Ieee.{nan, binary64, ofBits, toBits}
 use Rattle.spec.specs.declared.Refusal.the-variants.{Format, BadList, DoubleCorner, Centred, Flat, ShortSheet}
 use Rattle.spec.specs.declared.Answer.{Answer}
 use Rattle.spec.specs.declared.Answer.the-variants.{Done, Refused}
 use Rattle.spec.specs.Ascii.{ascii}
+use Rattle.spec.specs.Lists.{range}
 use Rattle.spec.specs.Types.{Solid, Classes, result, elementTypes}
 use Rattle.spec.specs.Mark.{marked}
-use Rattle.spec.specs.Judged.{refused, passed}
+use Rattle.spec.specs.Judged.{Judged, refused, passed, _>>=_}
 use Rattle.spec.specs.Sheet.{list}
+use Rattle.spec.specs.Solid.{Concrete, preflight}
 use Rattle.spec.specs.Search.{examplesGo, isRotation}
+use Rattle.spec.specs.Clean.{cleanDistances, clean}
 use Rattle.spec.specs.Calls.{TypesOut, typesCall, SearchOut, searchCall, rotationsCall}
 use Rattle.spec.specs.KitText.{kitText}
 use Rattle.spec.specs.SolidExamples.{alike, square, sides, prism}
@@ -47,6 +50,11 @@ close =
 abbrev pub unequal : List ℕ
 unequal =
     68 ∷ 0 ∷ 175 ∷ 252 ∷ 0 ∷ 0 ∷ 0 ∷ 0 ∷ 0 ∷ 0 ∷ 15 ∷ 252 ∷ 0 ∷ 0 ∷ 6 ∷ 10 ∷ 48 ∷ 47 ∷ 128 ∷ []
+
+-- R = 2 at 5e-8 and −1.2e-7: the second vertex is further than EPS from the origin, and the listed value of its distance is 5e-8
+abbrev pub listedNearer : List ℕ
+listedNearer =
+    68 ∷ 0 ∷ 143 ∷ 154 ∷ 181 ∷ 252 ∷ 166 ∷ 175 ∷ 43 ∷ 210 ∷ 47 ∷ 160 ∷ 6 ∷ 202 ∷ 202 ∷ 105 ∷ 26 ∷ 74 ∷ 192 ∷ []
 
 -- old cells of 7, and of 2.0
 abbrev pub typesOld : ℕ → ℕ → TypesOut
@@ -103,6 +111,66 @@ unequal-members = refl
 pub unequal-text : kitText unequal ≡ ascii "types 1\n1 0 0 2\nmembers 1 confirmed 1 rotations 1\n"
 unfolding evaluate
 unequal-text = refl
+
+-- "whose hull is further than EPS from the origin" is asked of the hull's own distance. By its listed value neither facet would be, and the search would be refused 10.
+pub listed-nearer-members : searchCall listedNearer 96 80 (searchOld 2 4 2) .0 ≡ Done 1
+unfolding evaluate
+listed-nearer-members = refl
+
+-- ---- clean
+
+-- Whether the solid of a sheet is clean; the sheet's own refusal, where it has one.
+abbrev pub cleanSheet : List ℕ → Judged Bool
+cleanSheet b = preflight b 4096 2048 >>= λ c. passed (clean c)
+
+-- The polygon with the given edges and, as bit patterns, the given coordinates.
+abbrev pub polygon : List (List ℕ) → (d : ℕ) → List (List ℕ) → Concrete
+polygon edges d ps = record {
+  dimension = d;
+  points = map (map (ofBits binary64)) ps;
+  abs = ([] ∷ []) ∷ map (λ p. 0 ∷ []) ps ∷ edges ∷ (range 0 (length edges) ∷ []) ∷ [];
+}
+
+abbrev pub triangleOf : (d : ℕ) → List (List ℕ) → Concrete
+triangleOf = polygon ((0 ∷ 1 ∷ []) ∷ (1 ∷ 2 ∷ []) ∷ (0 ∷ 2 ∷ []) ∷ [])
+
+-- Clean solids of rank 2: one with two members; two whose search is refused 11 and 10 before it makes a candidate; two with a candidate that is no member.
+pub clean-dyads : map cleanSheet (dyad ∷ lopsided ∷ tiny ∷ unequal ∷ listedNearer ∷ [])
+    ≡ passed true ∷ passed true ∷ passed true ∷ passed true ∷ passed true ∷ []
+unfolding evaluate
+clean-dyads = refl
+
+-- The distances 0 and 1e-7 are both listed, and each is nearer than EPS to itself alone. (The search is refused 9.)
+pub clean-close : cleanSheet close ≡ passed true
+unfolding evaluate
+clean-close = refl
+
+-- The triangle, D = 1, at 0, 1e-7 and 0.5e-7: any two coordinates differ by at most EPS, and the third distance is nearer than EPS to both others.
+pub not-clean-between : clean (triangleOf 1 ((0 ∷ []) ∷ (0x3e7ad7f29abcaf48 ∷ []) ∷ (0x3e6ad7f29abcaf48 ∷ []) ∷ [])) ≡ false
+unfolding evaluate
+not-clean-between = refl
+
+-- The distances 0, 0.6e-7 and 1.2e-7: the second takes the first value, and the third lists another that is near the second too.
+pub not-clean-whole-list : cleanDistances (map (ofBits binary64) (0 ∷ 0x3e701b2b29a4692b ∷ 0x3e801b2b29a4692b ∷ [])) ≡ false
+unfolding evaluate
+not-clean-whole-list = refl
+
+-- The same in a triangle whose coordinates and images are clean: (1,0), (−0.50000003,0.86602546), (−0.50000006,−0.86602551). No distance is near two listed values when
+-- it is taken, and yet the Rust has 6 types and 1 member where these definitions have 4 and 2.
+pub not-clean-later : clean (triangleOf 2 ((0x3ff0000000000000 ∷ 0 ∷ []) ∷ (0xbfe00000101b2b2a ∷ 0x3febb67b068681e5 ∷ []) ∷ (0xbfe0000020365653 ∷ 0xbfebb67b215e7480 ∷ []) ∷ [])) ≡ false
+unfolding evaluate
+not-clean-later = refl
+
+-- The quadrangle (−1,−1), (1,−1), (4.5e-8,1), (−6e-8,1). Under the mirror the third vertex's image is near the third and the fourth; the lowest number makes the
+-- mirror no member, so that the images of members alone would be clean. The Rust takes the least point, and has the mirror.
+pub not-clean-candidate : clean (polygon ((0 ∷ 1 ∷ []) ∷ (1 ∷ 2 ∷ []) ∷ (2 ∷ 3 ∷ []) ∷ (0 ∷ 3 ∷ []) ∷ []) 2 (
+    (0xbff0000000000000 ∷ 0xbff0000000000000 ∷ [])
+    ∷ (0x3ff0000000000000 ∷ 0xbff0000000000000 ∷ [])
+    ∷ (0x3e6828c0be769dc1 ∷ 0x3ff0000000000000 ∷ [])
+    ∷ (0xbe701b2b29a4692b ∷ 0x3ff0000000000000 ∷ [])
+    ∷ [])) ≡ false
+unfolding evaluate
+not-clean-candidate = refl
 
 -- ---- sweeps
 

@@ -18,6 +18,7 @@ pub mod Solid
 pub mod Flags
 pub mod Classes
 pub mod Search
+pub mod Clean
 pub mod Calls
 pub mod Ascii
 pub mod KitText

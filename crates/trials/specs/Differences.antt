@@ -1,17 +1,22 @@
--- docs/DIFFERENCES.md: on each smallest input where the Rust differs, what document 01's definitions give.
+-- docs/DIFFERENCES.md: on each smallest input where the Rust differs, what document 01's definitions give, and whether the input is clean (section 6).
 -- Assumes nothing.
 use mathlib.Core.Path.{_≡_, refl}
 use Prim.Native.Nat.{ℕ}
+use mathlib.Core.Bool.{true, false}
 use mathlib.Core.List.{List, [], _∷_, map}
 use lib.ListN.{replicate}
-use lib.Ieee.{binary64, ofBits}
+use lib.Ieee.{Float, binary64, ofBits}
 use Rattle.spec.specs.declared.Answer.the-variants.{Done}
 use Rattle.spec.specs.Ascii.{ascii}
 use Rattle.spec.specs.Copying.{copyCall}
 use Rattle.spec.specs.Calls.{searchCall}
 use Rattle.spec.specs.KitText.{kitText}
+use Rattle.spec.specs.Judged.{passed}
+use Rattle.spec.specs.Clean.{clean, cleanCopying}
+use Rattle.spec.specs.CallExamples.{polygon, triangleOf, cleanSheet}
 use Rattle.spec.specs.Eval.{evaluate}
 use Rattle.spec.specs.NumberExamples.{all}
+use Rattle.trials.specs.Sheets.{square, triangle, sliver}
 
 -- a distance near two listed values takes the smallest
 abbrev nearTwo : List ℕ
@@ -92,3 +97,76 @@ pub foundCopies : copyCall 2 (map (ofBits binary64) (0x0000000000000000 ∷ 0x40
     ≡ (Done 2, map (ofBits binary64) (0x0000000000000000 ∷ 0x4014000000000000 ∷ 0x3e75798ee2308c3a ∷ 0x0000000000000000 ∷ []), 0 ∷ 1 ∷ 0 ∷ 1 ∷ [])
 unfolding all
 foundCopies = refl
+
+-- ---- clean
+
+-- the five solids above that differ because they are not clean
+pub not-clean : map cleanSheet (nearTwo ∷ listedOnce ∷ nearTwoVertices ∷ nearOnAxis ∷ nearSquare ∷ [])
+    ≡ passed false ∷ passed false ∷ passed false ∷ passed false ∷ passed false ∷ []
+unfolding evaluate
+not-clean = refl
+
+-- the solids that differ because document 01 refuses them, 11, 9, 12 and 8, are clean
+pub clean-refused : map cleanSheet (notFinite ∷ doubleCorner ∷ sliver ∷ (96 ∷ 0 ∷ 128 ∷ 8 ∷ 0 ∷ 128 ∷ 0 ∷ 1 ∷ 0 ∷ 32 ∷ 0 ∷ 0 ∷ 64 ∷ []) ∷ [])
+    ≡ passed true ∷ passed true ∷ passed true ∷ passed true ∷ []
+unfolding evaluate
+clean-refused = refl
+
+-- and so is the triangle (1048576,0), (1048576,1e-308), (0,1), which is refused 9
+pub clean-refused-9 : clean (triangleOf 2 ((0x4130000000000000 ∷ 0 ∷ []) ∷ (0x4130000000000000 ∷ 0x000730d67819e8d2 ∷ []) ∷ (0 ∷ 0x3ff0000000000000 ∷ []) ∷ [])) ≡ true
+unfolding evaluate
+clean-refused-9 = refl
+
+-- two trial solids; the second has its facets exchanged
+pub clean-solids : map cleanSheet (square ∷ triangle ∷ []) ≡ passed true ∷ passed true ∷ []
+unfolding evaluate
+clean-solids = refl
+
+-- The hexagon whose edges 0, 1 and 2 lie 9e-8, 2e-8 and 1.84e-7 from the origin. As read, the second and the third take the first's distance, the only one listed near
+-- them; with edge 2 in the place of edge 0 their own are listed, and edge 0's is near both
+pub not-clean-exchanged : clean (polygon ((0 ∷ 1 ∷ []) ∷ (2 ∷ 3 ∷ []) ∷ (4 ∷ 5 ∷ []) ∷ (1 ∷ 2 ∷ []) ∷ (3 ∷ 4 ∷ []) ∷ (0 ∷ 5 ∷ []) ∷ []) 2 (
+    (0x3ff0000000000000 ∷ 0x3e7828c0be769dc1 ∷ [])
+    ∷ (0xbff0000000000000 ∷ 0x3e7828c0be769dc1 ∷ [])
+    ∷ (0x3e55798ee2308c3a ∷ 0x3ff0000000000000 ∷ [])
+    ∷ (0x3e55798ee2308c3a ∷ 0xbff0000000000000 ∷ [])
+    ∷ (0x400000001172c418 ∷ 0x3fffffffdd1a77d0 ∷ [])
+    ∷ (0xbfffffffdd1a77d0 ∷ 0xc00000001172c418 ∷ [])
+    ∷ [])) ≡ false
+unfolding evaluate
+not-clean-exchanged = refl
+
+-- points, and matrices, by their bit patterns
+abbrev vecs : List (List ℕ) → List (List Float)
+vecs l = map (map (ofBits binary64)) l
+
+abbrev one : List (List ℕ)
+one = (0x3ff0000000000000 ∷ 0 ∷ []) ∷ (0 ∷ 0x3ff0000000000000 ∷ []) ∷ []
+
+-- (1,0) under the four quarter turns is clean
+pub clean-quarter-turns : cleanCopying 2 (vecs ((0x3ff0000000000000 ∷ 0 ∷ []) ∷ [])) (map vecs (
+    one
+    ∷ ((0 ∷ 0xbff0000000000000 ∷ []) ∷ (0x3ff0000000000000 ∷ 0 ∷ []) ∷ [])
+    ∷ ((0xbff0000000000000 ∷ 0 ∷ []) ∷ (0 ∷ 0xbff0000000000000 ∷ []) ∷ [])
+    ∷ ((0 ∷ 0x3ff0000000000000 ∷ []) ∷ (0xbff0000000000000 ∷ 0 ∷ []) ∷ [])
+    ∷ [])) ≡ true
+unfolding evaluate
+clean-quarter-turns = refl
+
+-- 0 and 0.9e-7 under [1] and [2]: the second point is found and never multiplied, so that it has no image, which would be 1.8e-7
+pub clean-found : cleanCopying 1 (vecs ((0 ∷ []) ∷ (0x3e7828c0be769dc1 ∷ []) ∷ [])) (map vecs (((0x3ff0000000000000 ∷ []) ∷ []) ∷ ((0x4000000000000000 ∷ []) ∷ []) ∷ [])) ≡ true
+unfolding evaluate
+clean-found = refl
+
+-- the two copyings above are not clean
+pub not-clean-near-two-copies : cleanCopying 1 (vecs ((0x3e7ad7f29abcaf48 ∷ []) ∷ [])) (map vecs (((0x3ff0000000000000 ∷ []) ∷ []) ∷ ((0xbff0000000000000 ∷ []) ∷ []) ∷ ((0 ∷ []) ∷ []) ∷ [])) ≡ false
+unfolding evaluate
+not-clean-near-two-copies = refl
+
+pub not-clean-found-copies : cleanCopying 2 (vecs ((0 ∷ 0x4014000000000000 ∷ []) ∷ (0x3e75798ee2308c3a ∷ 0 ∷ []) ∷ [])) (map vecs (one ∷ ((0x3ff0000000000000 ∷ 0xbe45798ee2308c3a ∷ []) ∷ (0 ∷ 0x3ff0000000000000 ∷ []) ∷ []) ∷ [])) ≡ false
+unfolding evaluate
+not-clean-found-copies = refl
+
+-- nor is (0,5), (8e-8,0), (−5e-8,5) under the identity
+pub not-clean-points : cleanCopying 2 (vecs ((0 ∷ 0x4014000000000000 ∷ []) ∷ (0x3e75798ee2308c3a ∷ 0 ∷ []) ∷ (0xbe6ad7f29abcaf48 ∷ 0x4014000000000000 ∷ []) ∷ [])) (map vecs (one ∷ [])) ≡ false
+unfolding evaluate
+not-clean-points = refl
