@@ -27,7 +27,8 @@ use Rattle.spec.specs.Ascii.{ascii}
 use Rattle.spec.specs.KitText.{digits, decimal, refusedLine, typesLines, lastLine, elementCells, typeRecords, workWords, workFloats, longest, afterTypes, kitText}
 use Rattle.spec.specs.CallLaws.{NoProperRank, EveryLowSheet}
 use Rattle.spec.specs.KitLaws.{KitLaws}
-use Rattle.spec.proofs.Accepted.{read-rank, every-passed}
+use Rattle.spec.proofs.Accepted.{read-rank}
+use Rattle.spec.proofs.NeverUnsettled.{never-unsettled}
 use Rattle.spec.proofs.SheetBits.{sheet-reads}
 use Rattle.spec.proofs.RoundTrip.{holds-length, sheet-of}
 
@@ -91,7 +92,7 @@ module _ (b : List ℕ) (p : Parsed) (e : readSheet b ≡ passed p) (h : p .rank
     accepted = rw (e, least-room (solidOf p) low words floats w f, all-bound (solidOf p) low, all-diamonds (solidOf p) low) refl
 
     settled : (z : State) × (typesOf solid ≡ some z)
-    settled = go (typesOf solid) (every-passed b words floats solid accepted .settled)
+    settled = go (typesOf solid) (never-unsettled .types solid)
       where
         go : (o : Option State) → o ≢ none → (z : State) × (o ≡ some z)
         go none k = absurd (k refl)
