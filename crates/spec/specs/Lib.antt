@@ -33,3 +33,4 @@ pub mod TypeLaws
 pub mod Demand3Calls
 pub mod Pack
 pub mod Polytope
+pub mod DemandExamples
