@@ -34,3 +34,4 @@ pub mod Demand3Calls
 pub mod Pack
 pub mod Polytope
 pub mod DemandExamples
+pub mod PolytopeExamples
