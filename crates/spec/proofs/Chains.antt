@@ -9,6 +9,7 @@ use native.Mathlib.Nat.{le-antisymm}
 use native.Mathlib.Omega.{arith}
 use native.Mathlib.Decide.{ℕ-discrete, decLt}
 use lib.ListN.{length, length-map, List·getD-append}
+use lib.Seq.{ext-getD}
 use lib.Dec.{eqb}
 use Rattle.spec.specs.Lists.{In, range}
 use Rattle.spec.specs.Types.{Solid, top, subs}
@@ -52,7 +53,7 @@ module _ (s : Solid) where
     λ w. record { chain = w .0; largest = λ D d i F m. w .1 F (d .elements F m) (λ G n. d .comparable F G m (i G n)) },
   )
 
-  -- one set is maximal where another list of it is
+  -- whether a list is a maximal chain depends only on the set that it stands for
   same-maximal : (C D : List Element) → SameSet C D → IsMaximal s D → IsMaximal s C
   same-maximal C D e w = record {
     chain = record {
@@ -135,7 +136,8 @@ module _ (s : Solid) (v : Sound s) (full : Filled s) (b : bound s ≡ true) wher
     has-top : In (topElement s) C
     has-top = sat (topElement s) (top-is s v) (λ G m. inr (top-over s v full b G (w .chain .elements G m)))
 
-    -- of the members below a member of rank r + 1 let H be the highest: whatever stands between the two and is a sub of the upper one is comparable with all of C
+    -- Let H be the highest of the members of rank r or less. It is at most a sub X of the given member of rank r + 1. Every member is either at most H or at
+    -- least the given one, so X is comparable with all of them, and is a member itself
     sub-in : (r e : ℕ) → In (element (suc r) e) C → (x : ℕ) × In x (subs s (suc r) e) × In (element r x) C
     sub-in r e m =
         let G = element (suc r) e in
@@ -156,7 +158,7 @@ module _ (s : Solid) (v : Sound s) (full : Filled s) (b : bound s ≡ true) wher
         at L n h mH X a c (yes l) = inr (transitive (by-rank (w .chain .comparable L (h .it) n mH) (h .over-all L n l)) a)
         at L n h mH X a c (no l) = inl (transitive (over itself c) (by-rank (w .chain .comparable (element (suc r) e) L m n) (omega arith)))
 
-    -- the flag below a member
+    -- from any member the chain goes down, rank by rank, as a flag up to that member
     down : (r e : ℕ) → In (element r e) C → (F : Flag) × To s r e F × ((q : ℕ) → q ≤ r → In (element q (elementAt F q)) C)
     down zero e m = (
       e ∷ [],
@@ -280,10 +282,12 @@ pub every-maximal-chain : EveryMaximalChain
 every-maximal-chain s v full b = record {
   saturated = saturated s;
   flag = λ F. (flag-maximal s v full b F, maximal-flag s v full b F);
+  exact = λ C. (flag-of s v full b C, λ k. same-maximal s C (elementsOf (k .0)) (k .2) (flag-maximal s v full b (k .0) (k .1)));
   listed = λ C. (
     λ w. let F = flag-of s v full b C w in (F .0, every-flag-once s v .exact (F .0) .1 (F .1), F .2),
     λ k. same-maximal s C (elementsOf (k .0)) (k .2) (flag-maximal s v full b (k .0) (every-flag-once s v .exact (k .0) .0 (k .1))),
   );
+  only = λ F G w u e. ext-getD 0 F G (w .ranks ∙ sym (u .ranks)) (λ i h. of-flag G _ (e .0 _ (in-flag F i h)) .1);
   one-each = one-each s v full b;
   as-many = as-many s v full b;
 }

@@ -33,7 +33,7 @@ in-every p (x ∷ l) f = rw (f x (inl refl), every) (in-every p l (λ y m. f y (
 pub keep-same : (p q : ℕ → Bool) → ((x : ℕ) → p x ≡ q x) → (l : List ℕ) → keep p l ≡ keep q l
 keep-same p q f l = ap (λ (r : ℕ → Bool). keep r l) (fun-ext f)
 
--- what swap comes to
+-- the three cases of `swap`: the number is 0, or it is f, or it is neither and stays
 data Swapped (f e : ℕ) : Type 0 where
   first : e ≡ 0 → swap f e ≡ f → Swapped f e
   second : e ≢ 0 → e ≡ f → swap f e ≡ 0 → Swapped f e
@@ -147,7 +147,7 @@ swap-sum l f h =
     first-stays (yes p) = rw p (getD-set-same l 0 (getD l 0 []) [] (omega arith))
     first-stays (no n) = getD-set-other l f 0 (getD l 0 []) [] (λ q. n (sym q))
 
--- twice is not at all
+-- exchanging the same facet twice changes nothing
 pub exchange-twice : (s : Solid) (f : ℕ) → f < size s (top s - 1) → exchangedIn (exchangedIn s f) f ≡ s
 unfolding exchangedIn
 exchange-twice [] f low = absurd (omega arith)

@@ -104,7 +104,7 @@ module _ (s : Solid) (v : Sound s) where
         let m = in-getD 0 (subs s (suc r) e) 0 (full r e h) in
         over (from-least r (getD (subs s (suc r) e) 0 0) (v .below r e _ m)) (refl, m)
 
-    -- the test behind refusal 5, at an element
+    -- what the test behind refusal 5 says of one element
     has-sup : bound s ≡ true → (r e : ℕ) → 0 < r → suc r < top s → e < size s r → (f : ℕ) × (f < size s (suc r)) × In e (subs s (suc r) f)
     unfolding bound
     has-sup b r e h₀ h₁ low =
@@ -115,7 +115,7 @@ module _ (s : Solid) (v : Sound s) where
         let w = every-sups s .derived r e (getD (sups s r e) 0 0) .0 (in-getD 0 (sups s r e) 0 k) in
         (getD (sups s r e) 0 0, w .0, w .1)
 
-    -- d ranks below the top
+    -- by induction on d, how many ranks stand above r
     to-top : bound s ≡ true → (d r e : ℕ) → r + d ≡ top s → e < size s r → AtMost s (element r e) (topElement s)
     to-top b zero r e h low =
         let p : r ≡ top s = omega arith in

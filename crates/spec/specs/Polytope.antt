@@ -103,8 +103,11 @@ pub record MaximalChains (s : Solid) : Type 0 where
       ↔ (IsChain s C × ((F : Element) → IsElement s F → ((G : Element) → In G C → Comparable s F G) → In F C))
   -- a list of one element for each rank is a flag exactly when its elements are a maximal chain
   pub flag : (F : Flag) → IsFlag s F ↔ IsMaximal s (elementsOf F)
-  -- the maximal chains are exactly the sets of elements of the listed flags
+  -- the maximal chains are exactly the sets of elements of flags, and so of the listed flags
+  pub exact : (C : List Element) → IsMaximal s C ↔ ((F : Flag) × IsFlag s F × SameSet C (elementsOf F))
   pub listed : (C : List Element) → IsMaximal s C ↔ ((F : Flag) × In F (flags s) × SameSet C (elementsOf F))
+  -- each is that of one flag only
+  pub only : (F G : Flag) → IsFlag s F → IsFlag s G → SameSet (elementsOf F) (elementsOf G) → F ≡ G
   -- P2: every maximal chain has as many elements as there are ranks, exactly one of each
   pub one-each : (C : List Element) → IsMaximal s C → (r : ℕ) → r ≤ top s → (e : ℕ) × In (element r e) C × ((f : ℕ) → In (element r f) C → f ≡ e)
   pub as-many : (C : List Element) → IsMaximal s C → NoneTwice C → length C ≡ suc (top s)
