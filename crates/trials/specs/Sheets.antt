@@ -14,7 +14,7 @@ use Rattle.spec.specs.Eval.{evaluate}
 
 -- ---- sheets
 
--- (1,1), (−1,1), (−1,−1), (1,−1), edges 01, 12, 23, 03: 85 bytes
+-- (1,1), (−1,1), (−1,−1), (1,−1), edges 01, 12, 23, 03: 85 bytes. `Trials` proves that this and the next sheets are read so.
 abbrev pub square : List ℕ
 square =
     104 ∷ 1 ∷ 0 ∷ 16 ∷ 255 ∷ 192 ∷ 0 ∷ 0 ∷ 0 ∷ 0 ∷ 0 ∷ 0 ∷ 255 ∷ 192 ∷ 0 ∷ 0 ∷ 0 ∷ 0 ∷ 0 ∷ 2 ∷ 255 ∷ 192 ∷ 0 ∷ 0
@@ -58,9 +58,12 @@ pub kit-texts : map kitText (square ∷ doubled ∷ rhombus ∷ dyad ∷ lopside
 unfolding evaluate
 kit-texts = refl
 
--- ---- each refusal by its smallest sheet; 15 is never met, and 7, 12 and 13 stand below
+-- ---- each refusal by its smallest sheet; 15 is never met, and 7, 12 and 13 are shown further below
 
--- no field is whole; the last field is cut; a byte follows; a filling bit is 1; a byte follows 64 bits; R = 6; D = 5; a count of 0; a count of 2,049; an infinite coordinate; a coordinate too large; a list of length 0; a sub not below its count; subs falling; equal subs; a vertex in no list; that, and 6; one edge between the top and a vertex; 2,048 elements in kit's workspace; D ≠ R − 1; R = 1; R = 0
+-- The sheets are refused, in this order, because no field is whole, the last field is cut, a byte follows, a filling bit is 1, a byte follows after 64 bits;
+-- R is 6, D is 5, a count is 0, a count is 2,049; a coordinate is infinite, or too large; a list has the length 0, a sub is not below its count, subs fall,
+-- subs are equal; a vertex is in no list, and the same where 6 is met too; one edge alone lies between the top and a vertex; 2,048 elements are too many for
+-- the workspace that `kit` lends; and by the search, because D is not R − 1, R is 1, or R is 0.
 pub refusals : map kitText (
     ([])
     ∷ take 84 square
@@ -111,7 +114,7 @@ pub refusals : map kitText (
 unfolding evaluate
 refusals = refl
 
--- a quadrangle so thin that the first flag misses its own vertices
+-- A quadrangle so thin that the candidate of the first flag misses the quadrangle's own vertices.
 abbrev pub sliver : List ℕ
 sliver =
     104 ∷ 1 ∷ 0 ∷ 17 ∷ 2 ∷ 61 ∷ 0 ∷ 0 ∷ 0 ∷ 0 ∷ 0 ∷ 0 ∷ 255 ∷ 192 ∷ 0 ∷ 0 ∷ 0 ∷ 0 ∷ 0 ∷ 1 ∷ 4 ∷ 173 ∷ 221 ∷ 0
@@ -134,14 +137,14 @@ whole = refl
 
 -- ---- more solids
 
--- (−1,0), (1,0), (0,1), edges 01, 12, 02: the first edge passes through the origin, and the second changes places with it
+-- (−1,0), (1,0), (0,1), edges 01, 12, 02: the first edge passes through the origin, and the second edge changes places with it.
 abbrev pub triangle : List ℕ
 triangle =
     104 ∷ 0 ∷ 192 ∷ 14 ∷ 255 ∷ 192 ∷ 0 ∷ 0 ∷ 0 ∷ 0 ∷ 0 ∷ 0 ∷ 0 ∷ 0 ∷ 0 ∷ 0 ∷ 0 ∷ 0 ∷ 0 ∷ 0 ∷ 255 ∷ 192 ∷ 0 ∷ 0
     ∷ 0 ∷ 0 ∷ 0 ∷ 0 ∷ 0 ∷ 0 ∷ 0 ∷ 0 ∷ 0 ∷ 0 ∷ 0 ∷ 0 ∷ 0 ∷ 0 ∷ 0 ∷ 0 ∷ 0 ∷ 0 ∷ 0 ∷ 0 ∷ 255 ∷ 192 ∷ 0 ∷ 0
     ∷ 0 ∷ 0 ∷ 0 ∷ 0 ∷ 0 ∷ 128 ∷ 0 ∷ 1 ∷ 0 ∷ 32 ∷ 2 ∷ 0 ∷ 128 ∷ 8 ∷ 0 ∷ 0 ∷ 32 ∷ []
 
--- a regular tetrahedron: R = 4
+-- A regular tetrahedron, so that R is 4.
 abbrev pub tetrahedron : List ℕ
 tetrahedron =
     140 ∷ 1 ∷ 0 ∷ 24 ∷ 1 ∷ 15 ∷ 252 ∷ 0 ∷ 0 ∷ 0 ∷ 0 ∷ 0 ∷ 0 ∷ 15 ∷ 252 ∷ 0 ∷ 0 ∷ 0 ∷ 0 ∷ 0 ∷ 0 ∷ 15 ∷ 252 ∷ 0
@@ -152,7 +155,7 @@ tetrahedron =
     ∷ 0 ∷ 128 ∷ 48 ∷ 2 ∷ 0 ∷ 64 ∷ 12 ∷ 0 ∷ 192 ∷ 0 ∷ 1 ∷ 0 ∷ 96 ∷ 6 ∷ 0 ∷ 0 ∷ 16 ∷ 4 ∷ 0 ∷ 48 ∷ 2 ∷ 0 ∷ 128 ∷ 40
     ∷ 1 ∷ 128 ∷ 48 ∷ 8 ∷ 1 ∷ 64 ∷ []
 
--- six vertices that a mirror takes to one another within EPS, and their edges not
+-- Six vertices that a mirror takes to one another within EPS, while it does not take edges to edges.
 abbrev pub crowded : List ℕ
 crowded =
     104 ∷ 1 ∷ 128 ∷ 24 ∷ 255 ∷ 128 ∷ 0 ∷ 0 ∷ 0 ∷ 0 ∷ 0 ∷ 0 ∷ 255 ∷ 224 ∷ 0 ∷ 0 ∷ 0 ∷ 0 ∷ 0 ∷ 2 ∷ 255 ∷ 128 ∷ 0 ∷ 0
@@ -174,20 +177,20 @@ pub solid : kitText tetrahedron ≡ ascii "types 3\n1 0 0 4\n2 0 0 6\n3 0 0 4\nm
 unfolding evaluate
 solid = refl
 
--- ---- the calls, with old cells of 7 and of 2.0
+-- ---- the calls, whose outputs hold 7 and 2.0 before
 
--- the doubled square's types, in a workspace that just suffices: E = 8, I = 8; cells past the answer keep their values
+-- The doubled square's types, in a workspace that just suffices, for E = 8 and I = 8. Cells past the answer keep their values.
 pub types-given : typesCall doubled 320 128 (typesOld 9 13)
     ≡ (Done 3, record { elements = 0 ∷ 0 ∷ 0 ∷ 0 ∷ 0 ∷ 1 ∷ 0 ∷ 1 ∷ 7 ∷ []; types = 1 ∷ 0 ∷ 0 ∷ 4 ∷ 2 ∷ 0 ∷ 0 ∷ 2 ∷ 2 ∷ 1 ∷ 1 ∷ 2 ∷ 7 ∷ [] })
 unfolding evaluate
 types-given = refl
 
--- a word less, a float less: 7
+-- With one word less, or one float less, the answer is 7.
 pub bench : typesCall doubled 319 128 (typesOld 9 13) ≡ (Refused Bench 0, typesOld 9 13)
 unfolding evaluate
 bench = refl
 
--- 7 comes before 5 and 6
+-- 7 comes before 5 and 6, which this sheet would meet too.
 pub bench-first : typesCall (96 ∷ 0 ∷ 192 ∷ 4 ∷ 0 ∷ 128 ∷ 0 ∷ 1 ∷ []) 0 0 (typesOld 9 13) ≡ (Refused Bench 0, typesOld 9 13)
 unfolding evaluate
 bench-first = refl
@@ -196,7 +199,7 @@ pub bench-floats : typesCall doubled 320 127 (typesOld 9 13) ≡ (Refused Bench 
 unfolding evaluate
 bench-floats = refl
 
--- an element's cell less, a type's cell less: 13, and nothing is written
+-- With a cell less for the elements, or for the types, the answer is 13, and nothing is written.
 pub short-elements : typesCall doubled 320 128 (typesOld 7 13) ≡ (Refused ShortSheet 0, typesOld 7 13)
 unfolding evaluate
 short-elements = refl
@@ -205,7 +208,7 @@ pub short-types : typesCall doubled 320 128 (typesOld 9 11) ≡ (Refused ShortSh
 unfolding evaluate
 short-types = refl
 
--- the square's eight members, row by row; one cell more than needed in each output (0x4000.. is 2.0)
+-- The square's eight members, row by row. Each output has one cell more than needed, and keeps it (0x4000.. is 2.0).
 pub square-members : shown (searchCall square 4096 2048 (searchOld 33 33 9))
     ≡ (
       Done 8,
@@ -232,7 +235,7 @@ pub square-members : shown (searchCall square 4096 2048 (searchOld 33 33 9))
 unfolding evaluate
 square-members = refl
 
--- its four rotations
+-- The square's four rotations.
 pub square-rotations : shown (rotationsCall square 4096 2048 (searchOld 16 16 4))
     ≡ (
       Done 4,
@@ -249,7 +252,7 @@ pub square-rotations : shown (rotationsCall square 4096 2048 (searchOld 16 16 4)
 unfolding evaluate
 square-rotations = refl
 
--- room for two members and a half: 13, and two are kept
+-- With floats for two matrices and a half the answer is 13, and two members are kept.
 pub square-short : shown (searchCall square 4096 2048 (searchOld 11 100 100))
     ≡ (
       Refused ShortSheet 2,
@@ -262,12 +265,12 @@ pub square-short : shown (searchCall square 4096 2048 (searchOld 11 100 100))
 unfolding evaluate
 square-short = refl
 
--- rows for two members and a quarter: the same
+-- With row entries for two members and a quarter the answer is the same.
 pub square-short-rows : searchCall square 4096 2048 (searchOld 32 9 8) .0 ≡ Refused ShortSheet 2
 unfolding evaluate
 square-short-rows = refl
 
--- no room for one: 13, and nothing is written
+-- Without room for a single member the answer is 13, and nothing is written.
 pub square-none : searchCall square 4096 2048 (searchOld 32 32 0) ≡ (Refused ShortSheet 0, searchOld 32 32 0)
 unfolding evaluate
 square-none = refl
