@@ -159,7 +159,7 @@ search-lengths o s old =
     (written-length _ (old .matrices) (c .matrices), written-length _ (old .rows) (c .rows), written-length _ (old .marks) (c .marks))
 
 search-laws : (inside : List ℕ → ℕ → ℕ → Judged (Concrete × List Member)) → ((b : List ℕ) (words floats : ℕ) → Shaped (inside b words floats)) → ((b : List ℕ) (words floats : ℕ) → Spares (inside b words floats))
-    → SearchLaws inside (λ b words floats old. searchWritten (outcome (inside b words floats) (roomOf old)) old)
+    → SearchLaws (λ b words floats old. searchWritten (outcome (inside b words floats) (roomOf old)) old) inside
 unfolding searchWritten
 search-laws inside shaped spares = record {
   some-member = λ b words floats old. ended-some (inside b words floats) old _ (ends b words floats old);

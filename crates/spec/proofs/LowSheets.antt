@@ -124,7 +124,7 @@ module _ (b : List ℕ) (p : Parsed) (e : readSheet b ≡ passed p) (h : p .rank
 pub every-low-sheet : EveryLowSheet
 every-low-sheet b p e h words floats w f = no-proper-rank b p e h words floats w f
 
--- ---- such a sheet has at most 33 bytes
+-- ---- such a sheet has at most 33 bytes: six bits, and four coordinates at most
 
 bits-length : (w n : ℕ) → length (bitsOf w n) ≡ w
 unfolding bitsOf
@@ -152,7 +152,7 @@ few-bits d [] k f = omega arith
 few-bits d (v ∷ []) k f = rw (append-nil, point-length v, f v (inl refl)) (omega arith)
 few-bits d (v ∷ u ∷ vs) k f = absurd (omega arith)
 
-few-bytes : (b : List ℕ) (p : Parsed) → readSheet b ≡ passed p → p .rank < 2 → length b ≤ longest
+few-bytes : (b : List ℕ) (p : Parsed) → readSheet b ≡ passed p → p .rank < 2 → length b ≤ 33
 unfolding packBits vertexCount
 few-bytes b p e h =
     let s = sheet-of b p e in
@@ -179,5 +179,5 @@ pub kit-laws : KitLaws
 unfolding kitText afterTypes refusedLine typesLines lastLine outcome decimal digits join ascii
 kit-laws = record {
   long = λ b h. rw (lt-ltb longest (length b) h, kitText) refl;
-  low = λ b p e r. rw (le-ltb longest (length b) (few-bytes b p e r), kitText, no-types b p e r workWords workFloats (omega arith) (omega arith) elementCells typeRecords, not-full b p e r workWords workFloats (omega arith) (omega arith)) refl;
+  low = λ b p e r. rw (le-ltb longest (length b) (omega (arith, few-bytes b p e r)), kitText, no-types b p e r workWords workFloats (omega arith) (omega arith) elementCells typeRecords, not-full b p e r workWords workFloats (omega arith) (omega arith)) refl;
 }

@@ -57,7 +57,7 @@ pub record FirstMembers (o : Judged (Concrete × List Member)) (old new : Search
   pub hold : HoldMembers (take k members) old new
 
 -- The laws of a search call, or of a rotations call. `inside` lists all members, or all rotations, of a sheet's solid.
-pub record SearchLaws (inside : List ℕ → ℕ → ℕ → Judged (Concrete × List Member)) (call : List ℕ → ℕ → ℕ → SearchOut → Answer × SearchOut) : Type 0 where
+pub record SearchLaws (call : List ℕ → ℕ → ℕ → SearchOut → Answer × SearchOut) (inside : List ℕ → ℕ → ℕ → Judged (Concrete × List Member)) : Type 0 where
   -- An empty list is never a success.
   pub some-member : (b : List ℕ) (words floats : ℕ) (old : SearchOut) (n : ℕ) → call b words floats old .0 ≡ Done n → 0 < n
   pub done : (b : List ℕ) (words floats : ℕ) (old : SearchOut) (n : ℕ) → call b words floats old .0 ≡ Done n → AllMembers (inside b words floats) old (call b words floats old .1) n
@@ -97,8 +97,8 @@ pub record NoRoom (b : List ℕ) (words floats : ℕ) (old : TypesOut) (k : ℕ)
   pub exceed : (length (old .elements) < length (out .elements)) ⊎ (length (old .types) < 4 * length (out .types))
 
 pub record CallLaws : Type 0 where
-  pub searches : SearchLaws membersIn searchCall
-  pub rotations : SearchLaws rotationsIn rotationsCall
+  pub searches : SearchLaws searchCall membersIn
+  pub rotations : SearchLaws rotationsCall rotationsIn
   pub types-done : (b : List ℕ) (words floats : ℕ) (old : TypesOut) (n : ℕ) → typesCall b words floats old .0 ≡ Done n → AllTypes b words floats old (typesCall b words floats old .1) n
   -- 13: "types .. exceed their buffers"
   pub types-short : (b : List ℕ) (words floats : ℕ) (old : TypesOut) (k : ℕ) → typesCall b words floats old .0 ≡ Refused ShortSheet k → NoRoom b words floats old k
