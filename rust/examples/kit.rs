@@ -30,16 +30,16 @@ fn members_line(sheet: &[u8]) -> Result<String> {
     let n = search_into(sheet, &mut words, &mut floats, out)?;
     // with enough space for every member the same comes out
     let all = search(sheet)?;
-    assert_eq!(all.matrices, matrices[..all.matrices.len()]);
-    assert_eq!(all.rows, rows[..all.rows.len()]);
-    assert_eq!(all.marks, marks[..n]);
+    assert_eq!(all.matrices(), &matrices[..all.matrices().len()]);
+    assert_eq!(all.rows(), &rows[..all.rows().len()]);
+    assert_eq!(all.marks(), &marks[..n]);
     let confirmed = marks[..n].iter().filter(|m| **m == 1).count();
     let out = Outputs { matrices: &mut matrices, rows: &mut rows, marks: &mut marks };
     let turning = match rotations_into(sheet, &mut words, &mut floats, out) {
         Err(refused) if refused.why == Refusal::Blank => 0,
         answer => answer?,
     };
-    assert!(rotations(sheet).map_or(turning == 0, |r| r.rows == rows[..r.rows.len()] && r.marks.len() == turning));
+    assert!(rotations(sheet).map_or(turning == 0, |r| r.rows() == &rows[..r.rows().len()] && r.len() == turning));
     Ok(format!("members {} confirmed {} rotations {}\n", n, confirmed, turning))
 }
 
