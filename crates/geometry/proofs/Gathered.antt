@@ -1,12 +1,12 @@
 -- The loop over the points of a hull: what is left to add gives what the whole list gives.
 -- Assumes nothing.
 use mathlib.Core.Path.{_≡_, refl, sym, ap, _∙_}
-use mathlib.Core.List.{List, [], _∷_, _++_, map}
+use mathlib.Core.List.{List, [], _∷_, map}
 use Prim.Native.Nat.{ℕ, _+_, _*_, _≤_, _<_}
 use native.Mathlib.Numerals.{add-one}
 use native.Mathlib.Omega.{arith}
 use lib.ListN.{take, drop, length, getD, length-append, length-drop, drop-of-length-le}
-use lib.Seq.{drop-cons, getD-take, take-at, length-take-le}
+use lib.Seq.{drop-cons, getD-take, length-take-le}
 use lib.Ieee.{Float}
 use borrow.Author.Tests.{eq-eqb, ne-eqb}
 use Rattle.spec.specs.Matrix.{Vector}
@@ -56,10 +56,6 @@ part-is d n points l i v p all h ev ep =
     let e = ep ∙ ap (pointAt d points) ev in
     let k = all i h in
     (e, ap length e ∙ length-take-le d _ (rw length-drop (omega arith)))
-
--- what is loaded of it
-pub loaded : {d : ℕ} {p q : Vector} (r z : Vector) → r ≡ p ++ z → (p ≡ q) × (length p ≡ d) → take d r ≡ q
-loaded {d} {p} r z e h = ap (take d) e ∙ take-at p z d (h .1) ∙ h .0
 
 -- ---- the loop
 

@@ -9,9 +9,8 @@ ghost use Rattle.geometry.specs.Reading.{pointAt};
 use crate::hull::Hull;
 use crate::hull::Joined;
 use float::points::point;
-use float::vector;
 
-// The number at i.
+// The list's number i, as an index.
 fn number(list: &[u16], i: usize) -> usize
     requires { ⌜ i < length (now list) ⌝ }
     ensures { λ r. ⌜ r ≡ getD (now (list .entry)) i 0 ⌝ }
@@ -19,13 +18,14 @@ fn number(list: &[u16], i: usize) -> usize
     list[i] as usize
 }
 
-// The distance of the hull of the points with the first n numbers of the list, taken in that order. "Stop at D vectors": k counts those that joined.
+// The distance of the hull of the points with the first n numbers of the list, taken in that order. Each point is handed on as the part of the
+// slice that holds it. "Stop at D vectors": k counts those that joined.
 pub fn distance_of(points: &[f64], d: usize, list: &[u16], n: usize) -> f64
     requires { ⌜ (d ≤ maxDimension) × (0 < n) × (n ≤ length (now list)) × ((j : ℕ) → j < n → (getD (now list) j 0 + 1) * d ≤ length (now points)) ⌝ }
     ensures { λ r. ⌜ r ≡ distance d (hullOf d (map (pointAt d (now (points .entry))) (take n (now (list .entry))))) ⌝ }
 {
     let first = number(list, 0);
-    let mut hull = Hull::empty(vector::load(point(points, d, first)));
+    let mut hull = Hull::empty(point(points, d, first));
     let mut k: usize = 0;
     let mut i: usize = 1;
     while i < n {
@@ -33,7 +33,7 @@ pub fn distance_of(points: &[f64], d: usize, list: &[u16], n: usize) -> f64
             return hull.distance(d);
         }
         let v = number(list, i);
-        let added = hull.add(vector::load(point(points, d, v)), d);
+        let added = hull.add(point(points, d, v));
         let next = added.hull;
         hull = next;
         let joined = added.joined;

@@ -1,7 +1,8 @@
-// Hulls in a dimension d up to DIMENSION: the first d entries of the offset and of each vector of the basis count.
+// Hulls of points, in a dimension d up to DIMENSION: the first d entries of the offset and of each vector of the basis count. A point is taken as
+// the part of the coordinate slice that holds it, and d is that part's length.
 ghost use mathlib.Core.Path.{_≡_};
 ghost use mathlib.Core.List.{[], map};
-ghost use Prim.Native.Nat.{ℕ, _+_, _*_, _≤_, _<_};
+ghost use Prim.Native.Nat.{_+_, _*_, _≤_, _<_};
 ghost use lib.ListN.{length, take, drop};
 ghost use Rattle.spec.specs.Limits.{maxDimension};
 ghost use Rattle.spec.specs.Float.{plus, times, over, zip};
@@ -14,26 +15,26 @@ use float::vector;
 // The room for a basis: vector k stands at k * DIMENSION.
 const ROOM: usize = DIMENSION * DIMENSION;
 
-// "The hull holds an offset (first vertex) and a basis of floats": count vectors of it are there.
+// "The hull holds an offset (first vertex) and a basis of floats": the first `count` vectors of the basis are there.
 pub struct Hull {
     pub offset: [f64; DIMENSION],
     pub basis: [f64; ROOM],
     pub count: usize,
 }
 
-// What adding answers: a vector of this length joined the basis, or nothing.
+// What adding answers: a vector, which had this length before it was divided by it, joined the basis; or nothing joined.
 pub enum Joined {
     Length(f64),
     Nothing,
 }
 
-// The hull afterwards, and the answer.
+// The hull after adding, and beside it the answer: an enum that held the hull's arrays would leave its functions to a proof by hand.
 pub struct Added {
     pub hull: Hull,
     pub joined: Joined,
 }
 
-// q plus b times s.
+// "q += b times s", on as many entries as b has. The entries past them are free: they are q's.
 fn moved(q: [f64; DIMENSION], b: &[f64], s: f64) -> [f64; DIMENSION]
     requires { ⌜ length (now b) ≤ maxDimension ⌝ }
     ensures { λ r. ⌜ take (length (now (b .entry))) r ≡ zip (λ x y. plus x (times y s)) (take (length (now (b .entry))) q) (now (b .entry)) ⌝ }
@@ -47,7 +48,7 @@ fn moved(q: [f64; DIMENSION], b: &[f64], s: f64) -> [f64; DIMENSION]
     r
 }
 
-// The basis with v divided by l as vector k.
+// The basis with v divided by l as its vector k.
 fn with_vector(basis: [f64; ROOM], k: usize, v: [f64; DIMENSION], l: f64, d: usize) -> [f64; ROOM]
     requires { ⌜ (d ≤ maxDimension) × (k < maxDimension) ⌝ }
     ensures { λ r. ⌜ (take (k * maxDimension) r ≡ take (k * maxDimension) basis) × (take d (drop (k * maxDimension) r) ≡ map (λ x. over x l) (take d v)) ⌝ }
@@ -63,10 +64,12 @@ fn with_vector(basis: [f64; ROOM], k: usize, v: [f64; DIMENSION], l: f64, d: usi
 }
 
 impl Hull {
-    // The hull of one point.
-    pub fn empty(offset: [f64; DIMENSION]) -> Hull
-        ensures { λ r. ⌜ ((d : ℕ) → hullIn d r ≡ record { offset = take d offset; basis = [] }) ⌝ }
+    // The hull of one point: it is the offset, and no vector is there.
+    pub fn empty(p: &[f64]) -> Hull
+        requires { ⌜ length (now p) ≤ maxDimension ⌝ }
+        ensures { λ r. ⌜ hullIn (length (now (p .entry))) r ≡ record { offset = now (p .entry); basis = [] } ⌝ }
     {
+        let offset = vector::load(p);
         Hull {
             offset,
             basis: [0.0; ROOM],
@@ -75,14 +78,15 @@ impl Hull {
     }
 
     // "To project p: d = p − offset; q = offset; for each b in order, q += b times (d · b)."
-    pub fn project(self, p: [f64; DIMENSION], d: usize) -> [f64; DIMENSION]
-        requires { ⌜ (d ≤ maxDimension) × (self .count ≤ maxDimension) ⌝ }
-        ensures { λ r. ⌜ take d r ≡ project (hullIn d self) (take d p) ⌝ }
+    pub fn project(self, p: &[f64]) -> [f64; DIMENSION]
+        requires { ⌜ (length (now p) ≤ maxDimension) × (self .count ≤ maxDimension) ⌝ }
+        ensures { λ r. ⌜ take (length (now (p .entry))) r ≡ project (hullIn (length (now (p .entry))) self) (now (p .entry)) ⌝ }
     {
+        let d = p.len();
         let offset = self.offset;
         let basis = self.basis;
         let count = self.count;
-        let away = vector::difference(p, offset, d);
+        let away = vector::difference(p, offset);
         let mut q = offset;
         let mut k: usize = 0;
         while k < count {
@@ -97,21 +101,23 @@ impl Hull {
         q
     }
 
-    // What is left of p beside its projection.
-    pub fn rest(self, p: [f64; DIMENSION], d: usize) -> [f64; DIMENSION]
-        requires { ⌜ (d ≤ maxDimension) × (self .count ≤ maxDimension) ⌝ }
-        ensures { λ r. ⌜ take d r ≡ rest (hullIn d self) (take d p) ⌝ }
+    // What is left of p beside its projection: "v = p − projection".
+    pub fn rest(self, p: &[f64]) -> [f64; DIMENSION]
+        requires { ⌜ (length (now p) ≤ maxDimension) × (self .count ≤ maxDimension) ⌝ }
+        ensures { λ r. ⌜ take (length (now (p .entry))) r ≡ rest (hullIn (length (now (p .entry))) self) (now (p .entry)) ⌝ }
     {
-        let q = self.project(p, d);
-        vector::difference(p, q, d)
+        let q = self.project(p);
+        vector::difference(p, q)
     }
 
     // "Adding p: v = p − projection, length = norm of v; above EPS, v divided by length joins the basis; otherwise nothing joins."
-    pub fn add(self, p: [f64; DIMENSION], d: usize) -> Added
-        requires { ⌜ (d ≤ maxDimension) × (self .count < maxDimension) ⌝ }
-        ensures { λ r. ⌜ (hullIn d (r .hull) ≡ add (hullIn d self) (take d p)) × (joinedOf (r .joined) ≡ joins (hullIn d self) (take d p)) ⌝ }
+    pub fn add(self, p: &[f64]) -> Added
+        requires { ⌜ (length (now p) ≤ maxDimension) × (self .count < maxDimension) ⌝ }
+        ensures { λ r. ⌜ (hullIn (length (now (p .entry))) (r .hull) ≡ add (hullIn (length (now (p .entry))) self) (now (p .entry)))
+            × (joinedOf (r .joined) ≡ joins (hullIn (length (now (p .entry))) self) (now (p .entry))) ⌝ }
     {
-        let v = self.rest(p, d);
+        let d = p.len();
+        let v = self.rest(p);
         let length = vector::norm(v, d);
         if Tolerance::EPS < length {
             let offset = self.offset;
@@ -134,12 +140,13 @@ impl Hull {
         }
     }
 
-    // "Distance: norm of origin − projection of origin."
+    // "Distance: norm of origin − projection of origin", in d dimensions.
     pub fn distance(self, d: usize) -> f64
         requires { ⌜ (d ≤ maxDimension) × (self .count ≤ maxDimension) ⌝ }
         ensures { λ r. ⌜ r ≡ distance d (hullIn d self) ⌝ }
     {
-        let v = self.rest([0.0; DIMENSION], d);
+        let origin = [0.0; DIMENSION];
+        let v = self.rest(&origin[..d]);
         vector::norm(v, d)
     }
 }

@@ -5,12 +5,12 @@ use mathlib.Core.Logic.{⊎-elim}
 use mathlib.Core.List.{[]}
 use Prim.Native.Nat.{_≤_, _-_}
 use native.Mathlib.Omega.{arith}
-use lib.ListN.{take, length, getD}
+use lib.ListN.{length, getD}
 use borrow.Author.Needs.{needs}
 use Rattle.spec.specs.Matrix.{Vector}
 use Rattle.spec.specs.Hull.{Hull, add, distance}
 use Rattle.geometry.specs.Reading.{hullIn, pointAt}
-use Rattle.geometry.proofs.Gathered.{Gathered, length-basis, count-far, count-near, part-is, loaded, first, stop, next, end}
+use Rattle.geometry.proofs.Gathered.{Gathered, length-basis, count-far, count-near, part-is, first, stop, next, end}
 use Rattle.geometry.proofs.distance.distance_of.Statement.{statement}
 use Rattle.geometry.proofs.distance.distance_of.Tie as tie
 
@@ -25,7 +25,7 @@ abbrev one-point : Vector → Hull
 one-point x = record { offset = x; basis = [] }
 
 abbrev entry : tie.At-loop Inv-loop μ-loop → tie.Start Inv-loop μ-loop
-entry c = c .before .before .before .before .before .before .before
+entry c = c .before .before .before .before .before .before
 
 -- the part that is handed back for the first point, and for the point of the turn
 part-first : (c : tie.After-point Inv-loop μ-loop) →
@@ -47,15 +47,15 @@ part-next c =
 point-requires : tie.Need-point-requires Inv-loop μ-loop
 point-requires c κs = rw (c .number .ensures) (omega (arith, c .before .before .before .pre .3 0 (omega arith)))
 
-load-requires : tie.Need-load-requires Inv-loop μ-loop
-load-requires c κs = let k = part-first c .1 in omega arith
+empty-requires : tie.Need-empty-requires Inv-loop μ-loop
+empty-requires c κs = omega (arith, part-first c .1, c .before .before .before .before .pre .0)
 
 loop-holds : tie.Need-loop-holds Inv-loop μ-loop
 loop-holds c =
-    let s = c .before .before .before .before .before .before in
+    let s = c .before .before .before .before .before in
     let a = s .args in
-    let o = loaded (c .before .load .result) _ (c .before .load .ensures) (part-first (c .before .before)) in
-    let h = c .empty .ensures (a .d) ∙ ap one-point o in
+    let o = part-first (c .before) in
+    let h = (rw (o .1) at (c .empty .ensures)) ∙ ap one-point (o .0) in
     let n = sym (length-basis (a .d) (c .empty .result)) ∙ ap (λ x. length (x .basis)) h in
     (search needs, search needs, sym n, search needs, first (s .pre .2) (s .pre .1) h)
 
@@ -71,37 +71,41 @@ point-requires-2 c κs =
     let t = c .before .before in
     rw (c .number2 .ensures) (omega (arith, entry (t .before) .pre .3 (t .before .loop .i) (t .loop-test .taken)))
 
-load-requires-2 : tie.Need-load-requires-2 Inv-loop μ-loop
-load-requires-2 c κs = let k = part-next c .1 in omega arith
+add-requires : tie.Need-add-requires Inv-loop μ-loop
+add-requires c κs =
+    let l = c .before .before .before .before in
+    let s = entry l in
+    (omega (arith, part-next c .1, s .pre .0), omega (arith, c .before .before .if1 .left, l .loop .inv .2, l .loop .inv .3, s .pre .0))
 
 add-k : tie.Need-add-k Inv-loop μ-loop
 add-k c =
-    let l = c .before .before .before .before .before .before .before .before .before in
+    let l = c .before .before .before .before .before .before .before .before in
     omega (arith, l .loop .inv .3, entry l .pre .0)
 
 add-i : tie.Need-add-i Inv-loop μ-loop
 add-i c =
-    let t = c .before .before .before .before .before .before .before in
+    let t = c .before .before .before .before .before .before in
     omega (arith, t .loop-test .taken, entry (t .before) .fits .n)
 
 loop-again : tie.Need-loop-again Inv-loop μ-loop
 loop-again c =
     let added = c .before .before in
-    let t = added .before .before .before .before .before in
+    let t = added .before .before .before .before in
     let l = t .before in
     let s = entry l in
     let a = s .args in
-    let p = take (a .d) (added .before .load2 .result) in
-    let o = loaded (added .before .load2 .result) _ (added .before .load2 .ensures) (part-next (added .before .before)) in
-    let h = added .add .ensures .0 in
-    let full = added .before .before .before .before .if1 .left in
+    let p = added .before .point2 .result .now in
+    let o = part-next (added .before) in
+    let r = rw (o .1) at (added .add .ensures) in
+    let h = r .0 in
+    let full = added .before .before .before .if1 .left in
     let n = length-basis (a .d) (l .loop .hull) ∙ sym (l .loop .inv .2) in
-    let g = next (s .pre .2) (t .loop-test .taken) (λ e. full (sym n ∙ e)) (h ∙ ap (add (hullIn (a .d) (l .loop .hull))) o) (l .loop .inv .4) in
+    let g = next (s .pre .2) (t .loop-test .taken) (λ e. full (sym n ∙ e)) (h ∙ ap (add (hullIn (a .d) (l .loop .hull))) (o .0)) (l .loop .inv .4) in
     let m : (c .match .k ≡ added .add .result .hull .count) × (c .match .k ≤ a .d) =
     ⊎-elim
-    (λ w. let q = count-far (a .d) (l .loop .hull) (added .add .result .hull) p h (w .1 .given .1) (added .add .ensures .1) in
+    (λ w. let q = count-far (a .d) (l .loop .hull) (added .add .result .hull) p h (w .1 .given .1) (r .1) in
     (omega (arith, w .2, q, l .loop .inv .2), omega (arith, w .2, full, l .loop .inv .3)))
-    (λ w. let q = count-near (a .d) (l .loop .hull) (added .add .result .hull) p h (w .1 .given .1) (added .add .ensures .1) in
+    (λ w. let q = count-near (a .d) (l .loop .hull) (added .add .result .hull) p h (w .1 .given .1) (r .1) in
     (omega (arith, w .2, q, l .loop .inv .2), omega (arith, w .2, l .loop .inv .3)))
     (c .match .came) in
     (omega arith, omega (arith, t .loop-test .taken), m .0, m .1, g)
@@ -120,15 +124,13 @@ distance-of-spec =
     μ-loop
     (λ c κs. search needs)
     point-requires
-    load-requires
-    (λ c κs. search needs)
+    empty-requires
     loop-holds
     (λ c κs. search needs)
     returns
     (λ c κs. search needs)
     point-requires-2
-    load-requires-2
-    (λ c κs. search needs)
+    add-requires
     (λ c. search needs)
     add-k
     (λ c. search needs)

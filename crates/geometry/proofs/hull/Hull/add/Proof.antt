@@ -16,8 +16,8 @@ use Rattle.geometry.proofs.hull.Hull.add.Tie as tie
 
 -- the length that the test is about
 length-is : (c : tie.After-norm) →
-    let a = c .before .before .args in
-    c .norm .result ≡ norm (rest (hullIn (a .d) (a .self)) (take (a .d) (a .p)))
+    let a = c .before .before .before .args in
+    c .norm .result ≡ norm (rest (hullIn (length (a .p .now)) (a .self)) (a .p .now))
 length-is c = c .norm .ensures ∙ ap norm (c .before .rest .ensures)
 
 long : (c : tie.Start) → length (c .args .self .basis) ≡ maxDimension * maxDimension
@@ -30,16 +30,17 @@ returns : tie.Need-returns
 unfolding hullIn joinedOf ofBits eps
 returns c =
     let n = c .before .before .before .before in
-    let s = n .before .before in
+    let s = n .before .before .before in
     let a = s .args in
+    let d = length (a .p .now) in
     let l = n .norm .result in
     let t = c .before .before .before .if1 .taken in
-    let h = hullIn (a .d) (a .self) in
-    let p = take (a .d) (a .p) in
+    let h = hullIn d (a .self) in
+    let p = a .p .now in
     let v = c .with-vector .ensures .1 ∙ ap (map (λ x. over x l)) (n .before .rest .ensures) in
-    let basis = one-more (a .d) (a .self .count) (a .self .basis) (c .with-vector .result) _ (s .pre .0) (s .pre .1) (long s) (long-after c) (c .with-vector .ensures .0) v in
+    let basis = one-more d (a .self .count) (a .self .basis) (c .with-vector .result) _ (s .pre .0) (s .pre .1) (long s) (long-after c) (c .with-vector .ensures .0) v in
     let e = length-is n in (
-      ap {B = Hull} (λ (b : List Vector). record { offset = take (a .d) (a .self .offset); basis = b }) basis ∙ add-far h p l e t,
+      ap {B = Hull} (λ (b : List Vector). record { offset = take d (a .self .offset); basis = b }) basis ∙ add-far h p l e t,
       joins-far h p l e t,
     )
 

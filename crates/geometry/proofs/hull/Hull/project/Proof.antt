@@ -18,10 +18,10 @@ use Rattle.geometry.proofs.hull.Hull.project.Statement.{statement}
 use Rattle.geometry.proofs.hull.Hull.project.Tie as tie
 
 abbrev Inv-loop : tie.InvT-loop
-Inv-loop d basis count away q₀ k₀ q k = (k ≤ count) × Along (vectorAt d basis) count (take d away) (take d q₀) (take d q) k
+Inv-loop p d basis count away q₀ k₀ q k = (k ≤ count) × Along (vectorAt d basis) count (take d away) (take d q₀) (take d q) k
 
 abbrev μ-loop : tie.MeasureT-loop
-μ-loop d basis count away q₀ k₀ q k = count - k
+μ-loop p d basis count away q₀ k₀ q k = count - k
 
 long : (c : tie.Start Inv-loop μ-loop) → length (c .args .self .basis) ≡ maxDimension * maxDimension
 long c = search needs
@@ -30,25 +30,25 @@ far : (c : tie.After-difference Inv-loop μ-loop) → length (c .difference .res
 far c = search needs
 
 part-b-end : tie.Need-part-b-end Inv-loop μ-loop
-part-b-end c = let k = long (c .before .before .before .before .before .before) in omega arith
+part-b-end c = let k = long (c .before .before .before .before .before .before .before) in omega arith
 
 slice-aggregate-dot : tie.Need-slice-aggregate-dot Inv-loop μ-loop
 slice-aggregate-dot c = let k = far (c .before .before .before .before .before) in sym (length-take-le _ _ (omega arith))
 
 -- the part that is lent is the vector of the turn
 lent : (c : tie.In-loop Inv-loop μ-loop) →
-    let a = c .before .before .before .before .before .args in
+    let a = c .before .before .before .before .before .before .args in
     let at = c .before .loop .k * maxDimension in
-    take (at + a .d - at) (drop at (a .self .basis)) ≡ vectorAt (a .d) (a .self .basis) (c .before .loop .k)
-lent c = part-is (c .before .before .before .before .before .args .d) (c .before .loop .k * maxDimension) _
+    take (at + length (a .p .now) - at) (drop at (a .self .basis)) ≡ vectorAt (length (a .p .now)) (a .self .basis) (c .before .loop .k)
+lent c = part-is (length (c .before .before .before .before .before .before .args .p .now)) (c .before .loop .k * maxDimension) _
 
 -- which has d entries
 wide : (c : tie.In-loop Inv-loop μ-loop) →
-    let a = c .before .before .before .before .before .args in
-    length (vectorAt (a .d) (a .self .basis) (c .before .loop .k)) ≡ a .d
+    let a = c .before .before .before .before .before .before .args in
+    length (vectorAt (length (a .p .now)) (a .self .basis) (c .before .loop .k)) ≡ length (a .p .now)
 wide c =
-    let s = c .before .before .before .before .before in
-    vector-long (s .args .d) (c .before .loop .k) (s .args .self .count) (s .args .self .basis) (s .pre .0) (c .loop-test .taken) (s .pre .1) (long s)
+    let s = c .before .before .before .before .before .before in
+    vector-long (length (s .args .p .now)) (c .before .loop .k) (s .args .self .count) (s .args .self .basis) (s .pre .0) (c .loop-test .taken) (s .pre .1) (long s)
 
 dot-requires : tie.Need-dot-requires Inv-loop μ-loop
 dot-requires c κs =
@@ -71,10 +71,10 @@ loop-again c =
 returns : tie.Need-returns Inv-loop μ-loop
 unfolding project hullIn
 returns c =
-    let s = c .before .before .before .before .before in
+    let s = c .before .before .before .before .before .before in
     let a = s .args in
     end (c .loop-test .left) (c .before .loop .inv .1)
-    ∙ ap (λ (v : Vector). along v (take (a .d) (a .self .offset)) (map (vectorAt (a .d) (a .self .basis)) (range 0 (a .self .count)))) (c .before .before .difference .ensures)
+    ∙ ap (λ (v : Vector). along v (take (length (a .p .now)) (a .self .offset)) (map (vectorAt (length (a .p .now)) (a .self .basis)) (range 0 (a .self .count)))) (c .before .before .difference .ensures)
 
 pub project-spec : {M : Type 1} → statement M
 project-spec =
