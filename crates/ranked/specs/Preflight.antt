@@ -1,12 +1,14 @@
 -- Refusals 1 to 7 of a sheet as one answer, and where the solid of a sheet that passes lies.
 -- Assumes nothing.
 use mathlib.Core.Path.{_≡_}
-use Prim.Native.Nat.{ℕ}
+use Prim.Native.Nat.{ℕ, _+_}
 use mathlib.Core.Bool.{true, false}
 use mathlib.Core.List.{List}
-use lib.ListN.{length}
+use lib.ListN.{length, replicate}
 use lib.Ieee.{Float}
+use Rattle.spec.specs.declared.Refusal.{Refusal}
 use Rattle.spec.specs.declared.Refusal.the-variants.{Loose, Mitre}
+use Rattle.spec.specs.Limits.{maxRank}
 use Rattle.spec.specs.Types.{Solid}
 use Rattle.spec.specs.Judged.{Judged, refused, passed}
 use Rattle.spec.specs.Sheet.{Parsed}
@@ -15,13 +17,22 @@ use Rattle.sheet.specs.declared.Verdict.{Verdict}
 use Rattle.sheet.specs.declared.Verdict.the-variants.{Accepted, Refused}
 use Rattle.ranked.specs.declared.Shape.{Shape}
 use Rattle.ranked.specs.declared.preflight.Ready.{Ready}
-use Rattle.ranked.specs.Store.{lowOf, Kept}
+use Rattle.ranked.specs.Store.{shapeOf, lowOf, Kept}
 use Rattle.ranked.specs.Bench.{solidAt, Bench}
 
--- what is answered
+-- the verdict by itself
 unfoldable pub verdictOf : Judged Concrete → Verdict
 verdictOf (refused why) = Refused why
 verdictOf (passed c) = Accepted
+
+-- at a refusal no solid lies in the workspace, and the shape and low are zeros
+abbrev pub unreadyOf : Refusal → Ready
+unreadyOf why = record { verdict = Refused why; shape = record { rank = 0; dimension = 0; first = replicate (maxRank + 2) 0 }; low = 0 }
+
+-- the whole answer: of a solid that passes, its shape and how many words it takes
+unfoldable pub readyOf : Judged Concrete → Ready
+readyOf (refused why) = unreadyOf why
+readyOf (passed c) = record { verdict = Accepted; shape = shapeOf c; low = lowOf (shapeOf c) (entries (c .abs)) }
 
 -- 5, and then 6
 unfoldable pub checksOf : Solid → Verdict
@@ -34,13 +45,15 @@ pub record Placed (c : Concrete) (sh : Shape) (low : ℕ) (ws : List ℕ) (fs : 
 
 -- the sheet p, for which there is room, is stored, and its solid judged
 pub record Settled (p : Parsed) (r : Ready) (ws : List ℕ) (fs : List Float) : Type 0 where
+  pub unready : (why : Refusal) → checksOf (solidOf p) ≡ Refused why → r ≡ unreadyOf why
   pub verdict : r .verdict ≡ checksOf (solidOf p)
-  pub kept : Kept p (r .shape) ws fs
-  pub low : r .low ≡ lowOf (r .shape) (entries (solidOf p))
+  pub kept : checksOf (solidOf p) ≡ Accepted → Kept p (r .shape) ws fs
+  pub low : checksOf (solidOf p) ≡ Accepted → r .low ≡ lowOf (r .shape) (entries (solidOf p))
 
--- of the sheet b, in n words and m floats: the answer, and where it passes the solid is placed. Where it is refused, the shape and low that
--- are answered are free, and so is what the words and floats hold
+-- of the sheet b, in n words and m floats: the answer, and where it passes the solid is placed. Everything else that the words and floats hold is
+-- free, and they keep their lengths
 pub record Preflighted (b : List ℕ) (n m : ℕ) (r : Ready) (ws : List ℕ) (fs : List Float) : Type 0 where
+  pub answer : r ≡ readyOf (preflight b n m)
   pub verdict : r .verdict ≡ verdictOf (preflight b n m)
   pub lengths : (length ws ≡ n) × (length fs ≡ m)
   pub placed : (c : Concrete) → preflight b n m ≡ passed c → Placed c (r .shape) (r .low) ws fs

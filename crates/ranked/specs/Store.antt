@@ -5,15 +5,15 @@ use Prim.Native.Nat.{ℕ, zero, suc, _+_, _-_, _*_, _≤_, _<_}
 use mathlib.Core.Bool.{true, false}
 use mathlib.Core.List.{List, [], _∷_, _++_, map}
 use lib.ListN.{length, getD, take, replicate}
-use lib.Dec.{ltb}
+use lib.Dec.{leb, ltb}
 use lib.Ieee.{Float, binary64, ofBits}
 use Rattle.spec.specs.Limits.{maxRank, maxCount}
 use Rattle.spec.specs.Lists.{join, range}
 use Rattle.spec.specs.Bits.{field}
-use Rattle.spec.specs.Types.{size}
+use Rattle.spec.specs.Types.{Solid, top, size}
 use Rattle.spec.specs.Judged.{refused, passed}
 use Rattle.spec.specs.Sheet.{Parsed, readSheet}
-use Rattle.spec.specs.Solid.{solidOf, entries}
+use Rattle.spec.specs.Solid.{solidOf, entries, Concrete}
 use Rattle.ranked.specs.declared.Shape.{Shape}
 use Rattle.ranked.specs.Words.{firstAt, sizeAt, total, listAt, solidIn, Held}
 use Rattle.ranked.specs.Derive.{running, Stored}
@@ -114,6 +114,15 @@ pub record Counted (R D : ℕ) (counts : List ℕ) (sh : Shape) : Type 0 where
   pub dimension : sh .dimension ≡ D
   pub ranks : length (sh .first) ≡ maxRank + 2
   pub firsts : (r : ℕ) → r ≤ suc R → firstAt sh r ≡ running 0 (sizeIn R counts) r
+  pub rest : (r : ℕ) → suc R < r → firstAt sh r ≡ 0
+
+-- how many elements of s lie in the ranks below r, up to the rank above the top; the starts after that one are 0
+unfoldable pub startIn : Solid → ℕ → ℕ
+startIn s r = elim (leb r (suc (top s))) [ true ↦ running 0 (λ q. size s q) r | false ↦ 0 ]
+
+-- the shape of a solid
+unfoldable pub shapeOf : Concrete → Shape
+shapeOf c = record { rank = top (c .abs); dimension = c .dimension; first = map (startIn (c .abs)) (range 0 (maxRank + 2)) }
 
 -- ---- a whole sheet
 
@@ -133,10 +142,15 @@ lowOf sh I = 4 * total sh + 2 * subEntries sh I
 unfoldable pub baseOf : Shape → ℕ → ℕ
 baseOf sh I = 4 * total sh + subEntries sh I
 
+-- the solid that a sheet says
+abbrev pub said : Parsed → Concrete
+said p = record { dimension = p .dimension; points = p .points; abs = solidOf p }
+
 -- the words ws hold the solid of the sheet p, and the floats fs start with its vertices' coordinates
 pub record Kept (p : Parsed) (sh : Shape) (ws : List ℕ) (fs : List Float) : Type 0 where
   pub rank : sh .rank ≡ p .rank
   pub dimension : sh .dimension ≡ p .dimension
+  pub shape : sh ≡ shapeOf (said p)
   -- the least, the top and four proper ranks
   pub small : total sh ≤ 4 * maxCount + 2
   -- what is read of the words and the floats is there

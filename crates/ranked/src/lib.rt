@@ -4,7 +4,7 @@
 use spec::MAX_COUNT;
 use spec::MAX_RANK;
 
-// How many ranks have a start: 0 to the greatest R, and the one above it, where the last ends.
+// How many ranks have a start: those from 0 to the greatest R, and the one above, at which the top rank ends.
 pub const STARTS: usize = MAX_RANK + 2;
 
 // The most elements that a solid can have, the least and the top among them.
@@ -16,11 +16,11 @@ pub const ELEMENTS: usize = (MAX_RANK - 1) * MAX_COUNT + 2;
 pub struct Shape {
     pub rank: usize,
     pub dimension: usize,
-    // How many elements lie in the ranks below each rank, from 0 to rank + 1.
+    // How many elements lie in the ranks below each rank, from rank 0 to rank + 1. The cells after these are 0.
     pub first: [usize; STARTS],
 }
 
-pub mod check;
+mod check;
 pub mod lists;
 pub mod preflight;
 pub mod store;

@@ -1,15 +1,15 @@
-// Lists at offsets in lent words, read one word at a time; and the subs and sups of the solid that they hold.
+// Lists at offsets in lent words, read one word at a time, and the subs of the solid that they hold.
 use crate::Shape;
 ghost use mathlib.Core.Path.{_≡_};
 ghost use Prim.Native.Nat.{_+_, _*_, _^_, _≤_, _<_};
 ghost use lib.ListN.{length, getD};
 ghost use lib.Dec.{eqb};
 ghost use Rattle.spec.specs.Lists.{holds};
-ghost use Rattle.spec.specs.Types.{subs, sups};
+ghost use Rattle.spec.specs.Types.{subs};
 ghost use Rattle.ranked.specs.Words.{sizeAt, listAt, solidIn, Held};
 ghost use Rattle.ranked.specs.Reading.{Lies};
 
-// Returns the word at p.
+// The word at p.
 pub fn get(w: &[u32], p: usize) -> usize
     requires { ⌜ p < length (now w) ⌝ }
     ensures { λ r. ⌜ r ≡ getD (now (w .entry)) p 0 ⌝ }
@@ -17,7 +17,7 @@ pub fn get(w: &[u32], p: usize) -> usize
     w[p] as usize
 }
 
-// Counts the entries of the list at word i.
+// How many entries the list at word i has.
 pub fn count_at(w: &[u32], i: usize) -> usize
     requires { ⌜ Lies (now w) i ⌝ }
     ensures { λ r. ⌜ r ≡ length (listAt (now (w .entry)) i) ⌝ }
@@ -25,7 +25,7 @@ pub fn count_at(w: &[u32], i: usize) -> usize
     get(w, i + 1)
 }
 
-// Returns entry k of the list at word i.
+// Entry k of the list at word i.
 pub fn entry_at(w: &[u32], i: usize, k: usize) -> usize
     requires { ⌜ Lies (now w) i ⌝ }
     requires { ⌜ k < length (listAt (now w) i) ⌝ }
@@ -35,7 +35,7 @@ pub fn entry_at(w: &[u32], i: usize, k: usize) -> usize
     get(w, start + k)
 }
 
-// Returns the word that describes the list of element e's subs, where e's rank starts at `first`.
+// The word that says where the list of element e's subs starts, in a rank that starts at `first`; the next word is its length.
 pub fn subs_at(first: usize, e: usize) -> usize
     requires { ⌜ 4 * (first + e) + 2 < 2 ^ 64 ⌝ }
     ensures { λ r. ⌜ r ≡ 4 * (first + e) ⌝ }
@@ -43,7 +43,7 @@ pub fn subs_at(first: usize, e: usize) -> usize
     4 * (first + e)
 }
 
-// Returns the word that describes the list of element e's sups.
+// The same word for the list of its sups.
 pub fn sups_at(first: usize, e: usize) -> usize
     requires { ⌜ 4 * (first + e) + 2 < 2 ^ 64 ⌝ }
     ensures { λ r. ⌜ r ≡ 4 * (first + e) + 2 ⌝ }
@@ -51,7 +51,7 @@ pub fn sups_at(first: usize, e: usize) -> usize
     4 * (first + e) + 2
 }
 
-// Tells whether the list at word i holds x.
+// Whether the list at word i holds x.
 pub fn holds_at(w: &[u32], i: usize, x: usize) -> bool
     requires { ⌜ Lies (now w) i ⌝ }
     ensures { λ r. ⌜ r ≡ holds eqb x (listAt (now (w .entry)) i) ⌝ }
@@ -67,17 +67,7 @@ pub fn holds_at(w: &[u32], i: usize, x: usize) -> bool
     false
 }
 
-// Counts the subs of element e of rank r.
-pub fn sub_count(w: &[u32], sh: Shape, r: usize, e: usize) -> usize
-    requires { ⌜ Held sh (now w) ⌝ }
-    requires { ⌜ (r ≤ sh .rank) × (e < sizeAt sh r) ⌝ }
-    ensures { λ n. ⌜ n ≡ length (subs (solidIn sh (now (w .entry))) r e) ⌝ }
-{
-    let first = sh.first;
-    count_at(w, subs_at(first[r], e))
-}
-
-// Returns sub k of element e of rank r.
+// Sub k of element e of rank r.
 pub fn sub(w: &[u32], sh: Shape, r: usize, e: usize, k: usize) -> usize
     requires { ⌜ Held sh (now w) ⌝ }
     requires { ⌜ (r ≤ sh .rank) × (e < sizeAt sh r) × (k < length (subs (solidIn sh (now w)) r e)) ⌝ }
@@ -85,24 +75,4 @@ pub fn sub(w: &[u32], sh: Shape, r: usize, e: usize, k: usize) -> usize
 {
     let first = sh.first;
     entry_at(w, subs_at(first[r], e), k)
-}
-
-// Counts the sups of element e of rank r.
-pub fn sup_count(w: &[u32], sh: Shape, r: usize, e: usize) -> usize
-    requires { ⌜ Held sh (now w) ⌝ }
-    requires { ⌜ (r ≤ sh .rank) × (e < sizeAt sh r) ⌝ }
-    ensures { λ n. ⌜ n ≡ length (sups (solidIn sh (now (w .entry))) r e) ⌝ }
-{
-    let first = sh.first;
-    count_at(w, sups_at(first[r], e))
-}
-
-// Returns sup k of element e of rank r.
-pub fn sup(w: &[u32], sh: Shape, r: usize, e: usize, k: usize) -> usize
-    requires { ⌜ Held sh (now w) ⌝ }
-    requires { ⌜ (r ≤ sh .rank) × (e < sizeAt sh r) × (k < length (sups (solidIn sh (now w)) r e)) ⌝ }
-    ensures { λ x. ⌜ x ≡ getD (sups (solidIn sh (now (w .entry))) r e) k 0 ⌝ }
-{
-    let first = sh.first;
-    entry_at(w, sups_at(first[r], e), k)
 }

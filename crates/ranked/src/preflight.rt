@@ -17,21 +17,20 @@ ghost use Rattle.spec.specs.Judged.{passed};
 ghost use Rattle.spec.specs.Sheet.{readSheet};
 ghost use Rattle.spec.specs.Solid.{solidOf, roomy};
 ghost use Rattle.sheet.specs.Judge.{headerOf};
-ghost use Rattle.sheet.specs.declared.Verdict.the-variants as verdict;
 ghost use Rattle.ranked.specs.Words.{solidIn, Held};
 ghost use Rattle.ranked.specs.Store.{parsedOf};
-ghost use Rattle.ranked.specs.Preflight.{checksOf, Settled, Preflighted};
+ghost use Rattle.ranked.specs.Preflight.{unreadyOf, checksOf, Settled, Preflighted};
 
-// The answer, and of an accepted sheet how its solid lies in the words and how many of them it takes.
+// The verdict, and for an accepted sheet how its solid lies in the words and how many of them it takes.
 pub struct Ready {
     pub verdict: Verdict,
     pub shape: Shape,
     pub low: usize,
 }
 
-// A refusal, with no solid.
+// A refusal. No solid lies in the workspace then, and its shape and low are zeros.
 fn unready(why: Refusal) -> Ready
-    ensures { λ r. ⌜ r .verdict ≡ verdict.Refused why ⌝ }
+    ensures { λ r. ⌜ r ≡ unreadyOf why ⌝ }
 {
     Ready {
         verdict: Verdict::Refused(why),
@@ -44,7 +43,7 @@ fn unready(why: Refusal) -> Ready
     }
 }
 
-// Not 7: is there room for a solid of so many proper elements and list entries?
+// Whether the workspace has room for a solid of so many proper elements and list entries. If it has not, refusal 7 is answered.
 fn is_roomy(elements: usize, entries: usize, words: usize, floats: usize) -> bool
     requires { ⌜ (elements < 2 ^ 32) × (entries < 2 ^ 32) ⌝ }
     ensures { λ r. ⌜ r ≡ leb (16 * (elements + entries + 4)) words && leb (8 * (elements + 8)) floats ⌝ }
@@ -55,7 +54,7 @@ fn is_roomy(elements: usize, entries: usize, words: usize, floats: usize) -> boo
     false
 }
 
-// 5, and then 6, of the solid that the words hold.
+// Judges refusal 5, and then refusal 6, of the solid that the words hold.
 fn checked(w: &[u32], sh: Shape) -> Verdict
     requires { ⌜ Held sh (now w) ⌝ }
     ensures { λ r. ⌜ r ≡ checksOf (solidIn sh (now (w .entry))) ⌝ }
@@ -69,7 +68,7 @@ fn checked(w: &[u32], sh: Shape) -> Verdict
     Verdict::Accepted
 }
 
-// Stores a sheet that passed 1 to 4 and 7, and judges 5 and 6 of its solid.
+// Stores a sheet that passed refusals 1 to 4 and 7, and judges refusals 5 and 6 of its solid.
 fn settle(sheet: &[u8], header: Header, words: &mut [u32], floats: &mut [f64]) -> Ready
     requires { ⌜ readSheet (now sheet) ≡ passed (parsedOf (now sheet)) ⌝ }
     requires { ⌜ header ≡ headerOf (parsedOf (now sheet)) ⌝ }
@@ -80,15 +79,18 @@ fn settle(sheet: &[u8], header: Header, words: &mut [u32], floats: &mut [f64]) -
     let sh = store(sheet, header.rank, header.dimension, counts, words, floats);
     let low = low_of(sh, header.entries);
     let verdict = checked(&words[..low], sh);
-    Ready {
-        verdict,
-        shape: sh,
-        low,
+    match verdict {
+        Verdict::Refused(why) => unready(why),
+        Verdict::Accepted => Ready {
+            verdict,
+            shape: sh,
+            low,
+        },
     }
 }
 
-// A sheet of any bytes and any length, and a workspace of any size. Where a refusal is answered, shape and low are free,
-// and so is what the workspace holds.
+// A sheet of any bytes and any length, and a workspace of any size. Of a sheet that passes, the solid lies in the workspace afterwards, and its
+// shape and low are answered; at a refusal these are zeros. Whatever else the workspace holds afterwards is free.
 pub fn preflight(sheet: &[u8], words: &mut [u32], floats: &mut [f64]) -> Ready
     ensures { λ r. ⌜ Preflighted (now (sheet .entry)) (length (now (words .entry))) (length (now (floats .entry))) r
         (now (words .exit)) (now (floats .exit)) ⌝ }

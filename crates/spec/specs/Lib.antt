@@ -27,6 +27,7 @@ pub mod Passed
 pub mod SolidLaws
 pub mod CallLaws
 pub mod KitLaws
+pub mod Workspace
 pub mod CallExamples
 pub mod FlagLaws
 pub mod TypeLaws

@@ -29,10 +29,18 @@ use Rattle.sheet.proofs.Laws.{elements-is, entries-is, header-small}
 use Rattle.ranked.specs.declared.Shape.{Shape}
 use Rattle.ranked.specs.declared.preflight.Ready.{Ready}
 use Rattle.ranked.specs.Words.{total, solidIn, Held}
-use Rattle.ranked.specs.Store.{parsedOf, lowOf, Kept}
-use Rattle.ranked.specs.Preflight.{verdictOf, checksOf, Placed, Settled, Preflighted}
+use Rattle.ranked.specs.Store.{parsedOf, shapeOf, lowOf, said, Kept}
+use Rattle.ranked.specs.Preflight.{verdictOf, unreadyOf, readyOf, checksOf, Placed, Settled, Preflighted}
 use Rattle.ranked.proofs.store.Reading.{allowed}
 use Rattle.ranked.proofs.store.Whole.{room-in}
+
+-- ---- verdicts
+
+not-both : (why : Refusal) → Refused why ≡ Accepted → ⊥
+not-both why e = let z : _≡_ {A = ℕ} 0 1 = cc in omega arith
+
+which : (why other : Refusal) → Refused why ≡ Refused other → why ≡ other
+which why other e = cc
 
 -- ---- 5 and 6
 
@@ -82,10 +90,6 @@ parts-join d (x ∷ ps) e =
     rw (take-at x (join ps) d l, drop-at x (join ps) d l, parts-join d ps (λ y m. e y (inr m)))
 
 -- ---- the whole
-
--- the solid that a sheet says
-abbrev said : Parsed → Concrete
-said p = record { dimension = p .dimension; points = p .points; abs = solidOf p }
 
 module _ (b : List ℕ) (n m : ℕ) where
   stopped : (why : Refusal) → readSheet b ≡ refused why → preflight b n m ≡ refused why
@@ -145,27 +149,44 @@ module _ (b : List ℕ) (p : Parsed) (e : readSheet b ≡ passed p) where
         pub held-low : Held sh (take low ws)
         held-low = rw low-is (k .held)
 
-        pub settled : (v : Verdict) → v ≡ checksOf (solidIn sh (take low ws)) → Settled p (record { verdict = v; shape = sh; low = low }) ws fs
-        settled v ev = record {
-          verdict = ev ∙ ap checksOf (rw low-is (k .solid));
-          kept = k;
-          low = low-is;
-        }
+        module _ (v : Verdict) (ev : v ≡ checksOf (solidIn sh (take low ws))) where
+          checks-are : checksOf (solidOf p) ≡ v
+          checks-are = sym (ev ∙ ap checksOf (rw low-is (k .solid)))
+
+          pub settled : v ≡ Accepted → Settled p (record { verdict = v; shape = sh; low = low }) ws fs
+          settled a = record {
+            unready = λ why q. absurd (not-both why (sym q ∙ checks-are ∙ a));
+            verdict = sym checks-are;
+            kept = λ q. k;
+            low = λ q. low-is;
+          }
+
+          pub unsettled : (why : Refusal) → v ≡ Refused why → (r : Ready) → r ≡ unreadyOf why → Settled p r ws fs
+          unsettled why a r er = record {
+            unready = λ other q. er ∙ ap unreadyOf (which why other (sym a ∙ sym checks-are ∙ q));
+            verdict = ap (λ (x : Ready). x .verdict) er ∙ sym (checks-are ∙ a);
+            kept = λ q. absurd (not-both why (sym a ∙ sym checks-are ∙ q));
+            low = λ q. absurd (not-both why (sym a ∙ sym checks-are ∙ q));
+          }
 
 -- ---- the whole answer
 
+ready-is : (r : Ready) {v : Verdict} {h : Shape} {n : ℕ} → r .verdict ≡ v → r .shape ≡ h → r .low ≡ n → r ≡ record { verdict = v; shape = h; low = n }
+ready-is r x y z = rw (← x, ← y, ← z)
+
 module _ (b : List ℕ) (n m : ℕ) (r : Ready) (ws : List ℕ) (fs : List Float) (same-words : length ws ≡ n) (same-floats : length fs ≡ m) where
   -- a refusal
-  refusal : (why : Refusal) → preflight b n m ≡ refused why → r .verdict ≡ Refused why → Preflighted b n m r ws fs
-  unfolding verdictOf
+  refusal : (why : Refusal) → preflight b n m ≡ refused why → r ≡ unreadyOf why → Preflighted b n m r ws fs
+  unfolding verdictOf readyOf
   refusal why e v = record {
-    verdict = v ∙ rw e;
+    answer = v ∙ rw e;
+    verdict = ap (λ (x : Ready). x .verdict) v ∙ rw e;
     lengths = (same-words, same-floats);
     placed = λ c q. absurd (never why c (sym e ∙ q));
   }
 
   -- 1 to 4
-  pub unread : {why : Refusal} → readSheet b ≡ refused why → r .verdict ≡ Refused why → Preflighted b n m r ws fs
+  pub unread : {why : Refusal} → readSheet b ≡ refused why → r ≡ unreadyOf why → Preflighted b n m r ws fs
   unread {why} e v = refusal why (stopped b n m why e) v
 
   module _ (p : Parsed) (e : readSheet b ≡ passed p) (h : Header) (eh : h ≡ headerOf p) (t : Bool)
@@ -174,41 +195,58 @@ module _ (b : List ℕ) (n m : ℕ) (r : Ready) (ws : List ℕ) (fs : List Float
     room = et ∙ room-is b p e h eh n m
 
     -- 7
-    pub cramped-in : t ≡ false → r .verdict ≡ Refused Bench → Preflighted b n m r ws fs
+    pub cramped-in : t ≡ false → r ≡ unreadyOf Bench → Preflighted b n m r ws fs
     cramped-in q v = refusal Bench (cramped b n m p e (sym room ∙ q)) v
 
     -- 5 and 6, or none
     pub settled-in : t ≡ true → Settled (parsedOf b) r ws fs → Preflighted b n m r ws fs
+    unfolding verdictOf readyOf
     settled-in q z = from (rw (← parsed-is b p e) at z)
       where
-        place : Passed b (said p) → Settled p r ws fs → Placed (said p) (r .shape) (r .low) ws fs
-        place v z = record {
+        place : Passed b (said p) → Kept p (r .shape) ws fs → r .low ≡ lowOf (r .shape) (entries (solidOf p)) → Placed (said p) (r .shape) (r .low) ws fs
+        place v k low = record {
           bench = record {
-            held = rw (z .low) (z .kept .held);
-            low-is = rw here (z .low);
-            words-in = rw (z .low) (z .kept .words-in);
-            stored = rw here (z .kept .stored);
-            subs-alone = rw here (z .kept .subs-alone);
+            held = rw low (k .held);
+            low-is = rw here low;
+            words-in = rw low (k .words-in);
+            stored = rw here (k .stored);
+            subs-alone = rw here (k .subs-alone);
             joined = rw here (v .joined);
             diamonds = rw here (v .diamonds);
             words = rw (here, same-words) (space .0);
             floats = rw (here, same-floats) (space .1);
           };
-          is = rw (here, z .kept .dimension, z .kept .points, ← v .points) (ap (λ (x : List (List Float)). record { dimension = p .dimension; points = x; abs = solidOf p }) (parts-join (p .dimension) (p .points) (λ x k. v .coordinates x k .0)));
+          is = rw (here, k .dimension, k .points, ← v .points) (ap (λ (x : List (List Float)). record { dimension = p .dimension; points = x; abs = solidOf p }) (parts-join (p .dimension) (p .points) (λ x k. v .coordinates x k .0)));
         }
           where
             here : solidIn (r .shape) (take (r .low) ws) ≡ solidOf p
-            here = rw (z .low) (z .kept .solid)
+            here = rw low (k .solid)
 
             space : (16 * (elements (solidOf p) + entries (solidOf p) + 4) ≤ n) × (8 * (elements (solidOf p) + 8) ≤ m)
             space = room-in (solidOf p) n m (sym room ∙ q)
 
         from : Settled p r ws fs → Preflighted b n m r ws fs
         from z = record {
-          verdict = z .verdict ∙ sym (judged b n m p e (sym room ∙ q));
+          answer = go (preflight b n m) refl;
+          verdict = z .verdict ∙ sym checks;
           lengths = (same-words, same-floats);
-          placed = λ c k. rw (← accepted b n m p e c k) (place (rw (← accepted b n m p e c k) at (every-passed b n m c k)) z);
+          placed = λ c k.
+              let a = passes c k in
+              rw (← accepted b n m p e c k) (place (rw (← accepted b n m p e c k) at (every-passed b n m c k)) (z .kept a) (z .low a));
         }
+          where
+            checks : verdictOf (preflight b n m) ≡ checksOf (solidOf p)
+            checks = judged b n m p e (sym room ∙ q)
+
+            passes : (c : Concrete) → preflight b n m ≡ passed c → checksOf (solidOf p) ≡ Accepted
+            passes c k = sym checks ∙ rw k
+
+            go : (o : Judged Concrete) → preflight b n m ≡ o → r ≡ readyOf o
+            go (refused why) k = z .unready why (sym checks ∙ rw k)
+            go (passed c) k =
+                let a = passes c k in
+                let f = z .kept a .shape in
+                rw (← accepted b n m p e c k) (ready-is r (z .verdict ∙ a) f (z .low a ∙ ap (λ (h : Shape). lowOf h (entries (solidOf p))) f))
 
 -- what storing asks
 pub asked : (b : List ℕ) (n m : ℕ) (p : Parsed) (e : readSheet b ≡ passed p) (h : Header) (eh : h ≡ headerOf p) (t : Bool)

@@ -1,7 +1,7 @@
--- `ranked::preflight::settle` meets its contract: its steps are those of `Laws`. Assumes nothing.
+-- `ranked::preflight::settle` meets its contract: its steps are those of `Laws`, by the verdict on the stored solid. Assumes nothing.
 use borrow.Author.Needs.{needs}
 use native.Mathlib.Omega.{arith}
-use Rattle.ranked.proofs.preflight.Laws.{header-said, low-asked, low-in, low-length, held-low, settled}
+use Rattle.ranked.proofs.preflight.Laws.{header-said, low-asked, low-in, low-length, held-low, settled, unsettled}
 use Rattle.ranked.proofs.preflight.settle.Statement.{statement}
 use Rattle.ranked.proofs.preflight.settle.Tie as tie
 
@@ -25,10 +25,24 @@ settle-spec = tie.close (tie.spec
     let t = l .before .before .before .before .before in
     let s = t .before .before .before .before .before .before .before in
     held-low (s .args .sheet .now) _ (s .pre .0) (s .args .header) (s .pre .1 .0) (t .store .ensures) _ (l .low-of .ensures))
+    -- enum-known-verdict, unready-requires, enum-told
+    (λ c. search needs)
+    (λ c κs. search needs)
+    (λ c. search needs)
     -- same-length, same-length-2, returns
     (λ c. search needs)
     (λ c. search needs)
-    (λ c. let l = c .before .before in
+    (λ c. let v = c .before .before in
+    let k = v .before .before in
+    let l = k .before .before in
     let t = l .before .before .before .before .before in
     let s = t .before .before .before .before .before .before .before in
-    settled (s .args .sheet .now) _ (s .pre .0) (s .args .header) (s .pre .1 .0) (t .store .ensures) _ (l .low-of .ensures) _ (c .checked .ensures)))
+    unsettled (s .args .sheet .now) _ (s .pre .0) (s .args .header) (s .pre .1 .0) (t .store .ensures) _ (l .low-of .ensures) _ (k .checked .ensures) _ (v .verdict .given .1) _ (c .unready .ensures))
+    -- same-length-3, same-length-4, returns-2
+    (λ c. search needs)
+    (λ c. search needs)
+    (λ c. let k = c .before .before in
+    let l = k .before .before in
+    let t = l .before .before .before .before .before in
+    let s = t .before .before .before .before .before .before .before in
+    settled (s .args .sheet .now) _ (s .pre .0) (s .args .header) (s .pre .1 .0) (t .store .ensures) _ (l .low-of .ensures) _ (k .checked .ensures) (c .enum-told .given .1)))
