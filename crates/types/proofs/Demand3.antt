@@ -10,6 +10,7 @@ use lib.Seq.{getD-append-add}
 use Rattle.spec.specs.declared.Answer.{Answer}
 use Rattle.spec.specs.declared.Answer.the-variants.{Done}
 use Rattle.spec.specs.Lists.{range, sum, join}
+use Rattle.spec.specs.Mark.{goes}
 use Rattle.spec.specs.Types.{Solid, top, size, properRanks, State, typesAt, typeOf, given}
 use Rattle.spec.specs.Demand.{Proper}
 use Rattle.spec.specs.Copying.{written}
@@ -64,6 +65,9 @@ demand3-outputs b words floats old new n done =
           record {
             finer = λ r e f p h k apart same. g .finer r e f h k apart (sym (at r e p h) ∙ same ∙ at r f p k);
             final = λ still r e p h. at r e p h ∙ sym (g .final still r e p h);
+            confirmed = λ row m r e p h.
+                let k = g .confirmed row m r e h in
+                record { rank = k .0; after = k .1; cell = at r (goes s row r e) p (k .0) ∙ k .2 ∙ sym (at r e p h) };
           };
     }
 

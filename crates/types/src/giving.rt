@@ -21,7 +21,7 @@ ghost use Rattle.types.specs.Cells.{cellsOf, Listable};
 ghost use Rattle.types.specs.Call.{handedOut};
 
 // "E counts proper elements": those from the first vertex on, below the top. Where R = 0 the top stands first, and there are none.
-pub fn proper_count(sh: Shape) -> usize
+fn proper_count(sh: Shape) -> usize
     requires { ⌜ sh .rank < 7 ⌝ }
     ensures { λ n. ⌜ n ≡ proper sh ⌝ }
 {
@@ -34,8 +34,8 @@ pub fn proper_count(sh: Shape) -> usize
     end - first
 }
 
-// One cell a proper element.
-pub fn write_types(words: &[u32], low: usize, sh: Shape, of: &mut [u16])
+// Writes the type of each proper element, one cell for each.
+fn write_types(words: &[u32], low: usize, sh: Shape, of: &mut [u16])
     requires { ⌜ Countable sh low (now words) ⌝ }
     requires { ⌜ elements (solidIn sh (take low (now words))) ≤ length (now of) ⌝ }
     ensures { λ _. ⌜ now (of .exit) ≡ written (given (solidIn sh (take low (now (words .entry)))) (stateIn sh low (now (words .entry)))) (now (of .entry)) ⌝ }
@@ -49,7 +49,7 @@ pub fn write_types(words: &[u32], low: usize, sh: Shape, of: &mut [u16])
     }
 }
 
-// The record of a type that appears, from cell `at` on: e is the first element that has it.
+// Writes the record of a type that appears for the first time, from cell `at` on: e is the first element that has it.
 fn open_type(table: &mut [u16], at: usize, r: u16, t: u16, e: u16)
     requires { ⌜ at + 4 ≤ length (now table) ⌝ }
     ensures { λ _. ⌜ now (table .exit) ≡ sets (now (table .entry)) at (r ∷ t ∷ e ∷ 1 ∷ []) ⌝ }
@@ -60,7 +60,8 @@ fn open_type(table: &mut [u16], at: usize, r: u16, t: u16, e: u16)
     table[at + 3] = 1;
 }
 
-// Four cells for each type of rank r, behind those of m types. The types of its n elements stand from word `from`. Says how many types they have.
+// Writes four cells for each type of rank r, behind those of m types, and answers how many types there are. The types of the rank's n elements
+// stand from word `from` on.
 fn write_rank(words: &[u32], from: usize, n: usize, r: usize, table: &mut [u16], m: usize) -> usize
     requires { ⌜ Listable (now words) from n r (length (now table)) m ⌝ }
     ensures { λ k. ⌜ k ≡ length (distinct eqb (take n (drop from (now (words .entry))))) ⌝ }
@@ -84,8 +85,8 @@ fn write_rank(words: &[u32], from: usize, n: usize, r: usize, table: &mut [u16],
     k
 }
 
-// Four cells a type: rank, type, example and count.
-pub fn write_table(words: &[u32], low: usize, sh: Shape, table: &mut [u16])
+// Writes four cells for each type: its rank, its number, its example and its count.
+fn write_table(words: &[u32], low: usize, sh: Shape, table: &mut [u16])
     requires { ⌜ Countable sh low (now words) ⌝ }
     requires { ⌜ 4 * typeCount (solidIn sh (take low (now words))) (stateIn sh low (now words)) ≤ length (now table) ⌝ }
     ensures { λ _. ⌜ now (table .exit)
@@ -103,7 +104,7 @@ pub fn write_table(words: &[u32], low: usize, sh: Shape, table: &mut [u16])
     }
 }
 
-// 13, or the types of the elements and the table, with how many types there are.
+// Gives out the types of the elements and the table, and answers how many types there are; or refusal 13, where an output is too short.
 pub fn give_out(words: &[u32], low: usize, sh: Shape, of: &mut [u16], table: &mut [u16]) -> Answer
     requires { ⌜ Countable sh low (now words) ⌝ }
     ensures { λ r. ⌜ (r, record { elements = now (of .exit); types = now (table .exit) })

@@ -10,6 +10,7 @@ ghost use Prim.Native.Nat.{ℕ};
 ghost use lib.ListN.{length};
 ghost use Rattle.spec.specs.declared.Answer.the-variants.{Done};
 ghost use Rattle.spec.specs.Calls.{typesCall};
+ghost use Rattle.spec.specs.Workspace.{Free};
 ghost use Rattle.ranked.specs.Bench.{solidAt, Bench};
 ghost use Rattle.types.specs.Call.{answered};
 ghost use Rattle.types.specs.Demand3.{Demand3Cells};
@@ -18,7 +19,7 @@ mod giving;
 
 use crate::giving::give_out;
 
-// "the types call goes on with 15, 13": of the solid that lies in the workspace.
+// "the types call goes on with 15, 13": gives out the types of the solid that lies in the workspace, or judges one of these refusals.
 fn types_given(
     words: &mut [u32],
     low: usize,
@@ -37,9 +38,9 @@ fn types_given(
     Answer::Refused(Refusal::Unsettled, 0)
 }
 
-// A sheet of any bytes and any length, a workspace of any size, and outputs of any length: one cell a proper element, and four a type. The
-// workspace afterwards is free, and keeps its length. Where the call is done, the cells are as fine as any list of steps, and hold the numbers of
-// one that no step would part more.
+// The call takes a sheet of any bytes and any length, a workspace of any size, and outputs of any length: one cell for each proper element, and
+// four for each type. Where it is done, the cells tell apart whatever any list of steps tells apart, hold the numbers of a list after which no step
+// would part more, and are kept by every row that the mark's rule confirms. The workspace afterwards is free, and keeps its length.
 pub fn element_types(
     sheet: &[u8],
     words: &mut [u32],
@@ -52,6 +53,7 @@ pub fn element_types(
         (record { elements = now (of .entry); types = now (table .entry) }) ⌝ }
     ensures { λ r. ⌜ ((n : ℕ) → r ≡ Done n
         → Demand3Cells (now (sheet .entry)) (length (now (words .entry))) (length (now (floats .entry))) (now (of .exit))) ⌝ }
+    ensures { λ _. ⌜ Free (now (words .entry)) (now (words .exit)) (now (floats .entry)) (now (floats .exit)) ⌝ }
 {
     let ready = preflight(sheet, words, floats);
     let verdict = ready.verdict;

@@ -29,7 +29,8 @@ element-types-spec =
     -- returns
     (λ c. let v = c .before in
     let p = v .before .before .before .before .before .before .before in
-    told _ _ _ (old p) (old p) _ (refused-call _ _ _ _ _ _ (p .preflight .ensures) _ (v .verdict .given .1) (old p)))
+    let t = told _ _ _ (old p) (old p) _ (refused-call _ _ _ _ _ _ (p .preflight .ensures) _ (v .verdict .given .1) (old p)) in
+    (t .0, (t .1, record { words = search needs; floats = search needs })))
     -- same-length, for each slice
     (λ c. search needs)
     (λ c. search needs)
@@ -39,4 +40,5 @@ element-types-spec =
     (λ c. let g = c .before .before .before .before .before .before .before .before in
     let t = g .before .before .before .before .before in
     let p = t .before .before .before .before .before .before .before in
-    told _ _ _ (old p) _ _ (passed-call _ _ _ _ _ _ (p .preflight .ensures) (t .enum-told .given .1) (old p) _ (g .types-given .ensures))))
+    let d = told _ _ _ (old p) _ _ (passed-call _ _ _ _ _ _ (p .preflight .ensures) (t .enum-told .given .1) (old p) _ (g .types-given .ensures)) in
+    (d .0, (d .1, record { words = search needs; floats = search needs }))))
