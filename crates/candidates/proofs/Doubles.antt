@@ -13,8 +13,11 @@ use lib.Ieee.{Float}
 use Rattle.spec.specs.Matrix.{Vector}
 use Rattle.spec.specs.Mark.{noRepeats}
 use Rattle.spec.specs.Copying.{near, found, find, parts}
-use Rattle.spec.proofs.CopyLaws.{found-near, not-found}
+use Rattle.float.specs.declared.points.Found.{Found}
+use Rattle.float.specs.declared.points.Found.the-variants.{At, Nothing}
+use Rattle.float.specs.Finding.{foundAt}
 use Rattle.float.proofs.Parts.{length-parts, part-at, part-end}
+use Rattle.float.proofs.Finding.{is-found, is-missing}
 
 -- ---- one point after another
 
@@ -37,29 +40,6 @@ module _ (ps : List Vector) where
   pub apart-end : (i : ℕ) → length ps ≤ i → Apart i → true ≡ noRepeats near ps
   unfolding noRepeats
   apart-end i h inv = rw (drop-of-length-le ps h) at inv
-
--- found or not, by the number
-module _ (ps : List Vector) (q : Vector) where
-  pub is-found : (find ps q ≡ length ps → ⊥) → found ps q ≡ true
-  is-found h = go (found ps q) refl
-    where
-      go : (b : Bool) → found ps q ≡ b → found ps q ≡ true
-      go true e = e
-      go false e = absurd (h (not-found ps q e))
-
-  pub is-missing : find ps q ≡ length ps → found ps q ≡ false
-  is-missing h = go (found ps q) refl
-    where
-      go : (b : Bool) → found ps q ≡ b → found ps q ≡ false
-      go true e = absurd (omega (arith, found-near ps q e .0))
-      go false e = e
-
-  pub find-low : find ps q ≤ length ps
-  find-low = go (found ps q) refl
-    where
-      go : (b : Bool) → found ps q ≡ b → find ps q ≤ length ps
-      go true e = omega (arith, found-near ps q e .0)
-      go false e = omega (arith, not-found ps q e)
 
 -- ---- in the slice
 
@@ -97,16 +77,20 @@ module _ (n d i : ℕ) (l : List Float) (h : i < n) (f : n * d ≤ length l) whe
       go : (k : ℕ) → suc i + k ≡ n → parts k d (drop ((i + 1) * d) l) ≡ drop (suc i) (parts n d l)
       go k e = rw (add-one i) (later (suc i) k d l ∙ ap (λ (x : ℕ). drop (suc i) (parts x d l)) e)
 
-  -- point i looked for among the later ones, as far as the code has it
-  module _ (q : Vector) (is : take d q ≡ take d (drop (i * d) l)) (at : ℕ) (e : at ≡ find (parts (n - (i + 1)) d rest) (take d q)) where
-    same : at ≡ find (drop (suc i) (parts n d l)) (getD (parts n d l) i [])
-    same = e ∙ ap (λ (ps : List Vector). find ps (take d q)) later-is ∙ ap (find (drop (suc i) (parts n d l))) (is ∙ sym (part-at n d l i h))
+  -- what the code answers where it looks for point i among the later ones
+  module _ (q : Vector) (is : take d q ≡ take d (drop (i * d) l)) (r : Found) (e : r ≡ foundAt (n - (i + 1)) (find (parts (n - (i + 1)) d rest) (take d q))) where
+    same : foundAt (n - (i + 1)) (find (drop (suc i) (parts n d l)) (getD (parts n d l) i [])) ≡ r
+    same =
+        sym
+        (e
+        ∙ ap (λ (ps : List Vector). foundAt (n - (i + 1)) (find ps (take d q))) later-is
+        ∙ ap (λ (p : Vector). foundAt (n - (i + 1)) (find (drop (suc i) (parts n d l)) p)) (is ∙ sym (part-at n d l i h)))
 
     many : length (drop (suc i) (parts n d l)) ≡ n - (i + 1)
     many = length-drop (suc i) (parts n d l) ∙ omega (arith, length-parts n d l)
 
-    pub double-not : Apart (parts n d l) i → (at ≡ n - (i + 1) → ⊥) → false ≡ noRepeats near (parts n d l)
-    double-not inv k = apart-not (parts n d l) i (omega (arith, length-parts n d l)) inv (is-found _ _ (λ z. k (same ∙ z ∙ many)))
+    pub double-not : Apart (parts n d l) i → {k : ℕ} → r ≡ At k → false ≡ noRepeats near (parts n d l)
+    double-not inv z = apart-not (parts n d l) i (omega (arith, length-parts n d l)) inv (is-found _ _ many (same ∙ z))
 
-    pub double-next : Apart (parts n d l) i → at ≡ n - (i + 1) → Apart (parts n d l) (i + 1)
-    double-next inv k = apart-next (parts n d l) i (omega (arith, length-parts n d l)) inv (is-missing _ _ (sym same ∙ k ∙ sym many))
+    pub double-next : Apart (parts n d l) i → r ≡ Nothing → Apart (parts n d l) (i + 1)
+    double-next inv z = apart-next (parts n d l) i (omega (arith, length-parts n d l)) inv (is-missing _ _ many (same ∙ z))

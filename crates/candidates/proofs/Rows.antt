@@ -1,6 +1,6 @@
 -- A row that is written from its first cell on, until an image is not among the vertices.
 -- Assumes nothing.
-use mathlib.Core.Path.{_≡_, refl, ap, _∙_}
+use mathlib.Core.Path.{_≡_, refl, sym, ap, _∙_}
 use mathlib.Core.Bool.{true, false, false≢true}
 use mathlib.Core.List.{List, [], map}
 use Prim.Native.Nat.{ℕ, _+_, _≤_, _<_}
@@ -16,8 +16,11 @@ use Rattle.spec.specs.Search.{rowOf}
 use Rattle.spec.proofs.Lists.{getD-map}
 use Rattle.ranked.proofs.Turns.{Every, every-yes, every-no, every-end}
 use Rattle.float.proofs.Written.{Written, none, next, end-plain, table-map}
+use Rattle.float.specs.declared.points.Found.{Found}
+use Rattle.float.specs.declared.points.Found.the-variants.{At, Nothing}
+use Rattle.float.specs.Finding.{foundAt}
+use Rattle.float.proofs.Finding.{at-number, nothing-number}
 use Rattle.candidates.specs.Post.{Rowed}
-use Rattle.candidates.proofs.Doubles.{find-low}
 
 -- the vertex that vertex i goes to
 abbrev pub imageOf : List Vector → Matrix → ℕ → ℕ
@@ -45,21 +48,24 @@ module _ (n : ℕ) (ps : List Vector) (m : Matrix) (all : length ps ≡ n) where
   pub row-none : (old : List ℕ) → Rowing old old 0
   row-none old = record { low = omega arith; written = none; found = refl }
 
-  module _ (old cells : List ℕ) (k : ℕ) (r : Rowing old cells k) (more : k < n) (at : ℕ) (e : at ≡ imageOf ps m k) where
-    pub at-low : at ≤ n
-    at-low = omega (arith, e, find-low ps (mulVec m (getD ps k [])))
+  -- what the code answers where it looks for the image of vertex k
+  module _ (old cells : List ℕ) (k : ℕ) (r : Rowing old cells k) (more : k < n) (answer : Found) (e : answer ≡ foundAt n (imageOf ps m k)) where
+    pub at-low : {at : ℕ} → answer ≡ At at → at < n
+    at-low z = at-number (sym e ∙ z) .1
 
-    pub row-next : n ≤ length old → (at ≡ n → ⊥) → Rowing old (set cells k at) (k + 1)
-    row-next room h = record {
-      low = omega arith;
-      written = next at (omega arith) e (r .written);
-      found = every-yes (λ v. ltb v n) 0 (rowOf ps m) k (omega (arith, length-row)) (r .found) (lt-ltb _ n (omega (arith, cell-is k more, at-low, e, h)));
-    }
+    pub row-next : n ≤ length old → {at : ℕ} → answer ≡ At at → Rowing old (set cells k at) (k + 1)
+    row-next room {at} z =
+        let i = at-number (sym e ∙ z) in
+        record {
+          low = omega arith;
+          written = next at (omega arith) (sym (i .0)) (r .written);
+          found = every-yes (λ v. ltb v n) 0 (rowOf ps m) k (omega (arith, length-row)) (r .found) (lt-ltb _ n (omega (arith, cell-is k more, i)));
+        }
 
-    pub row-not : at ≡ n → Rowed n (rowOf ps m) cells false
-    row-not h = record {
-      found = every-no (λ v. ltb v n) 0 (rowOf ps m) k (omega (arith, length-row)) (r .found) (le-ltb _ n (omega (arith, cell-is k more)));
-      row = λ z. absurd (false≢true z);
+    pub row-not : answer ≡ Nothing → Rowed n (rowOf ps m) cells false
+    row-not z = record {
+      found = every-no (λ v. ltb v n) 0 (rowOf ps m) k (omega (arith, length-row)) (r .found) (le-ltb _ n (omega (arith, cell-is k more, nothing-number (sym e ∙ z))));
+      row = λ b. absurd (false≢true b);
     }
 
   pub row-end : (old cells : List ℕ) (k : ℕ) → Rowing old cells k → n ≤ k → Rowed n (rowOf ps m) cells true

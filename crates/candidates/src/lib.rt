@@ -23,13 +23,14 @@ use flag::Flag;
 use float::DIMENSION;
 use float::matrix;
 use float::points;
+use float::points::Found;
 use float::tolerance;
 use lookup::PLACES;
 use lookup::found;
 use ranked::Shape;
 use ranked::lists;
 
-// Neither an infinity nor a NaN.
+// Whether a float is neither an infinity nor a NaN.
 fn is_finite(x: f64) -> bool
     ensures { λ r. ⌜ r ≡ finite x ⌝ }
 {
@@ -52,7 +53,7 @@ fn row_finite(v: [f64; DIMENSION], d: usize) -> bool
     true
 }
 
-// Whether every entry is: refusal 11's test of an inverse.
+// Whether every entry is finite. Refusal 11 asks this of the inverse.
 pub fn all_finite(m: [[f64; DIMENSION]; DIMENSION], d: usize) -> bool
     requires { ⌜ d ≤ maxDimension ⌝ }
     ensures { λ r. ⌜ r ≡ allFinite (corner d m) ⌝ }
@@ -68,7 +69,7 @@ pub fn all_finite(m: [[f64; DIMENSION]; DIMENSION], d: usize) -> bool
     true
 }
 
-// No vertex is within EPS of a later one on every axis: refusal 9's test.
+// Whether no vertex is within EPS of a later one on every axis. Refusal 9 asks this of the vertices.
 pub fn no_double(points: &[f64], d: usize, n: usize) -> bool
     requires { ⌜ (d ≤ maxDimension) × (n * d ≤ length (now points)) ⌝ }
     ensures { λ r. ⌜ r ≡ noRepeats near (parts n d (now (points .entry))) ⌝ }
@@ -80,7 +81,7 @@ pub fn no_double(points: &[f64], d: usize, n: usize) -> bool
         let start = i * d;
         let later = &points[start..];
         let left = n - i;
-        if points::find(later, d, left, q) != left {
+        if let Found::At(_) = points::find(later, d, left, q) {
             return false;
         }
     }
@@ -110,8 +111,8 @@ pub fn same_types(words: &[u32], low: usize, sh: Shape, flag: Flag, first: Flag)
     true
 }
 
-// The vertex that each vertex's image is within EPS of, lowest number taken; whether there is one for each. The vertices are looked up by
-// rising number, and the first that is not found ends it: what the row holds then is free.
+// Writes the lowest vertex that each vertex's image is within EPS of, and says whether there is one for every image. The vertices are looked
+// up by rising number, and the first image that is not found ends this; what the row holds is then free.
 pub fn row_of(
     points: &[f64],
     d: usize,
@@ -128,17 +129,17 @@ pub fn row_of(
     let mut k: usize = 0;
     while k < n {
         let q = matrix::image(m, points::loaded(points, d, k), d);
-        let at = found(points, d, n, lone, places, q);
-        if at == n {
-            return false;
-        }
+        let at = match found(points, d, n, lone, places, q) {
+            Found::At(at) => at,
+            Found::Nothing => return false,
+        };
         row[k] = at as u16;
         k += 1;
     }
     true
 }
 
-// A round: "change ranks 1 to R−1 in turn".
+// The flag after one round: "change ranks 1 to R−1 in turn".
 fn turned(w: &[u32], sh: Shape, flag: Flag) -> Flag
     requires { ⌜ Held sh (now w) ⌝ }
     requires { ⌜ diamond (solidIn sh (now w)) ≡ true ⌝ }

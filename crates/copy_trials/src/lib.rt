@@ -1,6 +1,6 @@
-// Section "Trial solids" of document 01, the cases marked P of copying, as calls: "under the 48, (1,0,0) has 6 copies, (1,1,1) 8, (1,2,3) 48. A
-// quarter turn alone on (1,0): 14." And what is said of the table, said of the one that is handed out.
-// Each case lends its two outputs, whatever they hold, and says both that they and the answer are those of the call, and what the answer is.
+// The trials of copying that section "Trial solids" of document 01 marks P, as calls of the library: "under the 48, (1,0,0) has 6 copies, (1,1,1)
+// 8, (1,2,3) 48. A quarter turn alone on (1,0): 14." What the paper says of the table is said here of the table that the library hands out.
+// Each case lends its two outputs, whatever they hold. It promises that the answer and both outputs are those of the call, and what the answer is.
 ghost use mathlib.Core.Path.{_≡_};
 ghost use mathlib.Core.List.{[], _∷_, map};
 ghost use lib.ListN.{length};
@@ -16,14 +16,14 @@ use copying::axes;
 use float::DIMENSION;
 use spec::Answer;
 
-// The table, each entry by its rule, and every product of two entries an entry.
+// The table, of which each entry is made by the rule, and every product of two entries is an entry.
 pub fn axis_orders() -> [[[f64; DIMENSION]; DIMENSION]; 48]
     ensures { λ r. ⌜ AxisOrderTable (map (corner 3) r) ⌝ }
 {
     axes::axis_orders()
 }
 
-// The 48, as a caller lends them.
+// The 48 matrices in the form in which a caller lends them to `copy`.
 fn turns() -> [f64; 432]
     ensures { λ r. ⌜ r ≡ join (join axisOrders) ⌝ }
 {
@@ -31,7 +31,7 @@ fn turns() -> [f64; 432]
     axes::axis_turns(&table)
 }
 
-// (1,0,0) under the 48, with room for just 6 copies.
+// Copies (1,0,0) under the 48, with room for just the 6 copies.
 pub fn six_copies(copies: &mut [f64], cells: &mut [u16]) -> Answer
     requires { ⌜ (length (now copies) ≡ 18) × (length (now cells) ≡ 288) ⌝ }
     ensures { λ r. ⌜ (r, now (copies .exit), now (cells .exit))
@@ -43,7 +43,7 @@ pub fn six_copies(copies: &mut [f64], cells: &mut [u16]) -> Answer
     copying::copy(3, &point, &turns, copies, cells)
 }
 
-// (1,1,1), with room for 8.
+// Copies (1,1,1) under the 48, with room for just the 8 copies.
 pub fn eight_copies(copies: &mut [f64], cells: &mut [u16]) -> Answer
     requires { ⌜ (length (now copies) ≡ 24) × (length (now cells) ≡ 384) ⌝ }
     ensures { λ r. ⌜ (r, now (copies .exit), now (cells .exit))
@@ -55,7 +55,7 @@ pub fn eight_copies(copies: &mut [f64], cells: &mut [u16]) -> Answer
     copying::copy(3, &point, &turns, copies, cells)
 }
 
-// (1,2,3), with room for 48.
+// Copies (1,2,3) under the 48, with room for just the 48 copies.
 pub fn forty_eight_copies(copies: &mut [f64], cells: &mut [u16]) -> Answer
     requires { ⌜ (length (now copies) ≡ 144) × (length (now cells) ≡ 2304) ⌝ }
     ensures { λ r. ⌜ (r, now (copies .exit), now (cells .exit))
@@ -67,7 +67,7 @@ pub fn forty_eight_copies(copies: &mut [f64], cells: &mut [u16]) -> Answer
     copying::copy(3, &point, &turns, copies, cells)
 }
 
-// (1,0) under a quarter turn alone, with room for 1.
+// Copies (1,0) under a quarter turn alone, with room for the one copy. The image of that copy is not among the copies.
 pub fn quarter_turn_alone(copies: &mut [f64], cells: &mut [u16]) -> Answer
     requires { ⌜ (length (now copies) ≡ 2) × (length (now cells) ≡ 48) ⌝ }
     ensures { λ r. ⌜ (r, now (copies .exit), now (cells .exit))

@@ -7,10 +7,13 @@ use native.Mathlib.Numerals.{add-one}
 use native.Mathlib.Omega.{arith}
 use lib.ListN.{length, getD, take, drop, length-append, length-drop, drop-of-length-le}
 use lib.Seq.{take-at, take-all, take-suc, drop-at, drop-drop}
-use lib.Ieee.{Float, nan}
+use lib.Ieee.{Float, nan, neg}
 use Rattle.spec.specs.Lists.{join, range}
+use Rattle.spec.specs.Float.{zip, zeroF, oneF}
 use Rattle.spec.specs.Matrix.{Matrix}
+use Rattle.spec.specs.Copying.{orders, signed, axisOrder, axisOrders}
 use Rattle.float.specs.Reading.{corner}
+use Rattle.copying.specs.Post.{padded}
 use Rattle.copying.proofs.Growth.{join-append}
 
 -- ---- one matrix
@@ -87,3 +90,10 @@ module _ {t : List Matrix} {before : List Float} where
 -- a buffer that has no cell more
 pub whole : (t : List Matrix) (before : List Float) → length before ≤ length t * 9 → floats t ++ drop (length t * 9) before ≡ floats t
 whole t before h = ap (λ (x : List Float). floats t ++ x) (drop-of-length-le before {i = length t * 9} h) ∙ append-nil (floats t)
+
+-- ---- the table of 48
+
+-- of the cells that the table holds, the first three of the first three rows are the matrices themselves
+pub table-corners : map (corner 3) (map (padded 3) axisOrders) ≡ axisOrders
+unfolding neg zip zeroF oneF join range orders signed axisOrder axisOrders corner padded
+table-corners = refl

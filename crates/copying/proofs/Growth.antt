@@ -12,9 +12,9 @@ use lib.Seq.{take-at, drop-at, drop-cons, drop-drop, drop-length, drop-append-ad
 use lib.Ieee.{Float}
 use Rattle.spec.specs.Lists.{join}
 use Rattle.spec.specs.Matrix.{Vector, Matrix, mulVec}
-use Rattle.spec.specs.Copying.{found, find, spread, copiesFrom, parts, points, matrices, written}
+use Rattle.spec.specs.Copying.{found, spread, copiesFrom, parts, points, matrices, written}
 use Rattle.spec.proofs.Lists.{getD-map}
-use Rattle.spec.proofs.CopyLaws.{found-near, not-found, spread-adds}
+use Rattle.spec.proofs.CopyLaws.{spread-adds}
 use Rattle.float.proofs.Parts.{length-parts, part-at, parts-more, parts-same, join-parts}
 use Rattle.copying.specs.Post.{Fitting, Overfull, withImage, withPoint}
 
@@ -95,30 +95,6 @@ module _ {d limit : ℕ} {before : List Float} where
 
   pub grown-end : {buffer : List Float} {n : ℕ} {whole : List Vector} → Grown d limit before buffer n → parts n d buffer ≡ whole → Fitting d limit whole before buffer n
   grown-end g e = record { room = g .room; read = e; is = g .is ∙ ap (λ (x : List Vector). written (join x) before) e }
-
--- ---- finding, by the number that is found
-
-pub find-most : (ps : List Vector) (q : Vector) → find ps q ≤ length ps
-find-most ps q = go (found ps q) refl
-  where
-    go : (b : Bool) → found ps q ≡ b → find ps q ≤ length ps
-    go true e = omega (arith, found-near ps q e .0)
-    go false e = omega (arith, not-found ps q e)
-
-module _ (n d : ℕ) (l : List Float) (q : Vector) where
-  pub found-less : find (parts n d l) q < n → found (parts n d l) q ≡ true
-  found-less h = go (found (parts n d l) q) refl
-    where
-      go : (b : Bool) → found (parts n d l) q ≡ b → found (parts n d l) q ≡ true
-      go true e = e
-      go false e = absurd (omega (arith, not-found (parts n d l) q e, length-parts n d l))
-
-  pub found-none : n ≤ find (parts n d l) q → found (parts n d l) q ≡ false
-  found-none h = go (found (parts n d l) q) refl
-    where
-      go : (b : Bool) → found (parts n d l) q ≡ b → found (parts n d l) q ≡ false
-      go true e = absurd (omega (arith, found-near (parts n d l) q e .0, length-parts n d l))
-      go false e = e
 
 -- ---- one image, and one point
 

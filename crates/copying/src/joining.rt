@@ -1,5 +1,5 @@
-// The copies: "A point not found among the copies is multiplied by every matrix in order; each image not found joins." They stand one
-// after another in a lent buffer, d floats each; limit is how many there may be.
+// Section 7's copies: "A point not found among the copies is multiplied by every matrix in order; each image not found joins." The copies
+// stand one after another in a lent buffer, d floats each, and `limit` says how many of them there may be.
 ghost use mathlib.Core.Path.{_≡_};
 ghost use Prim.Native.Nat.{_*_, _≤_};
 ghost use lib.ListN.{length, take, drop};
@@ -10,6 +10,7 @@ ghost use Rattle.copying.specs.Post.{Kept, withImage, withPoint};
 use float::DIMENSION;
 use float::matrix;
 use float::points;
+use float::points::Found;
 
 // How many copies there are, or that there is no room for them all.
 pub enum Room {
@@ -17,12 +18,12 @@ pub enum Room {
     Full,
 }
 
-// One image: it joins after the n copies, unless it is found among them or there is no room.
+// Adds one image. It joins after the n copies, unless it is found among them or there is no room for it.
 fn add(out: &mut [f64], d: usize, n: usize, limit: usize, q: [f64; DIMENSION]) -> Room
     requires { ⌜ (1 ≤ d) × (d ≤ maxDimension) × (n ≤ limit) × (limit * d ≤ length (now out)) ⌝ }
     ensures { λ r. ⌜ Kept d limit (withImage (parts n d (now (out .entry))) (take d q)) (now (out .entry)) (now (out .exit)) r ⌝ }
 {
-    if points::find(out, d, n, q) < n {
+    if let Found::At(_) = points::find(out, d, n, q) {
         return Room::Fits(n);
     }
     let more = n + 1;
@@ -34,7 +35,7 @@ fn add(out: &mut [f64], d: usize, n: usize, limit: usize, q: [f64; DIMENSION]) -
     Room::Full
 }
 
-// The images of p under every matrix in order.
+// Adds the images of p under every matrix in order.
 fn spread(
     out: &mut [f64],
     d: usize,
@@ -60,7 +61,7 @@ fn spread(
     Room::Fits(held)
 }
 
-// One point: nothing, where it is found among the n copies.
+// Adds the images of one point, unless the point itself is found among the n copies.
 fn point_copied(
     out: &mut [f64],
     d: usize,
@@ -72,13 +73,13 @@ fn point_copied(
     requires { ⌜ (1 ≤ d) × (d ≤ maxDimension) × (n ≤ limit) × (limit * d ≤ length (now out)) ⌝ }
     ensures { λ r. ⌜ Kept d limit (withPoint (matrices d (now (turns .entry))) (parts n d (now (out .entry))) (take d p)) (now (out .entry)) (now (out .exit)) r ⌝ }
 {
-    if points::find(out, d, n, p) < n {
+    if let Found::At(_) = points::find(out, d, n, p) {
         return Room::Fits(n);
     }
     spread(out, d, n, limit, turns, p)
 }
 
-// All copies. Copies only join at the end, so those that fit are the first.
+// Makes all the copies. Copies only ever join at the end, so the ones that fit are the first ones.
 pub fn copies(from: &[f64], turns: &[f64], d: usize, limit: usize, out: &mut [f64]) -> Room
     requires { ⌜ (1 ≤ d) × (d ≤ maxDimension) × (limit * d ≤ length (now out)) ⌝ }
     ensures { λ r. ⌜ Kept d limit (copiesOf (matrices d (now (turns .entry))) (pointsOf d (now (from .entry)))) (now (out .entry)) (now (out .exit)) r ⌝ }

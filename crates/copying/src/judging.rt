@@ -1,4 +1,4 @@
-// "copying goes 2, 1, 3, 12": the refusals that the points and the matrices can meet by themselves.
+// "copying goes 2, 1, 3, 12": the refusals that depend only on the dimension, the points and the matrices.
 ghost use mathlib.Core.Path.{_≡_};
 ghost use Rattle.spec.specs.Lists.{every};
 ghost use Rattle.spec.specs.Float.{inRange};
@@ -8,6 +8,7 @@ use float::DIMENSION;
 use float::points;
 use spec::Refusal;
 
+// Whether the points and matrices can be copied, or by which refusal they are turned down.
 pub enum Judgement {
     Passed,
     Refused(Refusal),
@@ -28,6 +29,7 @@ fn all_in_range(s: &[f64]) -> bool
     true
 }
 
+// The four judgements, in their order. A refusal ends them, so each test may rely on the ones before it.
 pub fn judged(d: usize, from: &[f64], turns: &[f64]) -> Judgement
     ensures { λ r. ⌜ judgementOf r ≡ judgeCopy d (now (from .entry)) (now (turns .entry)) ⌝ }
 {

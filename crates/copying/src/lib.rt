@@ -1,4 +1,4 @@
-// Section 7 of document 01: copying points under matrices, and the constant table of 48.
+// Section 7 of document 01: copying points under matrices, and the constant table of 48 signed axis orders.
 ghost use mathlib.Core.Path.{_≡_};
 ghost use Prim.Native.Nat.{_/_, _≤_, min};
 ghost use lib.ListN.{length};
@@ -17,7 +17,7 @@ mod rows;
 use joining::Room;
 use judging::Judgement;
 
-// How many points of d floats there is room for, and at most 2,048: "copies over 2,048" are refused.
+// How many points of d floats there is room for, but never more than 2,048, since "copies over 2,048" are refused.
 fn room(floats: usize, d: usize) -> usize
     requires { ⌜ 1 ≤ d ⌝ }
     ensures { λ r. ⌜ r ≡ min maxCount (floats / d) ⌝ }
@@ -29,8 +29,8 @@ fn room(floats: usize, d: usize) -> usize
     MAX_COUNT
 }
 
-// The copies, and then their table, for points and matrices that passed. How many cells the table has can exceed a word, so that is compared
-// by division.
+// Makes the copies and then their table, for points and matrices that passed. The number of cells that the table needs can exceed a word, so
+// it is compared with the table's length by division.
 fn copied(d: usize, from: &[f64], turns: &[f64], out: &mut [f64], table: &mut [u16]) -> Answer
     requires { ⌜ judgeCopy d (now from) (now turns) ≡ passed tt ⌝ }
     ensures { λ r. ⌜ (r, now (out .exit), now (table .exit))
@@ -52,7 +52,7 @@ fn copied(d: usize, from: &[f64], turns: &[f64], out: &mut [f64], table: &mut [u
     Answer::Refused(Refusal::Open, n)
 }
 
-// Points and matrices in, row by row; the copies and their table out.
+// Copies points under matrices. Both come row by row; the copies and their table go to the two outputs.
 pub fn copy(
     dimension: usize,
     points: &[f64],

@@ -1,4 +1,5 @@
-// The table: "a table row per matrix gives each copy's image", by its number; 65,535 in every cell where one is not among the copies.
+// Section 7's table: "a table row per matrix gives each copy's image", by its number. Where some image is not among the copies, every cell of
+// the table is set to 65,535.
 ghost use mathlib.Core.Path.{_≡_};
 ghost use mathlib.Core.Bool.{true};
 ghost use Prim.Native.Nat.{_*_, _/_, _≤_};
@@ -11,13 +12,14 @@ ghost use Rattle.copying.specs.Post.{Tabled};
 use float::DIMENSION;
 use float::matrix;
 use float::points;
+use float::points::Found;
 use lookup::PLACES;
 use lookup::found;
 
-// The number in every cell of a table with an image that is not among the copies.
+// The number that fills a table when an image is not among the copies.
 const NONE: u16 = 65535;
 
-// The row of matrix m over the n copies; whether every image is among them.
+// Writes the row of matrix m over the n copies, and says whether every image is among them.
 fn row(
     copies: &[f64],
     d: usize,
@@ -34,17 +36,17 @@ fn row(
     let mut k: usize = 0;
     while k < n {
         let q = matrix::image(m, points::loaded(copies, d, k), d);
-        let at = found(copies, d, n, lone, places, q);
-        if at == n {
-            return false;
-        }
+        let at = match found(copies, d, n, lone, places, q) {
+            Found::At(at) => at,
+            Found::Nothing => return false,
+        };
         out[k] = at as u16;
         k += 1;
     }
     true
 }
 
-// Row after row; whether every image is among the copies.
+// Writes row after row, and says whether every image is among the copies.
 pub fn write(copies: &[f64], d: usize, n: usize, turns: &[f64], out: &mut [u16]) -> bool
     requires { ⌜ (1 ≤ d) × (d ≤ maxDimension) × (n ≤ maxCount) × (n * d ≤ length (now copies)) × (length (now turns) / (d * d) * n ≤ length (now out)) × Apart (parts n d (now copies)) ⌝ }
     ensures { λ r. ⌜ Tabled n (copyTable (matrices d (now (turns .entry))) (parts n d (now (copies .entry)))) (now (out .entry)) (now (out .exit)) r ⌝ }
@@ -65,7 +67,7 @@ pub fn write(copies: &[f64], d: usize, n: usize, turns: &[f64], out: &mut [u16])
     true
 }
 
-// NONE in the first cells.
+// Fills the first cells with NONE.
 pub fn fill(out: &mut [u16], cells: usize)
     requires { ⌜ cells ≤ length (now out) ⌝ }
     ensures { λ _. ⌜ now (out .exit) ≡ written (replicate cells 65535) (now (out .entry)) ⌝ }

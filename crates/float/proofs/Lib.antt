@@ -11,3 +11,4 @@ pub mod Inverses
 pub mod Parts
 pub mod Nearness
 pub mod Tails
+pub mod Finding

@@ -7,6 +7,7 @@ ghost use Rattle.spec.specs.Limits.{maxDimension};
 ghost use Rattle.spec.specs.Float.{inRange};
 ghost use Rattle.spec.specs.Copying.{near, find, parts, written};
 ghost use Rattle.float.specs.Reading.{corner};
+ghost use Rattle.float.specs.Finding.{foundAt};
 use crate::DIMENSION;
 use crate::tolerance;
 use crate::vector;
@@ -14,14 +15,20 @@ use crate::vector;
 // The largest magnitude of a coordinate or a matrix entry.
 const LARGEST: f64 = 1048576.0;
 
-// Finite and not too large. What is not finite is not at most LARGEST.
+// Where a scan of a list found what it looked for: at that number, counted from 0, or nowhere in the list.
+pub enum Found {
+    At(usize),
+    Nothing,
+}
+
+// Whether a float is finite and not too large. One comparison is enough, because neither a NaN nor an infinity is at most LARGEST.
 pub fn in_range(x: f64) -> bool
     ensures { λ r. ⌜ r ≡ inRange x ⌝ }
 {
     tolerance::magnitude(x) <= LARGEST
 }
 
-// Point v: the part of the slice that holds it.
+// Point v, handed back as the part of the slice that holds it.
 pub fn point(points: &[f64], d: usize, v: usize) -> &[f64]
     requires { ⌜ v * d + d ≤ length (now points) ⌝ }
     ensures { λ r. ⌜ now r ≡ take d (drop (v * d) (now (points .entry))) ⌝ }
@@ -31,7 +38,7 @@ pub fn point(points: &[f64], d: usize, v: usize) -> &[f64]
     &points[start..end]
 }
 
-// Point v, in an array.
+// Point v, copied into an array.
 pub fn loaded(points: &[f64], d: usize, v: usize) -> [f64; DIMENSION]
     requires { ⌜ (d ≤ maxDimension) × (v * d + d ≤ length (now points)) ⌝ }
     ensures { λ r. ⌜ take d r ≡ take d (drop (v * d) (now (points .entry))) ⌝ }
@@ -39,7 +46,7 @@ pub fn loaded(points: &[f64], d: usize, v: usize) -> [f64; DIMENSION]
     vector::load(point(points, d, v))
 }
 
-// Matrix j of those that stand row by row in the slice.
+// Matrix j of those that stand one after another in the slice, each row by row.
 pub fn matrix_at(matrices: &[f64], d: usize, j: usize) -> [[f64; DIMENSION]; DIMENSION]
     requires { ⌜ (d ≤ maxDimension) × (j * (d * d) + d * d ≤ length (now matrices)) ⌝ }
     ensures { λ r. ⌜ corner d r ≡ parts d d (take (d * d) (drop (j * (d * d)) (now (matrices .entry)))) ⌝ }
@@ -69,7 +76,8 @@ pub fn near(p: &[f64], q: [f64; DIMENSION]) -> bool
     true
 }
 
-// The same of point v. Most points are told apart by their first axis, so that comes before all else.
+// Whether q is within EPS of point v on every axis. Most points differ on their first axis already, so that axis is compared before the
+// point's part of the slice is taken.
 pub fn near_at(points: &[f64], d: usize, v: usize, q: [f64; DIMENSION]) -> bool
     requires { ⌜ (1 ≤ d) × (d ≤ maxDimension) × (v * d + d ≤ length (now points)) ⌝ }
     ensures { λ r. ⌜ r ≡ near (take d (drop (v * d) (now (points .entry)))) (take d q) ⌝ }
@@ -80,25 +88,28 @@ pub fn near_at(points: &[f64], d: usize, v: usize, q: [f64; DIMENSION]) -> bool
     false
 }
 
-// The lowest of the n points that is near q; n, where none is. Points of no axes are near all.
-pub fn find(points: &[f64], d: usize, n: usize, q: [f64; DIMENSION]) -> usize
+// The lowest of the n points that is near q. Points without axes are near everything, so the first of them is found.
+pub fn find(points: &[f64], d: usize, n: usize, q: [f64; DIMENSION]) -> Found
     requires { ⌜ (d ≤ maxDimension) × (n * d ≤ length (now points)) ⌝ }
-    ensures { λ r. ⌜ r ≡ find (parts n d (now (points .entry))) (take d q) ⌝ }
+    ensures { λ r. ⌜ r ≡ foundAt n (find (parts n d (now (points .entry))) (take d q)) ⌝ }
 {
+    if n == 0 {
+        return Found::Nothing;
+    }
     if d == 0 {
-        return 0;
+        return Found::At(0);
     }
     let mut k: usize = 0;
     while k < n {
         if near_at(points, d, k, q) {
-            return k;
+            return Found::At(k);
         }
         k += 1;
     }
-    n
+    Found::Nothing
 }
 
-// The first d floats of q, from the first cell on.
+// Writes the first d floats of q to the first d cells.
 pub fn put(out: &mut [f64], q: [f64; DIMENSION], d: usize)
     requires { ⌜ (d ≤ maxDimension) × (d ≤ length (now out)) ⌝ }
     ensures { λ _. ⌜ now (out .exit) ≡ written (take d q) (now (out .entry)) ⌝ }

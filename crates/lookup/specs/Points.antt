@@ -10,6 +10,9 @@ use lib.Ieee.{Float, binary64, ofBits, le}
 use Rattle.spec.specs.Float.{absF, minus}
 use Rattle.spec.specs.Matrix.{Vector}
 use Rattle.spec.specs.Copying.{near}
+use Rattle.float.specs.declared.points.Found.{Found}
+use Rattle.float.specs.declared.points.Found.the-variants.{At, Nothing}
+use Rattle.float.specs.Finding.{foundAt}
 
 -- No point is near one before it.
 pub record Apart (cs : List Vector) : Type 0 where
@@ -37,6 +40,11 @@ pub record Clear (d : ℕ) (l : List Float) (k j : ℕ) : Type 0 where
 pub record Hit (lone : Bool) (p q : Vector) : Type 0 where
   pub close : near p q ≡ true
   pub why : (lone ≡ true) ⊎ (p ≡ q)
+
+-- a guess at what is found, where x is the number sought among n: one that names a number has to be right, and one that names none says nothing
+abbrev pub Guessed : ℕ → ℕ → Found → Type 0
+Guessed n x (At k) = At k ≡ foundAt n x
+Guessed n x Nothing = Unit
 
 -- each place of a table is free, 65,535, or has the number of one of n points
 abbrev pub Named : ℕ → List ℕ → Type 0

@@ -1,7 +1,7 @@
 // Finding a point among listed points that are apart: "within EPS, EPS included, on every axis (lowest number taken)", fast for many points.
-// A table guesses the number. A guess that is near the point sought is the lowest near it if it has that point's very bits, as the points are
-// apart; or if the points are lone, no two within WIDE on every axis, as then it is the only one near. A wrong guess costs time only, so of
-// the table it is only said that its numbers are points'.
+// A table guesses the number. A guess that is near the point sought is the lowest near it if it has that point's very bits, because the points
+// are apart. It is the only one near, and so the lowest, if the points are lone, which means that no two of them are within WIDE on every axis.
+// A wrong guess costs only time, so all that is said of the table is that its numbers are numbers of points.
 ghost use mathlib.Core.Path.{_≡_};
 ghost use mathlib.Core.Bool.{true, false};
 ghost use Prim.Native.Nat.{ℕ, _+_, _*_, _≤_, _<_};
@@ -10,27 +10,29 @@ ghost use lib.Ieee.{le};
 ghost use Rattle.spec.specs.Limits.{maxDimension, maxCount};
 ghost use Rattle.spec.specs.Float.{absF};
 ghost use Rattle.spec.specs.Copying.{near, find, parts};
-ghost use Rattle.lookup.specs.Points.{wideF, within, Apart, Lone, Clear, Hit, Named};
+ghost use Rattle.float.specs.Finding.{foundAt};
+ghost use Rattle.lookup.specs.Points.{wideF, within, Apart, Lone, Clear, Hit, Guessed, Named};
 use float::DIMENSION;
 use float::bits;
 use float::points;
+use float::points::Found;
 use spec::MAX_COUNT;
 
-// How many places the table has: twice as many as there are points at most.
+// How many places the table has, which is twice as many as there can be points.
 pub const PLACES: usize = 2 * MAX_COUNT;
-// How many places in a row are looked at.
+// How many places in a row are looked at, from the first one on.
 const TRIES: usize = 16;
-// The number in a free place.
+// The number that stands in a free place.
 const FREE: u16 = 65535;
-// Fewer points are compared one by one at once.
+// Fewer points than this are compared one by one, without a guess.
 const FEW: usize = 32;
-// More than twice EPS, so that no two points this far apart on an axis are both near a third.
+// More than twice EPS, so that two points further apart than this on an axis are never both near a third.
 const WIDE: f64 = 0.0000002384185791015625;
-// Added to a coordinate, so that a zero and its rounding errors have one exponent.
+// Added to a coordinate, so that a zero and the values that rounding turns it into have one exponent.
 const SHIFT: f64 = 3.1415926;
 
-// The first place for a point. Rounding errors change the low bits of a coordinate, so these are dropped, after an offset that leaves the common
-// coordinates far from where a higher bit changes.
+// The first place for a point. Rounding errors change the low bits of a coordinate, so these are dropped, after an offset has been added that
+// keeps the usual coordinates far from the values at which a higher bit changes.
 fn place(q: [f64; DIMENSION], d: usize) -> usize
     requires { ⌜ d ≤ maxDimension ⌝ }
     ensures { λ r. ⌜ r < 4096 ⌝ }
@@ -46,7 +48,7 @@ fn place(q: [f64; DIMENSION], d: usize) -> usize
     (h % PLACES as u64) as usize
 }
 
-// Number k in the first free place, if there is one.
+// Writes number k to the first free place, if one of the places that are looked at is free.
 fn keep(table: &mut [u16; PLACES], at: usize, k: usize)
     requires { ⌜ (at < 4096) × (k < maxCount) ⌝ }
     ensures { λ _. ⌜ ((n : ℕ) → k < n → Named n (now (table .entry)) → Named n (now (table .exit))) ⌝ }
@@ -62,8 +64,8 @@ fn keep(table: &mut [u16; PLACES], at: usize, k: usize)
     }
 }
 
-// The table of the n points. An empty one, or `lone` always false, would cost time only:
-// no proof shows that, the benchmark does (tools/bench.sh).
+// The table of the n points. An empty table, or `lone` always false, would give the same answers and take longer, which no proof can show and
+// the benchmark does (tools/bench.sh).
 pub fn places(points: &[f64], d: usize, n: usize) -> [u16; PLACES]
     requires { ⌜ (d ≤ maxDimension) × (n ≤ maxCount) × (n * d ≤ length (now points)) ⌝ }
     ensures { λ r. ⌜ Named n r ⌝ }
@@ -104,7 +106,7 @@ fn is_far(p: &[f64], q: [f64; DIMENSION]) -> bool
     false
 }
 
-// No point before point k is within WIDE of it on every axis.
+// Whether no point before point k is within WIDE of it on every axis.
 fn is_clear(points: &[f64], d: usize, k: usize) -> bool
     requires { ⌜ (d ≤ maxDimension) × (k * d + d ≤ length (now points)) ⌝ }
     ensures { λ r. ⌜ (r ≡ true → Clear d (now (points .entry)) k k) ⌝ }
@@ -121,7 +123,7 @@ fn is_clear(points: &[f64], d: usize, k: usize) -> bool
     true
 }
 
-// No two of the n points are within WIDE on every axis.
+// Whether no two of the n points are within WIDE on every axis.
 pub fn is_lone(points: &[f64], d: usize, n: usize) -> bool
     requires { ⌜ (d ≤ maxDimension) × (n ≤ maxCount) × (n * d ≤ length (now points)) ⌝ }
     ensures { λ r. ⌜ (r ≡ true → Lone (parts n d (now (points .entry)))) ⌝ }
@@ -153,7 +155,7 @@ fn same_bits(p: &[f64], q: [f64; DIMENSION]) -> bool
     true
 }
 
-// Whether point k is near q, and the only one or q itself.
+// Whether point k is near q and is known to be the lowest that is, because the points are lone or because it is q itself.
 fn is_hit(points: &[f64], d: usize, k: usize, lone: bool, q: [f64; DIMENSION]) -> bool
     requires { ⌜ (1 ≤ d) × (d ≤ maxDimension) × (k * d + d ≤ length (now points)) ⌝ }
     ensures { λ r. ⌜ (r ≡ true → Hit lone (take d (drop (k * d) (now (points .entry)))) (take d q)) ⌝ }
@@ -171,7 +173,7 @@ fn wide(x: u16) -> usize {
     x as usize
 }
 
-// The number of the point near q; n, where the table does not tell.
+// The point near q, where the table tells it. `Nothing` says only that the table does not.
 fn guess(
     points: &[f64],
     d: usize,
@@ -179,27 +181,27 @@ fn guess(
     lone: bool,
     places: &[u16; PLACES],
     q: [f64; DIMENSION],
-) -> usize
+) -> Found
     requires { ⌜ (1 ≤ d) × (d ≤ maxDimension) × (n * d ≤ length (now points)) × Apart (parts n d (now points)) ⌝ }
     requires { ⌜ (lone ≡ true → Lone (parts n d (now points))) ⌝ }
-    ensures { λ r. ⌜ (r < n → r ≡ find (parts n d (now (points .entry))) (take d q)) ⌝ }
+    ensures { λ r. ⌜ Guessed n (find (parts n d (now (points .entry))) (take d q)) r ⌝ }
 {
     let at = place(q, d);
     let mut i: usize = 0;
     while i < TRIES {
         let k = wide(places[(at + i) % PLACES]);
         if n <= k {
-            return n;
+            return Found::Nothing;
         }
         if is_hit(points, d, k, lone, q) {
-            return k;
+            return Found::At(k);
         }
         i += 1;
     }
-    n
+    Found::Nothing
 }
 
-// The lowest of the n points that is near q; n, where none is.
+// The lowest of the n points that is near q.
 pub fn found(
     points: &[f64],
     d: usize,
@@ -207,17 +209,16 @@ pub fn found(
     lone: bool,
     places: &[u16; PLACES],
     q: [f64; DIMENSION],
-) -> usize
+) -> Found
     requires { ⌜ (1 ≤ d) × (d ≤ maxDimension) × (n * d ≤ length (now points)) × Apart (parts n d (now points)) ⌝ }
     requires { ⌜ (lone ≡ true → Lone (parts n d (now points))) ⌝ }
-    ensures { λ r. ⌜ r ≡ find (parts n d (now (points .entry))) (take d q) ⌝ }
+    ensures { λ r. ⌜ r ≡ foundAt n (find (parts n d (now (points .entry))) (take d q)) ⌝ }
 {
     if n < FEW {
         return points::find(points, d, n, q);
     }
-    let k = guess(points, d, n, lone, places, q);
-    if k < n {
-        return k;
-    }
-    points::find(points, d, n, q)
+    let Found::At(k) = guess(points, d, n, lone, places, q) else {
+        return points::find(points, d, n, q);
+    };
+    Found::At(k)
 }

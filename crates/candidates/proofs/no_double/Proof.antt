@@ -21,6 +21,26 @@ abbrev μ : tie.MeasureT-loop
 start : (c : tie.After-loaded Inv μ) → let a = c .before .before .before .before .args in (c .before .before .loop .i + 1) * a .d ≤ length (a .points .now)
 start c = let s = c .before .before .before .before in let a = s .args in start-in (a .n) (a .d) (c .before .before .loop .i) (a .points .now) (c .before .loop-test .taken) (s .pre .1)
 
+returns : tie.Need-returns Inv μ
+returns c =
+    let f = c .before .before in
+    let l = f .before .before in
+    let s = l .before .before .before .before in
+    let a = s .args in
+    double-not (a .n) (a .d) (l .before .before .loop .i) (a .points .now) (l .before .loop-test .taken) (s .pre .1) (l .loaded .result) (l .loaded .ensures) (f .find .result) (f .find .ensures)
+    (l .before .before .loop .inv .1) (c .enum-told .given .1)
+
+loop-again : tie.Need-loop-again Inv μ
+loop-again c =
+    let f = c .before .before in
+    let l = f .before .before in
+    let s = l .before .before .before .before in
+    let a = s .args in (
+      omega (arith, l .before .loop-test .taken),
+      double-next (a .n) (a .d) (l .before .before .loop .i) (a .points .now) (l .before .loop-test .taken) (s .pre .1) (l .loaded .result) (l .loaded .ensures) (f .find .result) (f .find .ensures)
+          (l .before .before .loop .inv .1) (c .enum-told2 .given .1),
+    )
+
 pub no-double-spec : {M : Type 1} → statement M
 no-double-spec =
     tie.close
@@ -36,18 +56,14 @@ no-double-spec =
     (λ c. omega (arith, start c))
     (λ c. omega (arith, start c))
     (λ c. search needs)
-    -- find-requires, returns
+    -- find-requires
     (λ c κs. let l = c .before in let s = l .before .before .before .before in let a = s .args in
     (s .pre .0, later-in (a .n) (a .d) (l .before .before .loop .i) (a .points .now) (l .before .loop-test .taken) (s .pre .1)))
-    (λ c. let l = c .before .before .before in let s = l .before .before .before .before in let a = s .args in
-    double-not (a .n) (a .d) (l .before .before .loop .i) (a .points .now) (l .before .loop-test .taken) (s .pre .1) (l .loaded .result) (l .loaded .ensures) (c .before .find .result) (c .before .find .ensures)
-    (l .before .before .loop .inv .1) (c .if1 .taken))
+    -- enum-told, returns, enum-told-2, loop-less
     (λ c. search needs)
-    -- loop-again, returns-2
-    (λ c. let l = c .before .before .before in let s = l .before .before .before .before in let a = s .args in (
-      omega (arith, l .before .loop-test .taken),
-      double-next (a .n) (a .d) (l .before .before .loop .i) (a .points .now) (l .before .loop-test .taken) (s .pre .1) (l .loaded .result) (l .loaded .ensures) (c .before .find .result) (c .before .find .ensures)
-          (l .before .before .loop .inv .1) (c .if1 .left),
-    ))
+    returns
+    (λ c. search needs)
+    (λ c. search needs)
+    loop-again
     (λ c. let s = c .before .before .before in let a = s .args in
     apart-end (parts (a .n) (a .d) (a .points .now)) (c .before .loop .i) (omega (arith, c .loop-test .left, length-parts (a .n) (a .d) (a .points .now))) (c .before .loop .inv .1)))

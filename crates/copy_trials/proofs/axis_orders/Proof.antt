@@ -2,11 +2,12 @@
 -- Assumes nothing.
 use borrow.Author.Needs.{needs}
 use Rattle.trials.specs.AxisOrders.{axis-order-table}
+use Rattle.copying.proofs.Flat.{table-corners}
 use Rattle.copy_trials.proofs.axis_orders.Statement.{statement}
 use Rattle.copy_trials.proofs.axis_orders.Tie as tie
 
 returns : tie.Need-returns
-returns c = rw (c .axis-orders .ensures) axis-order-table
+returns c = rw (c .axis-orders .ensures, table-corners) axis-order-table
 
 pub axis-orders-spec : {M : Type 1} → statement M
 axis-orders-spec = tie.close (tie.spec (λ c κs. search needs) returns)

@@ -1,7 +1,11 @@
+-- A guess that names a number is right; without one the scan decides.
 -- Assumes nothing.
 use borrow.Author.Needs.{needs}
 use Rattle.lookup.proofs.found.Statement.{statement}
 use Rattle.lookup.proofs.found.Tie as tie
+
+returns-3 : tie.Need-returns-3
+returns-3 c = rw (c .before .k .given .1) at (c .before .before .before .guess .ensures)
 
 pub found-spec : {M : Type 1} → statement M
 found-spec =
@@ -10,6 +14,8 @@ found-spec =
     (λ c κs. search needs)
     (λ c. search needs)
     (λ c κs. search needs)
-    (λ c. c .before .guess .ensures (c .if2 .taken))
+    (λ c. search needs)
+    (λ c. search needs)
     (λ c κs. search needs)
-    (λ c. search needs))
+    (λ c. search needs)
+    returns-3)

@@ -8,6 +8,7 @@ use lib.Seq.{length-take-le}
 use borrow.Author.Needs.{needs}
 use Rattle.spec.specs.Limits.{maxDimension}
 use Rattle.float.proofs.Parts.{part-end}
+use Rattle.float.proofs.Finding.{at-is}
 use Rattle.lookup.proofs.Hits.{hit-number}
 use Rattle.lookup.proofs.guess.Statement.{statement}
 use Rattle.lookup.proofs.guess.Tie as tie
@@ -27,11 +28,12 @@ is-hit-requires c κs =
     (s .pre .0 .0, s .pre .0 .1, omega (arith, part-end (s .args .n) (s .args .d) _ (c .if1 .left), s .pre .0 .2))
 
 returns-2 : tie.Need-returns-2 Inv-loop μ-loop
-returns-2 c h =
+returns-2 c =
     let w = c .before in
     let s = w .before .before .before .before .before .before .before .before in
-    hit-number (s .args .n) (s .args .d) (s .args .points .now) _ _ h (length-take-le (s .args .d) (s .args .q) (omega (arith, long s, s .pre .0 .1))) (s .pre .0 .2) (s .pre .0 .3)
-    (s .args .lone) (s .pre .1) (w .is-hit .ensures (c .if2 .taken))
+    let h = w .before .if1 .left in
+    at-is h (hit-number (s .args .n) (s .args .d) (s .args .points .now) _ _ h (length-take-le (s .args .d) (s .args .q) (omega (arith, long s, s .pre .0 .1))) (s .pre .0 .2) (s .pre .0 .3)
+    (s .args .lone) (s .pre .1) (w .is-hit .ensures (c .if2 .taken)))
 
 pub guess-spec : {M : Type 1} → statement M
 guess-spec =
@@ -45,10 +47,10 @@ guess-spec =
     (λ c. search needs)
     (λ c. search needs)
     (λ c κs. search needs)
-    (λ c h. absurd (omega arith))
+    (λ c. tt)
     is-hit-requires
     returns-2
     (λ c. search needs)
     (λ c. search needs)
     (λ c. search needs)
-    (λ c h. absurd (omega arith)))
+    (λ c. tt))

@@ -1,13 +1,14 @@
--- The number that is found says whether the point is.
+-- The answer of the scan says whether the point is there already.
 -- Assumes nothing.
-use mathlib.Core.Path.{sym}
-use Prim.Native.Nat.{_≤_, _<_}
+use mathlib.Core.Path.{sym, _∙_}
 use native.Mathlib.Nat.{mul-le-mul-right}
 use native.Mathlib.Omega.{arith}
 use lib.ListN.{take}
 use borrow.Author.Needs.{needs}
-use Rattle.spec.specs.Copying.{find, parts, matrices}
-use Rattle.copying.proofs.Growth.{found-less, found-none, grown-first, grown-end, point-old, point-new}
+use Rattle.spec.specs.Copying.{parts, matrices}
+use Rattle.float.proofs.Parts.{length-parts}
+use Rattle.float.proofs.Finding.{is-found, is-missing}
+use Rattle.copying.proofs.Growth.{grown-first, grown-end, point-old, point-new}
 use Rattle.copying.proofs.joining.point_copied.Statement.{statement}
 use Rattle.copying.proofs.joining.point_copied.Tie as tie
 
@@ -18,21 +19,22 @@ find-requires c κs =
 
 returns : tie.Need-returns
 returns c =
-    let s = c .before .before .before .before .before in
+    let f = c .before .before in
+    let s = f .before .before .before .before in
     let a = s .args in
     let q = take (a .d) (a .p) in
-    let e : find (parts (a .n) (a .d) (a .out .now)) q < a .n = omega (arith, c .before .find .ensures) in
+    let cs = parts (a .n) (a .d) (a .out .now) in
     grown-end (grown-first (s .pre .2) (s .pre .3))
-    (sym (point-old (matrices (a .d) (a .turns .now)) (parts (a .n) (a .d) (a .out .now)) q (found-less (a .n) (a .d) (a .out .now) q e)))
+    (sym (point-old (matrices (a .d) (a .turns .now)) cs q (is-found cs q (length-parts (a .n) (a .d) (a .out .now)) (sym (f .find .ensures) ∙ c .enum-told .given .1))))
 
 returns-2 : tie.Need-returns-2
 returns-2 c =
-    let w = c .before .before .before .before in
-    let s = w .before .before .before .before .before in
-    let a = s .args in
+    let t = c .before .before .before .before in
+    let f = t .before .before in
+    let a = f .before .before .before .before .args in
     let q = take (a .d) (a .p) in
-    let e : a .n ≤ find (parts (a .n) (a .d) (a .out .now)) q = omega (arith, w .before .find .ensures, w .if1 .left) in
-    rw (point-new (matrices (a .d) (a .turns .now)) (parts (a .n) (a .d) (a .out .now)) q (found-none (a .n) (a .d) (a .out .now) q e))
+    let cs = parts (a .n) (a .d) (a .out .now) in
+    rw (point-new (matrices (a .d) (a .turns .now)) cs q (is-missing cs q (length-parts (a .n) (a .d) (a .out .now)) (sym (f .find .ensures) ∙ t .enum-told2 .given .1)))
     (c .before .before .spread .ensures)
 
 pub point-copied-spec : {M : Type 1} → statement M
@@ -41,7 +43,9 @@ point-copied-spec =
     (tie.spec
     find-requires
     (λ c. search needs)
+    (λ c. search needs)
     returns
+    (λ c. search needs)
     (λ c κs. search needs)
     (λ c. search needs)
     returns-2)

@@ -2,15 +2,17 @@
 -- Assumes nothing.
 use mathlib.Core.Path.{_≡_, refl, sym, ap, _∙_}
 use mathlib.Core.List.{List, [], _∷_}
-use Prim.Native.Nat.{ℕ, _≤_, _-_}
+use Prim.Native.Nat.{ℕ, _≤_, _<_, _-_}
 use native.Mathlib.Omega.{arith}
-use lib.ListN.{length, take, length-set}
+use lib.ListN.{length, getD, length-set}
 use borrow.Author.Needs.{needs}
-use Rattle.spec.specs.Matrix.{mulVec}
+use Rattle.spec.specs.Matrix.{Vector, mulVec}
 use Rattle.spec.specs.Copying.{find, parts, copyRow}
+use Rattle.spec.proofs.CopyLaws.{not-found}
 use Rattle.float.specs.Reading.{corner}
+use Rattle.float.specs.Finding.{foundAt}
 use Rattle.float.proofs.Parts.{length-parts, part-at, part-end}
-use Rattle.copying.proofs.Growth.{find-most}
+use Rattle.float.proofs.Finding.{at-number, is-missing}
 use Rattle.copying.proofs.Tables.{Filled, Piece, filled-none, filled-next, filled-open, filled-end, cell, cell-set, cell-is, length-row, one-held, one-other}
 use Rattle.copying.proofs.rows.row.Statement.{statement}
 use Rattle.copying.proofs.rows.row.Tie as tie
@@ -33,41 +35,67 @@ whole c =
     let a = c .before .before .before .before .before .before .before .args in
     copyRow (parts (a .n) (a .d) (a .copies .now)) (corner (a .d) (a .m))
 
--- what is found is its cell k
-piece : (c : tie.After-found Inv-loop μ-loop) → Piece (whole c) (c .before .before .before .before .loop .k) 1 (c .found .result ∷ [])
-piece c =
+-- the number of copy k's image
+abbrev imageOf : (c : tie.After-found Inv-loop μ-loop) → ℕ
+imageOf c =
+    let a = c .before .before .before .before .before .before .before .args in
+    find (parts (a .n) (a .d) (a .copies .now)) (mulVec (corner (a .d) (a .m)) (getD (parts (a .n) (a .d) (a .copies .now)) (c .before .before .before .before .loop .k) []))
+
+-- it is looked for
+image-is : (c : tie.After-found Inv-loop μ-loop) → foundAt (c .before .before .before .before .before .before .before .args .n) (imageOf c) ≡ c .found .result
+image-is c =
+    let a = c .before .before .before .before .before .before .before .args in
+    let l = c .before .before .before .before .loop in
+    let cs = parts (a .n) (a .d) (a .copies .now) in
+    sym
+    (c .found .ensures
+    ∙ ap
+    (λ (q : Vector). foundAt (a .n) (find cs q))
+    (c .before .image .ensures ∙ ap (mulVec (corner (a .d) (a .m))) (c .before .before .loaded .ensures ∙ sym (part-at (a .n) (a .d) (a .copies .now) (l .k) (c .before .before .before .loop-test .taken)))))
+
+-- and is the row's cell k
+piece : (c : tie.After-found Inv-loop μ-loop) → (x : ℕ) → x ≡ imageOf c → Piece (whole c) (c .before .before .before .before .loop .k) 1 (x ∷ [])
+piece c x e =
     let a = c .before .before .before .before .before .before .before .args in
     let l = c .before .before .before .before .loop in
     let h = c .before .before .before .loop-test .taken in
     let cs = parts (a .n) (a .d) (a .copies .now) in
     let m = corner (a .d) (a .m) in
     let n = length-parts (a .n) (a .d) (a .copies .now) in
-    cell (whole c) (l .k) (c .found .result) (omega (arith, h, n, length-row cs m))
-    (c .found .ensures
-    ∙ ap (find cs) (c .before .image .ensures ∙ ap (mulVec m) (c .before .before .loaded .ensures ∙ sym (part-at (a .n) (a .d) (a .copies .now) (l .k) h)))
-    ∙ sym (cell-is cs m (l .k) (omega (arith, h, n))))
+    cell (whole c) (l .k) x (omega (arith, h, n, length-row cs m)) (e ∙ sym (cell-is cs m (l .k) (omega (arith, h, n))))
 
 returns : tie.Need-returns Inv-loop μ-loop
 returns c =
-    let w = c .before in
-    filled-open (w .before .before .before .before .loop .inv .2) (piece w) (one-held _ (w .found .result) (c .if1 .taken)) refl
+    let w = c .before .before in
+    let a = w .before .before .before .before .before .before .before .args in
+    let l = w .before .before .before .before .loop in
+    let cs = parts (a .n) (a .d) (a .copies .now) in
+    let n = length-parts (a .n) (a .d) (a .copies .now) in
+    let q = mulVec (corner (a .d) (a .m)) (getD cs (l .k) []) in
+    let e : imageOf w ≡ a .n = not-found cs q (is-missing cs q n (image-is w ∙ c .enum-told .given .1)) ∙ n in
+    filled-open (l .inv .2) (piece w (imageOf w) refl) (one-held _ (imageOf w) e) refl
+
+-- the number that is found
+number : (c : tie.After-known-told Inv-loop μ-loop) →
+    (let w = c .before .before .before in (imageOf w ≡ c .before .at .given .0 .0) × (c .before .at .given .0 .0 < w .before .before .before .before .before .before .before .args .n))
+number c = let w = c .before .before .before in at-number (image-is w ∙ c .before .at .given .1)
 
 cast-out : tie.Need-cast-out Inv-loop μ-loop
 cast-out c =
-    let w = c .before in
-    let s = w .before .before .before .before .before .before .before in
-    let cs = parts (s .args .n) (s .args .d) (s .args .copies .now) in
-    omega (arith, w .found .ensures, find-most cs (take (s .args .d) (w .before .image .result)), length-parts (s .args .n) (s .args .d) (s .args .copies .now), s .pre .0 .2)
+    let s = c .before .before .before .before .before .before .before .before .before .before in
+    omega (arith, number c, s .pre .0 .2)
 
 loop-again : tie.Need-loop-again Inv-loop μ-loop
 loop-again c =
-    let w = c .before in
+    let w = c .before .before .before in
     let s = w .before .before .before .before .before .before .before in
     let l = w .before .before .before .before .loop in
-    let h = w .before .before .before .loop-test .taken in (
+    let h = w .before .before .before .loop-test .taken in
+    let at = c .before .at .given .0 .0 in
+    let i = number c in (
       omega (arith, h),
       simp length-set (l .inv .1),
-      filled-next (l .inv .2) (piece w) (one-other _ (w .found .result) (c .if1 .left)) (cell-set (l .out) (l .k) (w .found .result) (omega (arith, h, l .inv .1, s .pre .0 .4))),
+      filled-next (l .inv .2) (piece w at (sym (i .0))) (one-other _ at (λ z. omega (arith, i .1))) (cell-set (l .out) (l .k) at (omega (arith, h, l .inv .1, s .pre .0 .4))),
     )
 
 returns-2 : tie.Need-returns-2 Inv-loop μ-loop
@@ -88,6 +116,8 @@ row-spec =
     loaded-requires
     (λ c κs. search needs)
     (λ c κs. search needs)
+    (λ c. search needs)
+    (λ c. search needs)
     (λ c. search needs)
     returns
     cast-out
