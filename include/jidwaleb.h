@@ -17,8 +17,8 @@
  * JIDWALEB_COUNT(answer) is how many types, members, rotations or copies it gave out. Later versions will have further calls, and refusals with
  * numbers from 16 on. Treat every value other than JIDWALEB_DONE as a refusal, also one that has no name here.
  *
- * Stack. A search or a rotations call takes 91 KB of stack, a types call 34 KB and copying 18 KB at most, however large the input is
- * (tools/stack.sh measures it).
+ * Stack. JIDWALEB_MAX_STACK bytes of stack are enough for every call, however large the input is. README.md has what each call takes, as
+ * tools/stack.sh measured it.
  */
 #ifndef JIDWALEB_H
 #define JIDWALEB_H
@@ -39,6 +39,9 @@
 #define JIDWALEB_MAX_WORDS 524352  /* the workspace `words` */
 #define JIDWALEB_MAX_FLOATS 65600  /* the workspace `floats` */
 #define JIDWALEB_MAX_COPIES 2048   /* copies of jidwaleb_copy */
+
+/* How many bytes of stack are enough for every call. */
+#define JIDWALEB_MAX_STACK 131072
 
 #ifdef __cplusplus
 extern "C" {

@@ -1,5 +1,6 @@
-/* link_test SHEET: what `kit` prints for a sheet, in the space that `kit` lends; it too refuses a sheet of more than 8,192 bytes.
- * link_test: a point copied by quarter turns, and by one of them alone; then every call with null for buffers of length 0, and the version. */
+/* `link_test SHEET` prints what `kit` prints for a sheet. It lends the calls as much space as `kit` does, and it too refuses a sheet of more than
+ * 8,192 bytes. `link_test` alone copies a point by quarter turns, and then by one of them; it makes every call with null for buffers of length 0, and
+ * looks at the version. */
 #include <stdio.h>
 #include <string.h>
 #include "jidwaleb.h"

@@ -1,4 +1,4 @@
-// link_test SHEET, in C++: that the header and its macros compile there without a warning, and that a call links. It ends with status 0 where the
+// This shows that the header and its macros compile in C++ without a warning, and that a call links. `link_test SHEET` ends with status 0 where the
 // sheet has types.
 #include <cstdint>
 #include <cstdio>

@@ -1,5 +1,5 @@
 #!/bin/sh
-# link_test.sh: links the static library from C (include/) and from Rust (rust/), and holds what both print for the sample sheets to the samples'
+# link_test.sh links the static library from C (include/) and from Rust (rust/), and holds what both print for the sample sheets to the samples'
 # .kit files; sheets of 8,192 bytes and more are among them. Where g++ and cargo are at hand it links from C++ too, and runs the tests and the doc
 # examples of rust/. Needs rt, cc and rustc. The last line counts.
 set -e
@@ -16,7 +16,7 @@ cc -std=c99 -Wall -Wextra -Werror $checks -I include -o "$work/from_c" tools/lin
 rustc --edition 2021 -D warnings -O --crate-type rlib --crate-name jidwaleb -L target/staticlib -o "$work/libjidwaleb.rlib" rust/src/lib.rs
 rustc --edition 2021 -D warnings -O --extern jidwaleb="$work/libjidwaleb.rlib" -o "$work/from_rust" rust/examples/kit.rs
 alike=0 failed=0
-# hold NAME WORDS..: what both programs print, given the words, is what is expected
+# hold NAME WORDS.. counts whether what both programs print, given the words, is what is expected.
 hold() {
     name=$1; shift
     for side in from_c from_rust; do
@@ -28,7 +28,7 @@ hold() {
         fi
     done
 }
-# passes NAME COMMAND..: the command ends well; otherwise what it wrote is shown
+# passes NAME COMMAND.. counts whether the command ends well; where it does not, what it wrote is shown.
 passes() {
     name=$1; shift
     if "$@" > "$work/got" 2>&1; then
@@ -47,6 +47,8 @@ echo "refused 1" > "$work/expected"
 hold "no bytes" "$work/empty.sheet"
 printf 'copies 4\nquarter turn 1 2 3 0\nrefused 14: open\n' > "$work/expected"
 hold copying
+cc -std=c99 -O2 -Wall -Wextra -Werror -I include -o "$work/stack" tools/stack.c target/staticlib/libjidwaleb.a
+passes "the stack that a call takes" "$work/stack" samples/*.sheet
 version=$(sed -n 's/^version = //p' rust/Cargo.toml)
 passes "the version of rust/Cargo.toml in the header" grep -qx "#define JIDWALEB_VERSION_STRING $version" include/jidwaleb.h
 if command -v g++ > /dev/null; then
@@ -59,7 +61,7 @@ if command -v cargo > /dev/null; then
     in_rust="--quiet --offline --locked --manifest-path rust/Cargo.toml --target-dir $work/cargo"
     passes "cargo test" cargo test $in_rust
     passes "cargo run --example kit" cargo run $in_rust --example kit
-    # without an archive the build script says so, and how to get one
+    # Where there is no archive, the build script says so.
     passes "no archive" sh -c "! JIDWALEB_LIB_DIR=/nowhere cargo build $in_rust > $work/no_archive 2>&1 && grep -q 'there is no /nowhere/libjidwaleb.a' $work/no_archive"
 else
     echo "link_test: the tests of rust/ are left out, there is no cargo"

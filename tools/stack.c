@@ -1,9 +1,9 @@
-/* stack SHEET ..: how many bytes of stack each call of the static library takes.
+/* `stack SHEET ..` prints how many bytes of stack each call of the static library takes.
  *
  * A call runs on a stack of its own, which is painted with a pattern before. What is no longer the pattern afterwards was used: the depth goes from
  * the top of that stack down to the lowest byte that changed. What the call of an empty function takes is subtracted. The types, the search and
  * the rotations are measured on every sheet that is named, copying on as many points and copies as there may be; the greatest depth of each
- * is printed. */
+ * is printed. The status is 0 where none is greater than what the header promises. */
 #define _XOPEN_SOURCE 700
 #include <stdio.h>
 #include <stdlib.h>
@@ -100,6 +100,10 @@ int main(int count, char **paths) {
         for (int c = 0; c < 3; c++) take(&calls[c]);
     }
     copyings(&calls[3]);
-    for (int c = 0; c < 4; c++) printf("%-10s %6ld bytes of stack, %ld answers\n", calls[c].name, calls[c].most - empty, calls[c].answered);
-    return 0;
+    int kept = 1;
+    for (int c = 0; c < 4; c++) {
+        printf("%-10s %6ld bytes of stack, %ld answers\n", calls[c].name, calls[c].most - empty, calls[c].answered);
+        kept &= calls[c].most <= JIDWALEB_MAX_STACK;
+    }
+    return !kept;
 }

@@ -1,16 +1,16 @@
-//! kit SHEET: what `kit` prints for a sheet, in the space that `kit` lends; it too refuses a sheet of more than 8,192 bytes.
-//! kit: a point copied by quarter turns, and by one of them alone.
+//! `kit SHEET` prints what the program `kit` prints for a sheet. It lends the calls as much space as that program does, and it too refuses a sheet
+//! of more than 8,192 bytes. `kit` alone copies a point by quarter turns, and then by one of them.
 
 use jidwaleb::{copy, rotations, rotations_into, search, search_into, types, types_into, Outputs, Refusal, Result};
 
 const LONGEST: usize = 8192;
 
-/// The count of types, and a line for each: rank, type, example, count.
+/// The line that counts the types, and a line for each: rank, type, example and count.
 fn type_lines(sheet: &[u8]) -> Result<String> {
     let (mut words, mut floats) = ([0; 4096], [0.0; 2048]);
     let (mut of, mut table) = ([0; 256], [0; 4 * 256]);
     let n = types_into(sheet, &mut words, &mut floats, &mut of, &mut table)?;
-    // with enough space for every sheet the same comes out
+    // The call that allocates space for every sheet gives the same.
     let all = types(sheet)?;
     assert_eq!(all.of, of[..all.of.len()]);
     let mut text = format!("types {}\n", n);
@@ -22,13 +22,13 @@ fn type_lines(sheet: &[u8]) -> Result<String> {
     Ok(text)
 }
 
-/// How many members there are, how many of them are confirmed, and how many are rotations.
+/// The line that says how many members there are, how many of them are confirmed, and how many are rotations.
 fn members_line(sheet: &[u8]) -> Result<String> {
     let (mut words, mut floats) = ([0; 4096], [0.0; 2048]);
     let (mut matrices, mut rows, mut marks) = ([0.0; 1024], [0; 8192], [0; 512]);
     let out = Outputs { matrices: &mut matrices, rows: &mut rows, marks: &mut marks };
     let n = search_into(sheet, &mut words, &mut floats, out)?;
-    // with enough space for every member the same comes out
+    // The call that allocates space for every member gives the same.
     let all = search(sheet)?;
     assert_eq!(all.matrices(), &matrices[..all.matrices().len()]);
     assert_eq!(all.rows(), &rows[..all.rows().len()]);

@@ -34,7 +34,7 @@
 //!
 //! # Stack
 //!
-//! A search or a rotations call takes 91 KB of stack, a types call 34 KB and copying 18 KB at most. A thread of Rust has 2 MB by default.
+//! No call takes more than 128 KB of stack. A thread of Rust has 2 MB by default.
 
 #![warn(missing_docs)]
 
