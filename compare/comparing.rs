@@ -1,5 +1,6 @@
 //! The two sides held against each other.
 
+use crate::clean::{clean, clean_copying};
 use crate::copyings::{some_copying, Given};
 use crate::library::{self, Answer, Lent, Members, Workspace};
 use crate::model::{self, Judged};
@@ -135,15 +136,13 @@ pub fn copying(random: &mut Random, tally: &mut Tally) {
         return compare_copying(tally, d, &points, &turns, [random.below(20), random.below(20)], expected);
     }
     let d = d as usize;
-    let (copies, table) = match oracle::Copying::new(d, &points, &turns).copied() {
-        Err(why) => return tally.left_out(&format!("copyings at which the Rust panics, {}", why)),
-        Ok(answer) => answer,
-    };
-    let mut all = [&points[..], &copies[..]].concat();
-    all.extend(model::images(d, &all, &turns));
-    if !model::is_clean(d, &all) {
+    if !clean_copying(d, &points, &turns) {
         return tally.left_out("copyings that are not clean");
     }
+    let (copies, table) = match oracle::Copying::new(d, &points, &turns).copied() {
+        Err(why) => return tally.differs(format!("the Rust panics at a clean copying, {}: {:?} under {:?}", why, points, turns)),
+        Ok(answer) => answer,
+    };
     let count = turns.len() / (d * d);
     let wanted = [copies.len(), count * (copies.len() / d)];
     let mut lengths = wanted.map(|n| enough(random, n));
@@ -208,11 +207,19 @@ impl Sheet<'_> {
 
     fn tell<const N: usize>(&self, tally: &mut Tally, call: &str, lengths: [usize; N], answer: Answer, expected: (u64, usize), alike: bool) {
         if !alike || (answer.refusal, answer.count) != expected {
-            let hex: String = self.bytes.iter().map(|b| format!("{:02x}", b)).collect();
             let cells = if alike { "alike" } else { "not alike" };
             let lent = (self.words, self.floats, lengths);
-            tally.differs(format!("{} {:?}, expected {:?}, cells {}, lent {:?}\n{}", call, answer, expected, cells, lent, hex));
+            tally.differs(format!("{} {:?}, expected {:?}, cells {}, lent {:?}\n{}", call, answer, expected, cells, lent, self.hex()));
         }
+    }
+
+    /// The Rust panics at a clean solid that document 01 does not refuse.
+    fn panics(&self, tally: &mut Tally, call: &str, why: &str) {
+        tally.differs(format!("the Rust panics in {} of a clean solid, {}\n{}", call, why, self.hex()));
+    }
+
+    fn hex(&self) -> String {
+        self.bytes.iter().map(|b| format!("{:02x}", b)).collect()
     }
 }
 
@@ -225,8 +232,8 @@ fn broken_sheet(random: &mut Random, solid: Solid, sheet: &[u8]) -> Vec<u8> {
     }
 }
 
-/// A solid; beside some, its sheet broken, or a workspace that is a cell too short. A solid that is not clean (01, section 6) may differ by
-/// right (docs/DIFFERENCES.md) and is left out. Images under a candidate that is no member are not looked at: a difference prints its sheet.
+/// A solid; beside some, its sheet broken, or a workspace that is a cell too short. A solid that is not clean (01, section 6; `clean.rs`) may
+/// differ by right (docs/DIFFERENCES.md) and is left out. A difference prints its sheet.
 pub fn solid(random: &mut Random, tally: &mut Tally) {
     let solid = solids::some_solid(random);
     if !solid.within_limits() {
@@ -287,24 +294,19 @@ fn expected_members(sheet: &[u8], judged: &Judged, only_rotations: bool) -> Resu
 fn passed(random: &mut Random, tally: &mut Tally, sheet: &Sheet, judged: &Judged, on_purpose: bool) {
     let mut types = oracle::Types { table: vec![], of: vec![] };
     if let Some(solid) = &judged.solid {
-        if !model::has_clean_distances(solid) {
-            return tally.left_out("solids whose distances are not clean");
+        if !clean(solid) {
+            return tally.left_out("solids that are not clean");
         }
         match oracle::Solid::read(sheet.bytes).unwrap().types() {
-            Err(why) => return tally.left_out(&format!("solids at whose types the Rust panics, {}", why)),
+            Err(why) => return sheet.panics(tally, "types", &why),
             Ok(found) => types = found,
         }
     }
     let both = [false, true].map(|only_rotations| expected_members(sheet.bytes, judged, only_rotations));
     if let Some(why) = both.iter().find_map(|found| found.as_ref().err()) {
-        return tally.left_out(&format!("solids at whose search the Rust panics, {}", why));
+        return sheet.panics(tally, "search", why);
     }
     let both = both.map(Result::unwrap);
-    if let (Some(solid), Ok(members)) = (&judged.solid, &both[0]) {
-        if !model::has_clean_images(solid, &members.matrices) {
-            return tally.left_out("solids whose coordinates or images are not clean");
-        }
-    }
     compare_types(random, tally, sheet, &types);
     for (only_rotations, found) in [false, true].into_iter().zip(&both) {
         let call = if only_rotations { Call::Rotations } else { Call::Search };

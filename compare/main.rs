@@ -6,6 +6,7 @@
 //!     compare sheet X  the sheet of a regular polychoron (5-cell, 16-cell, tesseract, 24-cell, 600-cell, 120-cell) on standard output
 
 mod bench;
+mod clean;
 mod comparing;
 mod copyings;
 mod families;
@@ -30,6 +31,7 @@ fn main() {
             std::io::stdout().write_all(&solid.pack()).expect("written");
         }
         [n, seed] => {
+            clean::check();
             let mut random = Random::new(number(seed));
             let mut tally = comparing::Tally::default();
             while tally.solids() < number(n) {

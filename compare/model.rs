@@ -1,6 +1,7 @@
 //! What the oracle does not have, from document 01's own sentences: the refusals before a search, marks, what a copying refuses and leaves.
 
 use crate::solids::Solid;
+use std::collections::BTreeMap;
 
 pub const EPS: f64 = 1e-7;
 const LIMIT: f64 = 1_048_576.0;
@@ -112,7 +113,7 @@ pub fn double_corner(s: &Solid) -> bool {
     (0..s.points.len()).any(|i| (0..i).any(|j| near(&s.points[i], &s.points[j])))
 }
 
-// ---- hulls and marks
+// ---- hulls and distances
 
 pub struct Hull {
     dimension: usize,
@@ -172,25 +173,13 @@ pub fn distance(s: &Solid, r: usize, i: usize) -> f64 {
     hull.distance()
 }
 
-/// Those of all proper elements, by rank; none at rank 0.
-fn distances(s: &Solid) -> Vec<Vec<f64>> {
+/// The distances of all proper elements, by rank; rank 0 has none.
+pub fn distances(s: &Solid) -> Vec<Vec<f64>> {
     (0..s.rank()).map(|r| if r == 0 { vec![] } else { (0..s.count(r)).map(|i| distance(s, r, i)).collect() }).collect()
 }
 
-/// Clean as far as distances go: "differ by at most EPS" is transitive among them, so that none is near two listed values, in whatever order
-/// they are listed.
-pub fn has_clean_distances(s: &Solid) -> bool {
-    is_clean(1, &distances(s).concat())
-}
-
-/// Clean as far as vertices and their images under these matrices go.
-pub fn has_clean_images(s: &Solid, matrices: &[f64]) -> bool {
-    let points = s.points.concat();
-    is_clean(s.dimension, &[images(s.dimension, &points, matrices), points].concat())
-}
-
-/// The distance class of each proper element, by rank.
-fn classes(s: &Solid) -> Vec<Vec<f64>> {
+/// The distance class of each proper element, by rank: "A distance takes the smallest listed value strictly nearer than EPS, else joins the list".
+fn classes(distances: &[Vec<f64>]) -> Vec<Vec<f64>> {
     let mut listed: Vec<f64> = Vec::new();
     let mut class = |d: f64| {
         let near = listed.iter().copied().filter(|l| (l - d).abs() < EPS).fold(f64::INFINITY, f64::min);
@@ -200,13 +189,61 @@ fn classes(s: &Solid) -> Vec<Vec<f64>> {
         }
         near
     };
-    distances(s).into_iter().map(|of_rank| of_rank.into_iter().map(&mut class).collect()).collect()
+    distances.iter().map(|of_rank| of_rank.iter().copied().map(&mut class).collect()).collect()
 }
+
+// ---- types
+
+/// Numbers from 0 by first appearance.
+fn numbered<K: Ord>(keys: impl Iterator<Item = K>) -> Vec<usize> {
+    let mut met = BTreeMap::new();
+    keys.map(|k| {
+        let next = met.len();
+        *met.entry(k).or_insert(next)
+    })
+    .collect()
+}
+
+/// The type of each element, by rank from 0 to R, when the sweeps end. The distances are those of `distances`.
+fn types(s: &Solid, distances: &[Vec<f64>]) -> Vec<Vec<usize>> {
+    let rank = s.rank();
+    let subs: Vec<Vec<Vec<usize>>> = (0..=rank).map(|r| (0..s.count(r)).map(|i| if r == 0 { vec![] } else { s.subs(r, i) }).collect()).collect();
+    let mut sups: Vec<Vec<Vec<usize>>> = subs.iter().map(|of_rank| vec![vec![]; of_rank.len()]).collect();
+    for r in 1..=rank {
+        for (i, l) in subs[r].iter().enumerate() {
+            l.iter().for_each(|e| sups[r - 1][*e].push(i));
+        }
+    }
+    let mut state: Vec<Vec<usize>> = classes(distances).iter().map(|of_rank| numbered(of_rank.iter().map(|d| d.to_bits()))).collect();
+    state[0] = vec![0];
+    state.push(vec![0]);
+    let step = |state: &mut Vec<Vec<usize>>, r: usize, neighbours: &[Vec<usize>], beside: usize| {
+        let keys = neighbours.iter().zip(&state[r]).map(|(near, t)| {
+            let mut of: Vec<usize> = near.iter().map(|n| state[beside][*n]).collect();
+            of.sort_unstable();
+            (*t, of)
+        });
+        state[r] = numbered(keys);
+    };
+    // "Sweeps end when one leaves the number of types unchanged, the first never"
+    let mut before = None;
+    loop {
+        (1..rank).for_each(|r| step(&mut state, r, &subs[r], r - 1));
+        (1..rank).rev().for_each(|r| step(&mut state, r, &sups[r], r + 1));
+        let now: usize = state[1..rank].iter().map(|of| of.iter().max().unwrap() + 1).sum();
+        if before == Some(now) {
+            return state;
+        }
+        before = Some(now);
+    }
+}
+
+// ---- marks
 
 /// The marks of these rows, V numbers each.
 pub fn marks(s: &Solid, rows: &[usize]) -> Vec<u8> {
     let sets: Vec<Vec<Vec<usize>>> = (0..s.rank()).map(|r| if r == 0 { vec![] } else { (0..s.count(r)).map(|i| s.vertices(r, i)).collect() }).collect();
-    let classes = classes(s);
+    let classes = classes(&distances(s));
     let apart = sets.iter().all(|of_rank| {
         let mut sorted = of_rank.clone();
         sorted.sort();
@@ -240,7 +277,7 @@ fn is_confirmed(s: &Solid, sets: &[Vec<Vec<usize>>], classes: &[Vec<f64>], row: 
     true
 }
 
-// ---- the first columns
+// ---- candidates
 
 /// "The first facet whose hull is further than EPS from the origin"; 10 where there is none.
 pub fn first_facet(s: &Solid) -> Option<usize> {
@@ -248,25 +285,80 @@ pub fn first_facet(s: &Solid) -> Option<usize> {
     (0..s.count(r)).find(|f| distance(s, r, *f) > EPS)
 }
 
-/// 11, where D = R - 1 and not 10: "first columns singular, or a non-finite inverse".
-pub fn is_flat(s: &Solid) -> bool {
-    let Some(facet) = first_facet(s) else { return false };
-    let (rank, mut s) = (s.rank(), s.clone());
-    // "changes places with facet 0"; for R = 2 the facets are vertices, which have one and the same sub, and coordinates don't move
-    if rank > 2 {
-        s.lists[rank - 3].swap(0, facet);
+/// The facet "changes places with facet 0". For R = 2 the facets are vertices, which have one and the same sub, and coordinates don't move.
+fn exchanged(s: &Solid, facet: usize) -> Solid {
+    let mut s = s.clone();
+    if let Some(facets) = s.lists.last_mut() {
+        facets.swap(0, facet);
     }
-    let mut flag = vec![0; rank + 1];
-    (1..rank).rev().for_each(|r| flag[r] = s.subs(r + 1, flag[r + 1])[0]);
+    s
+}
+
+/// The flags, each with an element of every rank from 0 to R, in order: the vertex moves fastest. The first takes the first sub at each rank.
+fn flags(s: &Solid) -> Vec<Vec<usize>> {
+    let mut all = vec![vec![0]];
+    for r in (0..s.rank()).rev() {
+        all = all.iter().flat_map(|above| s.subs(r + 1, above[0]).into_iter().map(move |e| [&[e], &above[..]].concat())).collect();
+    }
+    all
+}
+
+/// "A flag's columns: its vertex; then, D-1 times, change ranks 1 to R-1 in turn and take the vertex."
+fn columns(s: &Solid, flag: &[usize]) -> Vec<Vec<f64>> {
+    let mut flag = flag.to_vec();
     let mut columns = vec![s.points[flag[1]].clone()];
     for _ in 1..s.dimension {
-        for r in 1..rank {
+        for r in 1..s.rank() {
             let other = |e: &usize| *e != flag[r] && s.subs(r, *e).contains(&flag[r - 1]);
             flag[r] = s.subs(r + 1, flag[r + 1]).into_iter().find(other).expect("two between");
         }
         columns.push(s.points[flag[1]].clone());
     }
-    !inverse(&columns).is_some_and(|rows| rows.iter().flatten().all(|x| x.is_finite()))
+    columns
+}
+
+/// 11, where D = R - 1 and not 10: "first columns singular, or a non-finite inverse".
+pub fn is_flat(s: &Solid) -> bool {
+    first_facet(s).is_some_and(|facet| first_inverse(&exchanged(s, facet)).is_none())
+}
+
+/// The inverse of the first flag's columns, row by row; none where they are singular or it is not finite.
+fn first_inverse(s: &Solid) -> Option<Vec<Vec<f64>>> {
+    inverse(&columns(s, &flags(s)[0])).filter(|rows| rows.iter().flatten().all(|x| x.is_finite()))
+}
+
+/// What stands when a search begins, after 8, 9, 10 and 11: the solid with its facets exchanged, and its distances.
+pub struct Setting {
+    searched: Solid,
+    pub distances: Vec<Vec<f64>>,
+    inverse: Vec<Vec<f64>>,
+}
+
+/// None where the search is refused before it makes a candidate.
+pub fn setting(s: &Solid) -> Option<Setting> {
+    if s.dimension + 1 != s.rank() || double_corner(s) {
+        return None;
+    }
+    let searched = exchanged(s, first_facet(s)?);
+    let inverse = first_inverse(&searched)?;
+    Some(Setting { distances: distances(&searched), searched, inverse })
+}
+
+impl Setting {
+    /// The matrices of the flags whose elements have the first flag's types, members or not: row by row, one after another.
+    pub fn candidates(&self) -> Vec<f64> {
+        let (s, types, all) = (&self.searched, types(&self.searched, &self.distances), flags(&self.searched));
+        let same_types = |flag: &&Vec<usize>| (1..s.rank()).all(|r| types[r][flag[r]] == types[r][all[0][r]]);
+        all.iter().filter(same_types).flat_map(|flag| self.candidate(&columns(s, flag))).collect()
+    }
+
+    /// "columns times the inverse of the first flag's".
+    fn candidate(&self, columns: &[Vec<f64>]) -> Vec<f64> {
+        let d = columns.len();
+        let row = |i: usize| columns.iter().map(|c| c[i]).collect::<Vec<f64>>();
+        let column = |j: usize| self.inverse.iter().map(|r| r[j]).collect::<Vec<f64>>();
+        (0..d).flat_map(|i| (0..d).map(move |j| dot(&row(i), &column(j)))).collect()
+    }
 }
 
 /// The inverse of the matrix with these columns, by section 1's Gauss-Jordan; none where a pivot is zero.
@@ -333,24 +425,6 @@ pub fn copied(d: usize, turns: usize, copies: &[f64], table: Option<&[usize]>, f
         None => Copied { refusal: 14, count: n, copies: kept, table: vec![65535; all] },
         Some(t) => Copied { refusal: 0, count: n, copies: kept, table: t.iter().map(|k| *k as u16).collect() },
     }
-}
-
-/// Clean: images are finite, and "differ by at most EPS" is transitive among these points on each axis.
-pub fn is_clean(d: usize, points: &[f64]) -> bool {
-    (0..d).all(|axis| {
-        let mut all: Vec<f64> = points.iter().skip(axis).step_by(d).copied().collect();
-        if !all.iter().all(|x| x.is_finite()) {
-            return false;
-        }
-        all.sort_by(|a, b| a.partial_cmp(b).unwrap());
-        let mut first = 0;
-        (1..all.len()).all(|i| {
-            if all[i] - all[i - 1] > EPS {
-                first = i;
-            }
-            all[i] - all[first] <= EPS
-        })
-    })
 }
 
 /// Images of the points under each matrix.

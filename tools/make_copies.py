@@ -24,7 +24,7 @@ import struct
 import subprocess
 import sys
 
-from search_model import transitive
+from search_model import check_clean, clean_copying
 
 TOP = os.path.dirname(os.path.dirname(os.path.abspath(__file__)))
 EPS = 1e-7
@@ -90,7 +90,7 @@ def answer(d, points, turns, copies_out, table_out, rust):
         return early, 0, copies_out, table_out
     ps, ms = parted(points, d), [parted(m, d) for m in parted(turns, d * d)]
     copies, rows = copying(ps, ms)
-    if is_clean(ps, ms, copies):
+    if clean_copying(d, ps, ms):
         assert rust(d, points, turns) == ([[pattern(x) for x in c] for c in copies], rows if all(None not in r for r in rows) else None)
     room = min(MOST, len(copies_out) // d)
     kept = [x for c in copies[:room] for x in c]
@@ -101,12 +101,6 @@ def answer(d, points, turns, copies_out, table_out, rust):
     if any(None in r for r in rows):
         return 14, len(copies), copies_after, [OPEN] * cells + table_out[cells:]
     return 0, len(copies), copies_after, [k for r in rows for k in r] + table_out[cells:]
-
-
-def is_clean(points, matrices, copies):
-    """"differ by at most EPS" is transitive among points, copies and images on each axis, and images are finite."""
-    every = points + copies + [image(m, p) for m in matrices for p in points + copies]
-    return transitive(every)
 
 
 def oracle(program):
@@ -318,6 +312,7 @@ def pattern(x):
 
 
 def main():
+    check_clean()
     rust = oracle(sys.argv[1])
     crate = f"{TOP}/crates/copy_replay"
     numbers = []

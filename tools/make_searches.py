@@ -4,9 +4,10 @@ Run once; the files are kept.
 
     python3 tools/make_searches.py ORACLE         ORACLE is the built oracle's program (oracle/bin/oracle)
 
-Every sheet is answered by the model in tools/search_model.py, and where it is clean (document 01, section 6) and passes up to refusal 9
-the oracle, which is the Rust itself, is asked too: matrices and rows, to the bit, have to be the same, and so has the way in which there
-are none. The Rust has no marks and no refusals: these are the model's alone. Where a solid has few members (FEW) its search and rotations are
+Every sheet is answered by the model in tools/search_model.py. Where the solid is clean (document 01, section 6; `clean` of the model, which is
+first held to the examples of crates/spec) and its search is refused neither 9 nor for an inverse that is not finite, the oracle, which is the
+Rust itself, is asked too: matrices and rows, to the bit, have to be the same, and so has the way in which there are none. The Rust has no
+marks and no refusals: these are the model's alone. Where a solid has few members (FEW) its search and rotations are
 stored whole too, with every matrix, row and mark, but for those of `changed`, `spoilt` and `slivers`; it asserts that these are at least 150
 clean solids, and prints how many. All other outputs are stored as digests, a few bytes for each: their cells would be some megabytes.
 
@@ -32,7 +33,7 @@ import sys
 TOP = os.path.dirname(os.path.dirname(os.path.abspath(__file__)))
 from pack_sheet import pack
 from make_sheets import judge
-from search_model import EPS, SLIPS, Searched, answer, determinant, unpack
+from search_model import EPS, SLIPS, Searched, answer, check_clean, clean, determinant, exchanged, first_inverse, unpack
 
 # what the program has room for, and what it fills each output with
 LIMITS = 8192, 16384, 2048, 20480, 32768, 2048
@@ -559,7 +560,7 @@ def slivers(rng):
         shape = shape.turned(turn(rng, shape.dimension))
         found = Searched(unpack(shape.sheet())[2])
         key = shape.rank, len(found.members), sum(determinant(m) > 0 for m, _ in found.members)
-        if found.clean and found.refusal == 0 and wanted.get(key, 0) > 0:
+        if found.refusal == 0 and wanted.get(key, 0) > 0 and clean(found.solid):
             wanted[key] -= 1
             yield shape.sheet()
 
@@ -597,15 +598,16 @@ class Oracle:
 
     @functools.cache
     def searched(self, sheet, solid):
-        """The model's answer, held against the Rust's where the solid is clean."""
+        """The model's answer, held against the Rust's where the solid is clean and document 01 does not refuse what the Rust takes: two vertices
+        in one place (9), and columns whose inverse is not finite (11)."""
         found = Searched(solid)
-        if not found.clean or found.refusal == 9:
+        if not clean(solid) or found.refusal == 9 or found.refusal == 11 and first_inverse(exchanged(solid)) is not None:
             return found
         for call in ("search", "rotations"):
             ours = [([pattern(x) for r in m for x in r], row) for m, row in found.members if call == "search" or determinant(m) > 0]
-            none = {10: ["none"], 11: ["panic singular", "members 0 rotations 0"]}.get(found.refusal, ["members 0 rotations 0"])
+            none = {10: "none", 11: "panic singular"}.get(found.refusal, "members 0 rotations 0")
             theirs = self.members(sheet, call)
-            assert ours == theirs if ours else theirs in none, (call, sheet.hex(), found.refusal, theirs)
+            assert theirs == (ours or none), (call, sheet.hex(), found.refusal, theirs)
         return found
 
 
@@ -679,6 +681,7 @@ def line(number, count, outputs):
 
 
 def main():
+    check_clean()
     rust = Oracle(sys.argv[1])
     slipping = {slip: functools.cache(lambda sheet, solid, slip=slip: Searched(solid, slip)) for slip in SLIPS}
     crate = f"{TOP}/crates/search_replay"
@@ -695,7 +698,7 @@ def main():
                 told[slip] += answer(sheet, words, floats, lengths, call % 2, searched) != right
             numbers.append(number)
             solids.add(sheet)
-            if call == 2 and rust.searched(sheet, unpack(sheet)[2]).clean:
+            if call == 2 and clean(unpack(sheet)[2]):
                 whole.add(sheet)
     assert all(told.values()), told
     assert len(whole) >= 150, len(whole)

@@ -1,5 +1,5 @@
 """Search and rotations as document 01 says them, sections 1 to 6 and the table: written from its sentences alone, in another language and
-another shape than the program. tools/make_searches.py answers by it.
+another shape than the program. tools/make_searches.py answers by it. It also has section 6's "Clean", for solids and for copyings.
 
 A slip is a clause left out or changed, and makes another search: make_searches.py asks whether its stored calls tell each from the right one."""
 import functools
@@ -78,6 +78,15 @@ def norm(a):
 
 def minus(a, b):
     return [x - y for x, y in zip(a, b)]
+
+
+def image(matrix, p):
+    return [dot(row, p) for row in matrix]
+
+
+def multiplied_by(a, b):
+    """The product of two matrices."""
+    return [[dot(row, c) for c in zip(*b)] for row in a]
 
 
 def eliminated(matrix):
@@ -212,63 +221,203 @@ def find(points, q):
     return next((k for k, p in enumerate(points) if all(abs(a - b) <= EPS for a, b in zip(p, q))), None)
 
 
+class Setting:
+    """What stands when a search begins: the solid with its facets exchanged, its types, its first flag, and the inverse of that flag's columns."""
+
+    def __init__(self, searched, inverse):
+        self.searched, self.types, self.first, self.inverse = searched, types(searched), next(flags(searched)), inverse
+
+    def same_types(self, flag):
+        return all(self.types[r][flag[r]] == self.types[r][self.first[r]] for r in self.searched.proper())
+
+    @functools.cached_property
+    def candidates(self):
+        """The matrices of the flags whose elements have the first flag's types, in flag order, members or not."""
+        return [multiplied_by(columns(self.searched, flag), self.inverse) for flag in flags(self.searched) if self.same_types(flag)]
+
+
+def exchanged(solid):
+    """The solid with its first facet further than EPS from the origin in the place of facet 0; None where no facet is."""
+    far = [f for f, d in enumerate(distances(solid)[-1]) if d > EPS]
+    return solid.exchanged(far[0]) if far else None
+
+
+def first_inverse(solid):
+    """The inverse of the first flag's columns; None where they are singular."""
+    return eliminated(columns(solid, next(flags(solid))))[2]
+
+
+@functools.cache
+def setting(solid):
+    """The number of the refusal (8 to 11), or the Setting."""
+    if solid.dimension != solid.rank - 1:
+        return 8
+    if any(find(solid.points[:k], p) is not None for k, p in enumerate(solid.points)):
+        return 9
+    searched = exchanged(solid)
+    if searched is None:
+        return 10
+    inverse = first_inverse(searched)
+    if inverse is None or not all_finite(inverse):
+        return 11
+    return Setting(searched, inverse)
+
+
 class Searched:
-    """The refusal's number, or 0; the members' matrices and rows; whether the solid is clean; and the solid of the marks."""
+    """The refusal's number, or 0; the members' matrices and rows; and the solid of the marks."""
 
     def __init__(self, solid, slip=None):
-        self.members, self.images, self.clean, self.slip, self.marked = [], [], True, slip, solid
-        self.refusal = self.judged(solid)
+        self.solid, self.slip, self.marked = solid, slip, solid
+        found = setting(solid)
+        self.refusal = 0 if isinstance(found, Setting) else found
+        self.members = []
+        if self.refusal == 0:
+            self.list_members(found)
+            if slip == "exchanged":
+                self.marked = found.searched
 
-    def judged(self, solid):
-        if any(find(solid.points[:k], p) is not None for k, p in enumerate(solid.points)):
-            return 9
-        far = [f for f, d in enumerate(distances(solid)[-1]) if d > EPS]
-        if not far:
-            return 10
-        exchanged = solid.exchanged(far[0])
-        if self.slip == "exchanged":
-            self.marked = exchanged
-        first = next(flags(exchanged))
-        inverse = eliminated(columns(exchanged, first))[2]
-        if inverse is None:
-            return 11
-        if not all(math.isfinite(x) for r in inverse for x in r):
-            self.clean = False
-            return 11
-        self.list_members(exchanged, first, inverse)
-        self.clean = all(one_listed(s) for s in (solid, exchanged)) and transitive(solid.points + self.images)
-        return 0
-
-    def list_members(self, solid, first, inverse):
-        state = types(solid)
+    def list_members(self, found):
+        solid, state = found.searched, found.types
         examples = [(r, solid.vertices[r][state[r].index(t)]) for r in range(2, solid.rank) for t in sorted(set(state[r]))]
-        for flag in flags(solid):
-            if any(state[r][flag[r]] != state[r][first[r]] for r in solid.proper()):
-                continue
-            matrix = [[dot(row, c) for c in zip(*inverse)] for row in columns(solid, flag)]
-            images = [[dot(row, p) for row in matrix] for p in solid.points]
-            self.images += images
-            row = [find(solid.points, q) for q in images]
+        for matrix in found.candidates:
+            row = [find(solid.points, image(matrix, p)) for p in solid.points]
             if None not in row and (self.slip == "examples" or all(sorted(row[v] for v in vs) in solid.vertices[r] for r, vs in examples)):
                 self.members.append((matrix, row))
 
 
-def one_listed(solid):
-    listed = classes(solid)[1]
-    return all(sum(abs(l - d) < EPS for l in listed) < 2 for of_rank in distances(solid) for d in of_rank)
+# ---- section 6, "Clean": the definitions of crates/spec/specs/Clean.antt, under the same names
+
+def within_eps(x, y):
+    """"differ by at most EPS": the rounded difference, EPS included."""
+    return abs(x - y) <= EPS
 
 
-def transitive(points):
-    """"differ by at most EPS" is transitive on each axis, and all is finite."""
-    for axis in zip(*points):
-        if not all(math.isfinite(x) for x in axis):
+def transitive(values):
+    """".. is transitive among" the values. Rounding keeps the order of differences, so that values in rising order fall into runs, each value
+    within EPS of the one before it, and the test is transitive exactly when the first and the last value of each run differ by at most EPS.
+    The values have to be finite."""
+    start = before = None
+    for x in sorted(values):
+        if before is None or not within_eps(x, before):
+            start = x
+        elif not within_eps(x, start):
             return False
-        run = None
-        for a, b in itertools.pairwise(sorted(set(axis))):
-            run = (a if run is None else run) if b - a <= EPS else None
-            if run is not None and not b - run <= EPS:
-                return False
+        before = x
     return True
+
+
+def on_axis(points, k):
+    return [p[k] for p in points]
+
+
+def all_finite(points):
+    return all(math.isfinite(x) for p in points for x in p)
+
+
+def clean_points(dimension, points, images):
+    """".. among coordinates and images on each axis, images are finite"."""
+    return all_finite(images) and all(transitive(on_axis(points + images, k)) for k in range(dimension))
+
+
+def images(matrices, points):
+    return [image(m, p) for m in matrices for p in points]
+
+
+def listed_by(all_distances):
+    """What is listed when each distance has been taken or has joined."""
+    listed = []
+    for d in all_distances:
+        if not any(abs(l - d) < EPS for l in listed):
+            listed.append(d)
+    return listed
+
+
+def clean_distances(all_distances):
+    """"no distance is ever nearer than EPS to two listed values": strictly nearer, and to two of the whole list."""
+    listed = listed_by(all_distances)
+    return all(sum(abs(l - d) < EPS for l in listed) < 2 for d in all_distances)
+
+
+def all_distances(solid):
+    return [d for of_rank in distances(solid) for d in of_rank]
+
+
+@functools.cache
+def clean(solid):
+    """Of the distances as read and, in a search, with the facets exchanged; of the coordinates, and of the images of every vertex under every
+    candidate. A search that is refused before it makes a candidate has neither images nor a second list. Solids of rank 0 and 1 are clean."""
+    if not clean_distances(all_distances(solid)):
+        return False
+    found = setting(solid)
+    if not isinstance(found, Setting):
+        return clean_points(solid.dimension, solid.points, [])
+    return (clean_distances(all_distances(found.searched))
+            and clean_points(solid.dimension, solid.points, images(found.candidates, solid.points)))
+
+
+def copying(matrices, points):
+    """The copies, and the points that copying multiplies: those "not found among the copies"."""
+    copies, multiplied = [], []
+    for p in points:
+        if find(copies, p) is None:
+            multiplied.append(p)
+            for q in images(matrices, [p]):
+                if find(copies, q) is None:
+                    copies.append(q)
+    return copies, multiplied
+
+
+def clean_copying(dimension, points, matrices):
+    """"In copying, the first two are meant of points, copies and images": the images of the points that are multiplied, and of the copies."""
+    copies, multiplied = copying(matrices, points)
+    return clean_points(dimension, points + copies, images(matrices, multiplied + copies))
+
+
+def polygon(edges, points):
+    return Solid([list(map(float, p)) for p in points], [[[]], [[0]] * len(points), edges, [list(range(len(edges)))]])
+
+
+def ring(*points):
+    """The polygon through these points in turn."""
+    n = len(points)
+    return polygon([sorted((k, (k + 1) % n)) for k in range(n)], points)
+
+
+def dyad(a, b):
+    return Solid([[float(a)], [float(b)]], [[[]], [[0], [0]], [[0, 1]]])
+
+
+def check_clean():
+    """Clean on the examples that are evaluated in crates/spec/specs/CallExamples.antt and crates/trials/specs/Differences.antt."""
+    by_triples = lambda xs: all(not (within_eps(x, y) and within_eps(y, z)) or within_eps(x, z) for x in xs for y in xs for z in xs)
+    steps = (0.0, 0.5e-7, 0.6e-7, 1e-7, 1.2e-7, 2e-7, -0.5e-7, 1.0, 1.00000006, 1.0000001, 1.0000002)
+    for xs in itertools.product(steps, repeat=4):
+        assert transitive(xs) == by_triples(xs), xs
+    for solid in (
+        ring((1, 1), (-1, 1), (-1, -1), (1, -1)), ring((-1, 0), (1, 0), (0, 1)), dyad(-1, 1), dyad(-1, 1.00000009), dyad(5e-8, -1.2e-7),
+        # refused 9 to 11: document 01 refuses what the Rust takes, and that alone is the difference
+        dyad(0, 1e-7), dyad(-1e-7, 1e-7), dyad(1e-310, 1), dyad(1, 1),
+    ):
+        assert clean(solid), solid.points
+    for solid in (
+        # distances near two listed values; the second and the last are so only when the list is whole
+        ring((0,), (1.2e-7,), (0.6e-7,)), ring((0,), (0.6e-7,), (1.2e-7,)), ring((0,), (1e-7,), (0.5e-7,)),
+        ring((1, 0), (-0.50000003, 0.86602546), (-0.50000006, -0.86602551)),
+        # images near two vertices, the last under a candidate that is no member
+        dyad(1.1e-7, -0.5e-7), ring((-9e-8, 1), (9e-8, 0), (1, 0)), ring((0, 1), (1, 0), (8e-8, -1), (-1, 0)),
+        ring((-1, -1), (1, -1), (4.5e-8, 1), (-6e-8, 1)),
+        # a distance near two values of the exchanged solid's list
+        polygon([[0, 1], [2, 3], [4, 5], [1, 2], [3, 4], [0, 5]],
+                [(1, 9e-8), (-1, 9e-8), (2e-8, 1), (2e-8, -1), (2.00000013, 1.99999987), (-1.99999987, -2.00000013)]),
+    ):
+        assert not clean(solid), solid.points
+    quarters = [[[c, -s], [s, c]] for c, s in ((1.0, 0.0), (0.0, 1.0), (-1.0, 0.0), (0.0, -1.0))]
+    one, shear = [[1.0, 0.0], [0.0, 1.0]], [[1.0, -1e-8], [0.0, 1.0]]
+    assert clean_copying(2, [[1.0, 0.0]], quarters)
+    assert clean_copying(1, [[0.0], [0.9e-7]], [[[1.0]], [[2.0]]])
+    assert not clean_copying(1, [[1e-7]], [[[1.0]], [[-1.0]], [[0.0]]])
+    assert not clean_copying(2, [[0.0, 5.0], [8e-8, 0.0]], [one, shear])
+    assert not clean_copying(2, [[0.0, 5.0], [8e-8, 0.0], [-5e-8, 5.0]], [one])
 
 
 def mark(solid, row, slip=None):
