@@ -30,7 +30,7 @@ module _ (b : List ℕ) (c : Concrete) (S z : State) where
 
 -- both promises of a call, from its equation
 pub told : (rot : Bool) (b : List ℕ) (words floats : ℕ) (old new : SearchOut) (r : Answer) → (r, new) ≡ callOf rot b words floats old
-    → ((r, new) ≡ callOf rot b words floats old) × Demand3Told b r (new .rows) (new .marks)
+    → ((r, new) ≡ callOf rot b words floats old) × Demand3Told b (answerCount r) (new .rows) (new .marks)
 told rot b words floats old new r e = (
   e,
   λ w f o n d.

@@ -5,23 +5,22 @@ use mathlib.Core.Path.{_≡_}
 use Prim.Native.Nat.{ℕ, _<_}
 use mathlib.Core.List.{List}
 use lib.ListN.{length, getD}
-use Rattle.spec.specs.declared.Answer.{Answer}
 use Rattle.spec.specs.declared.Answer.the-variants.{Done}
-use Rattle.spec.specs.Refusal.{answerCount}
 use Rattle.spec.specs.Types.{size, start, Step, play}
 use Rattle.spec.specs.Demand.{AllProper}
 use Rattle.spec.specs.Classes.{classTable, byTable}
 use Rattle.spec.specs.Calls.{TypesOut, typesCall}
 use Rattle.spec.specs.Demand3Calls.{rowAt, KeepsType, Demand3Call}
 
--- of the answer r, rows and marks of a search or rotations call, and a types call that gives out the n types of the sheet b
-pub record Demand3Rows (b : List ℕ) (words floats : ℕ) (old : TypesOut) (n : ℕ) (r : Answer) (rows marks : List ℕ) : Type 0 where
+-- of a types call that gives out the n types of the sheet b, and of a search or rotations call that answers a count of m members, with its rows and marks
+pub record Demand3Rows (b : List ℕ) (words floats : ℕ) (old : TypesOut) (n m : ℕ) (rows marks : List ℕ) : Type 0 where
   -- what any list of steps parts, the result parts; where no step would part more, its numbers are the result's
   pub types : Demand3Call b words floats old n
   -- each listed member with mark 1 carries every element to one of its own rank and type, after the list and in the result
-  pub listed : (xs : List Step) → AllProper (types .solid .abs) xs → (k : ℕ) → k < answerCount r → getD marks k 0 ≡ 1 → (q e : ℕ) → e < size (types .solid .abs) q
+  pub listed : (xs : List Step) → AllProper (types .solid .abs) xs → (k : ℕ) → k < m → getD marks k 0 ≡ 1 → (q e : ℕ) → e < size (types .solid .abs) q
       → KeepsType (types .solid .abs) (play (types .solid .abs) (start (types .solid .abs) (byTable (classTable (types .solid)))) xs) (types .result)
       (rowAt (length (types .solid .points)) k rows) q e
 
-abbrev pub Demand3Told : List ℕ → Answer → List ℕ → List ℕ → Type 0
-Demand3Told b r rows marks = (words floats : ℕ) (old : TypesOut) (n : ℕ) → typesCall b words floats old .0 ≡ Done n → Demand3Rows b words floats old n r rows marks
+-- the same, whatever was lent to the types call
+abbrev pub Demand3Told : List ℕ → ℕ → List ℕ → List ℕ → Type 0
+Demand3Told b m rows marks = (words floats : ℕ) (old : TypesOut) (n : ℕ) → typesCall b words floats old .0 ≡ Done n → Demand3Rows b words floats old n m rows marks

@@ -3,7 +3,9 @@
 use spec::Answer;
 ghost use mathlib.Core.Path.{_≡_};
 ghost use lib.ListN.{length};
+ghost use Rattle.spec.specs.Refusal.{answerCount};
 ghost use Rattle.spec.specs.Calls.{searchCall, rotationsCall};
+ghost use Rattle.spec.specs.Workspace.{Free};
 ghost use Rattle.symmetry.specs.Tails.{outOf};
 ghost use Rattle.search.specs.Demand3.{Demand3Told};
 
@@ -13,9 +15,9 @@ mod marking;
 
 use crate::driver::run;
 
-// A sheet of any bytes and any length, a workspace of any size, and outputs of any length: D * D floats, V row entries and one mark a member.
-// The workspace afterwards is free, and keeps its length. Each listed member with mark 1 carries every element to one of its own rank and type,
-// after any list of steps and in what the types call gives out.
+// The call takes a sheet of any bytes and any length, a workspace of any size, and outputs of any length: D * D floats, V row entries and one mark
+// for each member. Each listed member with mark 1 carries every element to one of its own rank and type, after any list of steps and in what the
+// types call gives out. The workspace afterwards is free, and keeps its length.
 pub fn search(
     sheet: &[u8],
     words: &mut [u32],
@@ -27,12 +29,13 @@ pub fn search(
     ensures { λ r. ⌜ (r, outOf (now (matrices .exit)) (now (rows .exit)) (now (marks .exit)))
         ≡ searchCall (now (sheet .entry)) (length (now (words .entry))) (length (now (floats .entry)))
         (outOf (now (matrices .entry)) (now (rows .entry)) (now (marks .entry))) ⌝ }
-    ensures { λ r. ⌜ Demand3Told (now (sheet .entry)) r (now (rows .exit)) (now (marks .exit)) ⌝ }
+    ensures { λ r. ⌜ Demand3Told (now (sheet .entry)) (answerCount r) (now (rows .exit)) (now (marks .exit)) ⌝ }
+    ensures { λ _. ⌜ Free (now (words .entry)) (now (words .exit)) (now (floats .entry)) (now (floats .exit)) ⌝ }
 {
     run(sheet, words, floats, false, matrices, rows, marks)
 }
 
-// "Rotations are those of determinant above 0": the same, of those members alone.
+// "Rotations are those of determinant above 0": does the same as `search`, but lists only those members.
 pub fn rotations(
     sheet: &[u8],
     words: &mut [u32],
@@ -44,7 +47,8 @@ pub fn rotations(
     ensures { λ r. ⌜ (r, outOf (now (matrices .exit)) (now (rows .exit)) (now (marks .exit)))
         ≡ rotationsCall (now (sheet .entry)) (length (now (words .entry))) (length (now (floats .entry)))
         (outOf (now (matrices .entry)) (now (rows .entry)) (now (marks .entry))) ⌝ }
-    ensures { λ r. ⌜ Demand3Told (now (sheet .entry)) r (now (rows .exit)) (now (marks .exit)) ⌝ }
+    ensures { λ r. ⌜ Demand3Told (now (sheet .entry)) (answerCount r) (now (rows .exit)) (now (marks .exit)) ⌝ }
+    ensures { λ _. ⌜ Free (now (words .entry)) (now (words .exit)) (now (floats .entry)) (now (floats .exit)) ⌝ }
 {
     run(sheet, words, floats, true, matrices, rows, marks)
 }

@@ -1,4 +1,4 @@
--- The run's own equation, and demand 3 from it.
+-- The run's own equation, demand 3 from it, and the workspace's lengths.
 -- Assumes nothing.
 use borrow.Author.Needs.{needs}
 use mathlib.Core.Bool.{false}
@@ -19,4 +19,5 @@ search-spec =
     (λ c. search needs)
     (λ c. search needs)
     -- returns
-    (λ c. told false _ _ _ _ _ _ (c .before .before .before .before .before .before .before .before .before .before .run .ensures)))
+    (λ c. let t = told false _ _ _ _ _ _ (c .before .before .before .before .before .before .before .before .before .before .run .ensures) in
+    (t .0, (t .1, record { words = search needs; floats = search needs }))))
