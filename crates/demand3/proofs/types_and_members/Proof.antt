@@ -1,9 +1,8 @@
--- Both calls' promises. The workspace keeps its lengths from the first call to the second.
+-- Both calls' promises.
 -- Assumes nothing.
 use borrow.Author.Needs.{needs}
-use mathlib.Core.Path.{_≡_, sym, ap, _∙_}
-use Rattle.spec.specs.declared.Answer.{Answer}
-use Rattle.spec.specs.Calls.{TypesOut}
+use Rattle.spec.specs.Calls.{searchCall}
+use Rattle.demand3.proofs.Both.{both}
 use Rattle.demand3.proofs.types_and_members.Statement.{statement}
 use Rattle.demand3.proofs.types_and_members.Tie as tie
 
@@ -25,10 +24,6 @@ types-and-members-spec =
     -- returns
     (λ c. let s = c .before .before .before .before .before .before .before .before .before .before in
     let e = s .before .before .before .before .before .before .before .before .before .before .before .before .before .before in
-    let t = e .element-types .ensures .0 in (
-      t,
-      (
-        rw (e .element-types .kept .1 .0, e .element-types .kept .1 .1 .0) at (s .search .ensures .0),
-        λ n d. s .search .ensures .1 _ _ _ n (sym (ap (λ (x : Answer × TypesOut). x .0) t) ∙ d),
-      ),
-    )))
+    let t = e .element-types .ensures in
+    let m = s .search .ensures in
+    (both searchCall _ _ _ _ _ _ _ _ _ _ _ (t .0) (t .1 .0) (t .1 .1) (m .0) (m .1 .0), record { words = search needs; floats = search needs })))
