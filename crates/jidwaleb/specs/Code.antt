@@ -1,6 +1,7 @@
 -- How an answer goes over C's interface: as one number of 64 bits.
 -- Assumes nothing.
-use Prim.Native.Nat.{ℕ, _+_, _*_, _^_}
+use mathlib.Core.Path.{_≡_}
+use Prim.Native.Nat.{ℕ, _+_, _*_, _/_, _%_, _^_}
 use Rattle.spec.specs.declared.Answer.{Answer}
 use Rattle.spec.specs.Refusal.{answerNumber, answerCount}
 
@@ -15,3 +16,16 @@ coded x = (codeOf (x .0), x .1, x .2)
 -- the same of a call whose outputs are one record
 abbrev pub codedOut : {A : Type 0} → Answer × A → ℕ × A
 codedOut x = (codeOf (x .0), x .1)
+
+-- ---- what the caller reads from the number
+
+abbrev pub refusalIn : ℕ → ℕ
+refusalIn r = r / 2 ^ 32
+
+abbrev pub countIn : ℕ → ℕ
+countIn r = r % 2 ^ 32
+
+-- nothing of the answer a is lost: no count reaches 2^32
+pub record Decoded (r : ℕ) (a : Answer) : Type 0 where
+  pub refusal : refusalIn r ≡ answerNumber a
+  pub count : countIn r ≡ answerCount a

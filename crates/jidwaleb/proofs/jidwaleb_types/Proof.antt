@@ -1,7 +1,7 @@
--- The answer of `types::element_types`, as its code; the outputs are its own.
+-- The answer of `types::element_types`, as its code; the outputs and the promises about them are its own.
 -- Assumes nothing.
 use borrow.Author.Needs.{needs}
-use Rattle.jidwaleb.proofs.Coded.{fits, handed}
+use Rattle.jidwaleb.proofs.Coded.{fits, handed, told, done}
 use Rattle.jidwaleb.proofs.Counted.{types-count}
 use Rattle.jidwaleb.proofs.jidwaleb_types.Statement.{statement}
 use Rattle.jidwaleb.proofs.jidwaleb_types.Tie as tie
@@ -19,4 +19,12 @@ jidwaleb-types-spec =
     (λ c. search needs)
     (λ c. search needs)
     -- returns
-    (λ c. handed _ _ _ (c .before .before .before .before .before .before .before .before .before .element-types .ensures .0) _ (c .code .ensures)))
+    (λ c. let t = c .before .before .before .before .before .before .before .before .before .element-types .ensures in
+    let k = types-count _ _ _ _ in
+    let p = c .code .ensures in (
+      handed _ _ _ (t .0) k _ p,
+      (
+        told _ _ _ (t .0) k _ p,
+        (λ z. let d = done _ _ _ (t .0) k _ p z in t .1 .0 (d .0) (d .1), record { words = search needs; floats = search needs }),
+      ),
+    )))
