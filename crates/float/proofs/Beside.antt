@@ -8,7 +8,7 @@ use native.Mathlib.Nat.{zero-add, suc-add}
 use native.Mathlib.Decide.{ℕ-discrete}
 use native.Mathlib.Omega.{arith}
 use lib.Dec.{eqb}
-use lib.ListN.{getD, take, drop, set, length, length-set, replicate, length-replicate, getD-replicate}
+use lib.ListN.{getD, take, drop, set, length, length-drop, length-set, replicate, length-replicate, getD-replicate}
 use lib.Seq.{ext-getD, take-add, take-append-add, take-set-lt, drop-at, length-take-le, getD-set-same, getD-set-other}
 use lib.Ieee.{Float}
 use borrow.Author.Tests.{eq-eqb, ne-eqb}
@@ -65,6 +65,9 @@ beside-rows d m h =
     sym (zip-maps (λ x e. x ++ e) (λ i. take d (row m i)) (unit d) (range 0 d))
     ∙ ap (λ (a : Matrix). zip (λ x e. x ++ e) a (map (unit d) (range 0 d))) (over-corner (λ x. x) d m h ∙ map-id (corner d m))
 
--- the half that was the identity
+-- the half that was a row of the identity, and how long it is
 pub drop-take : {A : Type 0} (d n : ℕ) (l : List A) → d ≤ length l → drop d (take (d + n) l) ≡ take n (drop d l)
 drop-take d n l h = rw (take-add d n l) (drop-at (take d l) (take n (drop d l)) d (length-take-le d l h))
+
+pub half-long : (d : ℕ) (v : Vector) → d + d ≤ length v → length (drop d (take (d + d) v)) ≡ d
+half-long d v h = omega (arith, length-drop d (take (d + d) v), length-take-le (d + d) v h)

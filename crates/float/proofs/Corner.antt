@@ -37,8 +37,3 @@ pub columns-corner : (d : ℕ) (m : List (List Float)) → d ≤ length m →
     map (λ j. map (λ r. getD r j zeroF) (corner d m)) (range 0 d) ≡ columns (corner d m)
 unfolding columns
 columns-corner d m h = rw (length-corner d m)
-
--- of rows that are read out of something else
-pub corner-map : {A : Type 0} (f : A → List Float) (d : ℕ) (l : List A) → corner d (map f l) ≡ map (λ x. take d (f x)) (take d l)
-unfolding corner
-corner-map f d l = rw (take-map f d l) (map-map f (take d) (take d l))

@@ -7,7 +7,7 @@ pub mod Leading
 pub mod PivotScan
 pub mod Beside
 pub mod Columns
-pub mod Inverses
+pub mod Padded
 pub mod Parts
 pub mod Nearness
 pub mod Tails

@@ -48,12 +48,12 @@ module _ {A : Type 0} {g : ℕ → A} {l : List A} where
   pub all : {r : List A} {i : ℕ} (n : ℕ) → length l ≡ n → i ≤ n → n ≤ i → Written (λ x. x) g l r i → r ≡ map g (range 0 n)
   all {r} {i} n h p q w = sym (take-all n r (omega (arith, w .long))) ∙ end-plain n p q w
 
-  whole : {r : List A} {i : ℕ} (n : ℕ) → i ≤ n → n ≤ i → Written (λ x. x) g l r i → r ≡ map g (range 0 n) ++ drop n l
+  pub whole : {r : List A} {i : ℕ} (n : ℕ) → i ≤ n → n ≤ i → Written (λ x. x) g l r i → r ≡ map g (range 0 n) ++ drop n l
   whole {r} {i} n p q w =
       let k : i ≡ n = omega arith in
       sym (take-append-drop n r) ∙ ap₂ _++_ (end-plain n p q w) (rw k at (w .rest))
 
-drop-replicate : {A : Type 0} (n k : ℕ) (x : A) → drop n (replicate k x) ≡ replicate (k - n) x
+pub drop-replicate : {A : Type 0} (n k : ℕ) (x : A) → drop n (replicate k x) ≡ replicate (k - n) x
 drop-replicate zero k x = rw sub-zero
 drop-replicate (suc n) zero x = rw zero-sub
 drop-replicate (suc n) (suc k) x = drop-replicate n k x ∙ rw suc-sub-suc

@@ -1,17 +1,15 @@
--- How the arrays of the code are read: a d by d matrix is the leading part of an array of arrays.
+-- How the arrays of the code are read, and what the cells that no entry needs hold: a d by d matrix is the leading part of an array of arrays.
 -- Assumes nothing.
 use mathlib.Core.Path.{_≡_}
 use mathlib.Core.Bool.{Bool, true, false}
-use mathlib.Core.List.{List, map}
+use mathlib.Core.List.{List, [], _++_, map}
 use mathlib.Core.Option.{Option, none, some}
-use Prim.Native.Nat.{ℕ, _+_}
-use lib.ListN.{take}
+use Prim.Native.Nat.{ℕ, _+_, _-_}
+use lib.ListN.{take, length, replicate}
 use lib.Ieee.{Float}
-use Rattle.float.specs.declared.elimination.Answer.{Answer}
-use Rattle.float.specs.declared.elimination.Answer.the-variants.{Regular, Singular}
-use Rattle.float.specs.declared.elimination.Inverse.{Inverse}
 use Rattle.spec.specs.Limits.{maxDimension}
-use Rattle.spec.specs.Matrix.{Matrix}
+use Rattle.spec.specs.Float.{zeroF}
+use Rattle.spec.specs.Matrix.{Vector, Matrix}
 
 -- a working row of the elimination has room for a row of the matrix and one of the identity
 abbrev pub width : ℕ
@@ -25,18 +23,23 @@ leading d n m = map (take n) (take d m)
 unfoldable pub corner : ℕ → List (List Float) → Matrix
 corner d m = map (take d) (take d m)
 
-byAnswer : Answer → Matrix → Option Matrix
-byAnswer Regular m = some m
-byAnswer Singular m = none
+-- a vector in an array: its entries, and +0.0 in each cell after them
+unfoldable pub padded : Vector → List Float
+padded v = v ++ replicate (maxDimension - length v) zeroF
 
--- the rows of the arrays that the inverse holds
-unfoldable pub rowsOf : Inverse → List (List Float)
-rowsOf r = map (λ x. x .entries) (r .rows)
+-- a matrix in an array of arrays: its rows, each padded, and rows of +0.0 after them
+unfoldable pub paddedRows : Matrix → List (List Float)
+paddedRows m = map padded m ++ replicate (maxDimension - length m) (replicate maxDimension zeroF)
 
--- the d by d matrix that it stands for, or none
-unfoldable pub inverseOf : ℕ → Inverse → Option Matrix
-unfolding byAnswer
-inverseOf d r = byAnswer (r .answer) (corner d (rowsOf r))
+-- the matrix that the answer beside it says is there
+unfoldable pub ifRegular : Bool → Matrix → Option Matrix
+ifRegular true m = some m
+ifRegular false m = none
+
+-- every cell of the array that holds an inverse: where there is none, each is +0.0
+unfoldable pub inverseCells : Option Matrix → List (List Float)
+inverseCells none = paddedRows []
+inverseCells (some m) = paddedRows m
 
 -- two floats are one, or not, by an answer
 abbrev pub Alike : Bool → Float → Float → Type 0

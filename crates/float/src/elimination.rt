@@ -1,22 +1,21 @@
-// Gauss-Jordan beside an identity. A working row holds d entries of the matrix and then d of the identity.
+// "Gauss-Jordan beside an identity": a working row holds d entries of the matrix and then d of the identity. Its other cells have no meaning.
 ghost use mathlib.Core.Path.{_≡_};
 ghost use mathlib.Core.Bool.{true, false, not};
 ghost use mathlib.Core.List.{_++_, map};
-ghost use mathlib.Core.Option.{some};
 ghost use Prim.Native.Nat.{_+_, _≤_, _<_};
 ghost use lib.ListN.{take, drop};
 ghost use lib.Dec.{eqb};
 ghost use lib.Ieee.{neg};
 ghost use Rattle.spec.specs.Limits.{maxDimension};
-ghost use Rattle.spec.specs.Float.{zeroF, times, zip};
+ghost use Rattle.spec.specs.Float.{times, zip};
 ghost use Rattle.spec.specs.Matrix.{row, entry, unit, identity, pivotRow, swapRows, divided, cleared, clear, inverse, determinant};
-ghost use Rattle.float.specs.Reading.{corner, leading, inverseOf};
+ghost use Rattle.float.specs.Reading.{corner, leading, padded, paddedRows, ifRegular, inverseCells};
 use crate::DIMENSION;
 use crate::tolerance;
 
 const WIDTH: usize = 2 * DIMENSION;
 
-// A row of the matrix beside row i of the identity.
+// A working row: the row v of the matrix beside row i of the identity.
 fn beside(v: [f64; DIMENSION], i: usize, d: usize) -> [f64; WIDTH]
     requires { ⌜ (d ≤ maxDimension) × (i < d) ⌝ }
     ensures { λ r. ⌜ take (d + d) r ≡ take d v ++ unit d i ⌝ }
@@ -31,7 +30,7 @@ fn beside(v: [f64; DIMENSION], i: usize, d: usize) -> [f64; WIDTH]
     r
 }
 
-// The rows to begin with.
+// The working rows that the elimination begins with.
 fn beside_identity(m: [[f64; DIMENSION]; DIMENSION], d: usize) -> [[f64; WIDTH]; DIMENSION]
     requires { ⌜ d ≤ maxDimension ⌝ }
     ensures { λ r. ⌜ leading d (d + d) r ≡ zip (λ x e. x ++ e) (corner d m) (identity d) ⌝ }
@@ -45,7 +44,7 @@ fn beside_identity(m: [[f64; DIMENSION]; DIMENSION], d: usize) -> [[f64; WIDTH];
     r
 }
 
-// The entry in row r and column c of the left half.
+// The entry in row r and column c of the half that began as the matrix.
 fn entry(w: [[f64; WIDTH]; DIMENSION], r: usize, c: usize) -> f64
     requires { ⌜ (r < maxDimension) × (c < maxDimension) ⌝ }
     ensures { λ x. ⌜ x ≡ entry w r c ⌝ }
@@ -69,7 +68,7 @@ fn pivot_row(w: [[f64; WIDTH]; DIMENSION], c: usize, d: usize) -> usize
     p
 }
 
-// Rows p and c in each other's place.
+// The working rows with rows p and c in each other's place.
 fn swapped(w: [[f64; WIDTH]; DIMENSION], p: usize, c: usize) -> [[f64; WIDTH]; DIMENSION]
     requires { ⌜ (p < maxDimension) × (c < maxDimension) ⌝ }
     ensures { λ r. ⌜ r ≡ swapRows w p c ⌝ }
@@ -80,7 +79,7 @@ fn swapped(w: [[f64; WIDTH]; DIMENSION], p: usize, c: usize) -> [[f64; WIDTH]; D
     r
 }
 
-// The whole row, divided by x.
+// "Divide the whole pivot row by the pivot", which is x.
 fn row_divided(v: [f64; WIDTH], x: f64) -> [f64; WIDTH]
     ensures { λ r. ⌜ r ≡ divided v x ⌝ }
 {
@@ -93,7 +92,7 @@ fn row_divided(v: [f64; WIDTH], x: f64) -> [f64; WIDTH]
     r
 }
 
-// The row less its entry in c times the pivot row, product and difference each rounded.
+// A row less its entry in column c times the pivot row, "product and difference each rounded".
 fn row_cleared(v: [f64; WIDTH], pivot: [f64; WIDTH], c: usize) -> [f64; WIDTH]
     requires { ⌜ c < maxDimension ⌝ }
     ensures { λ r. ⌜ r ≡ cleared c pivot v ⌝ }
@@ -107,7 +106,7 @@ fn row_cleared(v: [f64; WIDTH], pivot: [f64; WIDTH], c: usize) -> [f64; WIDTH]
     r
 }
 
-// What row r becomes in column c, where the pivot row is divided.
+// What row r becomes when column c is cleared: the divided pivot row stays, and every other row is cleared by it.
 fn row_next(v: [f64; WIDTH], pivot: [f64; WIDTH], r: usize, c: usize) -> [f64; WIDTH]
     requires { ⌜ c < maxDimension ⌝ }
     ensures { λ x. ⌜ x ≡ elim (eqb r c) [ true ↦ pivot | false ↦ cleared c pivot v ] ⌝ }
@@ -118,7 +117,7 @@ fn row_next(v: [f64; WIDTH], pivot: [f64; WIDTH], r: usize, c: usize) -> [f64; W
     row_cleared(v, pivot, c)
 }
 
-// The pivot row at c, and every other row cleared by it.
+// The working rows with the divided pivot row at c and every other row cleared by it.
 fn rows_cleared(
     w: [[f64; WIDTH]; DIMENSION],
     pivot: [f64; WIDTH],
@@ -137,7 +136,7 @@ fn rows_cleared(
     x
 }
 
-// Column c with the pivot x of row p: swap, divide, clear.
+// One column of the elimination, whose pivot x stands in row p: rows p and c are swapped, row c is divided, and the others are cleared.
 fn column(
     w: [[f64; WIDTH]; DIMENSION],
     p: usize,
@@ -153,33 +152,10 @@ fn column(
     rows_cleared(s, pivot, c, d)
 }
 
-// Whether an inverse was found.
-pub enum Answer {
-    Regular,
-    Singular,
-}
-
-// A row of the inverse: a struct's field that is an array of arrays would leave the whole walk of its functions to a proof by hand.
-pub struct Row {
-    pub entries: [f64; DIMENSION],
-}
-
-// The inverse, where the answer is Regular; its rows are not to be read otherwise.
-pub struct Inverse {
-    pub answer: Answer,
-    pub rows: [Row; DIMENSION],
-}
-
-// What one elimination finds.
-pub struct Eliminated {
-    pub inverse: Inverse,
-    pub determinant: f64,
-}
-
-// The half that was a row of the identity.
+// The half of a working row that began as a row of the identity.
 fn right_half(v: [f64; WIDTH], d: usize) -> [f64; DIMENSION]
     requires { ⌜ d ≤ maxDimension ⌝ }
-    ensures { λ r. ⌜ take d r ≡ drop d (take (d + d) v) ⌝ }
+    ensures { λ r. ⌜ r ≡ padded (drop d (take (d + d) v)) ⌝ }
 {
     let mut r = [0.0; DIMENSION];
     let mut j: usize = 0;
@@ -190,25 +166,21 @@ fn right_half(v: [f64; WIDTH], d: usize) -> [f64; DIMENSION]
     r
 }
 
-// The right halves of the rows.
-fn right_halves(w: [[f64; WIDTH]; DIMENSION], d: usize) -> [Row; DIMENSION]
+// The right halves of the working rows. They are d rows of d entries, so that the matrix is read of the array again.
+fn right_halves(w: [[f64; WIDTH]; DIMENSION], d: usize) -> [[f64; DIMENSION]; DIMENSION]
     requires { ⌜ d ≤ maxDimension ⌝ }
-    ensures { λ r. ⌜ map (λ x. take d (x .entries)) (take d r) ≡ map (drop d) (leading d (d + d) w) ⌝ }
+    ensures { λ r. ⌜ (r ≡ paddedRows (map (drop d) (leading d (d + d) w))) × (corner d r ≡ map (drop d) (leading d (d + d) w)) ⌝ }
 {
-    let blank = Row {
-        entries: [0.0; DIMENSION],
-    };
-    let mut r = [blank; DIMENSION];
+    let mut r = [[0.0; DIMENSION]; DIMENSION];
     let mut i: usize = 0;
     while i < d {
-        let x = right_half(w[i], d);
-        r[i] = Row { entries: x };
+        r[i] = right_half(w[i], d);
         i += 1;
     }
     r
 }
 
-// The product of the pivots with one more; the first is taken as it is.
+// The product t of the pivots before column c, times one more. The first pivot is taken as it is and not multiplied by 1.0.
 fn multiplied(t: f64, x: f64, c: usize) -> f64
     ensures { λ r. ⌜ r ≡ elim (eqb c 0) [ true ↦ x | false ↦ times t x ] ⌝ }
 {
@@ -218,7 +190,7 @@ fn multiplied(t: f64, x: f64, c: usize) -> f64
     t * x
 }
 
-// Whether the swaps are odd, after rows p and c changed places.
+// Whether the number of swaps is odd, once rows p and c have changed places. A row that changes places with itself is no swap.
 fn parity(odd: bool, p: usize, c: usize) -> bool
     ensures { λ r. ⌜ r ≡ elim (eqb p c) [ true ↦ odd | false ↦ not odd ] ⌝ }
 {
@@ -228,7 +200,7 @@ fn parity(odd: bool, p: usize, c: usize) -> bool
     !odd
 }
 
-// t, negated if odd.
+// The determinant, of the product t of the pivots: it is negated where the number of swaps is odd.
 fn signed(t: f64, odd: bool) -> f64
     ensures { λ r. ⌜ r ≡ elim odd [ true ↦ neg t | false ↦ t ] ⌝ }
 {
@@ -238,42 +210,17 @@ fn signed(t: f64, odd: bool) -> f64
     t
 }
 
-// What is found where a pivot is zero.
-fn singular() -> Eliminated
-    ensures { λ r. ⌜ (r .inverse .answer ≡ Answer.Singular) × (r .determinant ≡ zeroF) ⌝ }
-{
-    let blank = Row {
-        entries: [0.0; DIMENSION],
-    };
-    let inverse = Inverse {
-        answer: Answer::Singular,
-        rows: [blank; DIMENSION],
-    };
-    Eliminated {
-        inverse,
-        determinant: 0.0,
-    }
-}
-
-// What is found where no pivot is zero: w are the rows, t the product of the pivots.
-fn regular(w: [[f64; WIDTH]; DIMENSION], t: f64, odd: bool, d: usize) -> Eliminated
+// The elimination, column after column. Where a pivot is zero the matrix is singular: it has no inverse, and its determinant is 0. The
+// product is that of the pivots, with its sign.
+pub fn eliminate(
+    m: [[f64; DIMENSION]; DIMENSION],
+    d: usize,
+    regular: &mut bool,
+    product: &mut f64,
+) -> [[f64; DIMENSION]; DIMENSION]
     requires { ⌜ d ≤ maxDimension ⌝ }
-    ensures { λ r. ⌜ (inverseOf d (r .inverse) ≡ some (map (drop d) (leading d (d + d) w))) × (r .determinant ≡ elim odd [ true ↦ neg t | false ↦ t ]) ⌝ }
-{
-    let inverse = Inverse {
-        answer: Answer::Regular,
-        rows: right_halves(w, d),
-    };
-    Eliminated {
-        inverse,
-        determinant: signed(t, odd),
-    }
-}
-
-// Column after column, until a pivot is zero.
-pub fn eliminate(m: [[f64; DIMENSION]; DIMENSION], d: usize) -> Eliminated
-    requires { ⌜ d ≤ maxDimension ⌝ }
-    ensures { λ r. ⌜ (inverseOf d (r .inverse) ≡ inverse (corner d m)) × (r .determinant ≡ determinant (corner d m)) ⌝ }
+    ensures { λ r. ⌜ (ifRegular (now (regular .exit)) (corner d r) ≡ inverse (corner d m)) × (r ≡ inverseCells (inverse (corner d m)))
+        × (now (product .exit) ≡ determinant (corner d m)) ⌝ }
 {
     let mut w = beside_identity(m, d);
     let mut t = 1.0;
@@ -283,7 +230,9 @@ pub fn eliminate(m: [[f64; DIMENSION]; DIMENSION], d: usize) -> Eliminated
         let p = pivot_row(w, c, d);
         let x = entry(w, p, c);
         if x == 0.0 {
-            return singular();
+            *regular = false;
+            *product = 0.0;
+            return [[0.0; DIMENSION]; DIMENSION];
         }
         let next = column(w, p, x, c, d);
         w = next;
@@ -291,5 +240,7 @@ pub fn eliminate(m: [[f64; DIMENSION]; DIMENSION], d: usize) -> Eliminated
         odd = parity(odd, p, c);
         c += 1;
     }
-    regular(w, t, odd, d)
+    *regular = true;
+    *product = signed(t, odd);
+    right_halves(w, d)
 }

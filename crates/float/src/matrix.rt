@@ -1,4 +1,5 @@
-// Matrices of a dimension d up to DIMENSION, as rows of rows: the first d entries of the first d rows count.
+// Matrices of a dimension d up to DIMENSION, as rows of rows: of an argument the first d entries of the first d rows are read, and in a result
+// every other cell holds 0.0.
 ghost use mathlib.Core.Path.{_≡_};
 ghost use mathlib.Core.List.{map};
 ghost use Prim.Native.Nat.{_≤_, _<_};
@@ -6,17 +7,15 @@ ghost use lib.ListN.{take, getD};
 ghost use Rattle.spec.specs.Limits.{maxDimension};
 ghost use Rattle.spec.specs.Float.{zeroF, dot};
 ghost use Rattle.spec.specs.Matrix.{columns, mulVec, mulMat, inverse, determinant};
-ghost use Rattle.float.specs.Reading.{corner, rowsOf, inverseOf};
+ghost use Rattle.float.specs.Reading.{corner, padded, paddedRows, ifRegular, inverseCells};
 use crate::DIMENSION;
 use crate::elimination;
-use crate::elimination::Inverse;
 use crate::vector;
 
-// The matrix times the column v.
-// Entries past d are free: they hold 0.0.
+// The image of v: each entry is the dot of a row of m and v.
 pub fn image(m: [[f64; DIMENSION]; DIMENSION], v: [f64; DIMENSION], d: usize) -> [f64; DIMENSION]
     requires { ⌜ d ≤ maxDimension ⌝ }
-    ensures { λ r. ⌜ take d r ≡ mulVec (corner d m) (take d v) ⌝ }
+    ensures { λ r. ⌜ r ≡ padded (mulVec (corner d m) (take d v)) ⌝ }
 {
     let mut r = [0.0; DIMENSION];
     let mut i: usize = 0;
@@ -27,10 +26,10 @@ pub fn image(m: [[f64; DIMENSION]; DIMENSION], v: [f64; DIMENSION], d: usize) ->
     r
 }
 
-// Column j, by rising row.
+// Column j of the matrix c, from its first row to its last.
 fn column_of(c: [[f64; DIMENSION]; DIMENSION], j: usize, d: usize) -> [f64; DIMENSION]
     requires { ⌜ (d ≤ maxDimension) × (j < d) ⌝ }
-    ensures { λ r. ⌜ take d r ≡ map (λ row. getD row j zeroF) (corner d c) ⌝ }
+    ensures { λ r. ⌜ r ≡ padded (map (λ row. getD row j zeroF) (corner d c)) ⌝ }
 {
     let mut r = [0.0; DIMENSION];
     let mut i: usize = 0;
@@ -41,11 +40,10 @@ fn column_of(c: [[f64; DIMENSION]; DIMENSION], j: usize, d: usize) -> [f64; DIME
     r
 }
 
-// The matrix with the rows of c as its columns.
-// Entries past d are free: they hold 0.0.
+// The matrix whose columns are the rows of c.
 pub fn from_columns(c: [[f64; DIMENSION]; DIMENSION], d: usize) -> [[f64; DIMENSION]; DIMENSION]
     requires { ⌜ d ≤ maxDimension ⌝ }
-    ensures { λ r. ⌜ corner d r ≡ columns (corner d c) ⌝ }
+    ensures { λ r. ⌜ r ≡ paddedRows (columns (corner d c)) ⌝ }
 {
     let mut r = [[0.0; DIMENSION]; DIMENSION];
     let mut i: usize = 0;
@@ -56,10 +54,10 @@ pub fn from_columns(c: [[f64; DIMENSION]; DIMENSION], d: usize) -> [[f64; DIMENS
     r
 }
 
-// v's dot with each row of m.
+// The dots of v with each row of m.
 fn dots(v: [f64; DIMENSION], m: [[f64; DIMENSION]; DIMENSION], d: usize) -> [f64; DIMENSION]
     requires { ⌜ d ≤ maxDimension ⌝ }
-    ensures { λ r. ⌜ take d r ≡ map (dot (take d v)) (corner d m) ⌝ }
+    ensures { λ r. ⌜ r ≡ padded (map (dot (take d v)) (corner d m)) ⌝ }
 {
     let mut r = [0.0; DIMENSION];
     let mut i: usize = 0;
@@ -70,15 +68,14 @@ fn dots(v: [f64; DIMENSION], m: [[f64; DIMENSION]; DIMENSION], d: usize) -> [f64
     r
 }
 
-// The product: each entry is the dot of a row of a and a column of b.
-// Entries past d are free: they hold 0.0.
+// The product of a and b: each entry is the dot of a row of a and a column of b.
 pub fn product(
     a: [[f64; DIMENSION]; DIMENSION],
     b: [[f64; DIMENSION]; DIMENSION],
     d: usize,
 ) -> [[f64; DIMENSION]; DIMENSION]
     requires { ⌜ d ≤ maxDimension ⌝ }
-    ensures { λ r. ⌜ corner d r ≡ mulMat (corner d a) (corner d b) ⌝ }
+    ensures { λ r. ⌜ r ≡ paddedRows (mulMat (corner d a) (corner d b)) ⌝ }
 {
     let t = from_columns(b, d);
     let mut r = [[0.0; DIMENSION]; DIMENSION];
@@ -90,14 +87,17 @@ pub fn product(
     r
 }
 
-// The inverse, or that there is none.
-pub fn inverse(m: [[f64; DIMENSION]; DIMENSION], d: usize) -> Inverse
+// The inverse; `regular` says whether there is one. Where there is none, every cell holds 0.0.
+pub fn inverse(
+    m: [[f64; DIMENSION]; DIMENSION],
+    d: usize,
+    regular: &mut bool,
+) -> [[f64; DIMENSION]; DIMENSION]
     requires { ⌜ d ≤ maxDimension ⌝ }
-    ensures { λ r. ⌜ inverseOf d r ≡ inverse (corner d m) ⌝ }
+    ensures { λ r. ⌜ (ifRegular (now (regular .exit)) (corner d r) ≡ inverse (corner d m)) × (r ≡ inverseCells (inverse (corner d m))) ⌝ }
 {
-    let e = elimination::eliminate(m, d);
-    let r = e.inverse;
-    r
+    let mut product = 0.0;
+    elimination::eliminate(m, d, regular, &mut product)
 }
 
 // The product of the elimination's pivots, with its sign; 0 where the matrix is singular.
@@ -105,21 +105,8 @@ pub fn determinant(m: [[f64; DIMENSION]; DIMENSION], d: usize) -> f64
     requires { ⌜ d ≤ maxDimension ⌝ }
     ensures { λ r. ⌜ r ≡ determinant (corner d m) ⌝ }
 {
-    let e = elimination::eliminate(m, d);
-    e.determinant
-}
-
-// The rows of an inverse, as rows of rows.
-pub fn rows(r: Inverse) -> [[f64; DIMENSION]; DIMENSION]
-    ensures { λ m. ⌜ m ≡ rowsOf r ⌝ }
-{
-    let mut m = [[0.0; DIMENSION]; DIMENSION];
-    let mut i: usize = 0;
-    while i < DIMENSION {
-        let x = r.rows[i];
-        let v = x.entries;
-        m[i] = v;
-        i += 1;
-    }
-    m
+    let mut regular = false;
+    let mut product = 0.0;
+    elimination::eliminate(m, d, &mut regular, &mut product);
+    product
 }

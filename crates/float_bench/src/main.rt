@@ -30,7 +30,8 @@ fn repeat_inverse(times: u64) -> f64 {
     let mut x = 1.0;
     let mut left = times;
     while left > 0 {
-        let m = matrix::rows(matrix::inverse(start(x), DIMENSION));
+        let mut regular = false;
+        let m = matrix::inverse(start(x), DIMENSION, &mut regular);
         x = m[1][1] + 1.0;
         left -= 1;
     }

@@ -6,7 +6,6 @@ ghost use Prim.Native.Nat.{_<_, _≤_, _^_};
 ghost use Rattle.spec.specs.Limits.{maxDimension};
 use float::DIMENSION;
 use float::bits;
-use float::elimination::Answer;
 use float::matrix;
 
 // What stands at the end of the input in place of a dimension.
@@ -105,12 +104,12 @@ fn write_matrix(m: [[f64; DIMENSION]; DIMENSION], d: usize) -> bool
 fn write_inverse(m: [[f64; DIMENSION]; DIMENSION], d: usize) -> bool
     requires { ⌜ d ≤ maxDimension ⌝ }
 {
-    let inverse = matrix::inverse(m, d);
-    let answer = inverse.answer;
-    match answer {
-        Answer::Singular => write(0),
-        Answer::Regular => write(1) && write_matrix(matrix::rows(inverse), d),
+    let mut regular = false;
+    let inverse = matrix::inverse(m, d, &mut regular);
+    if regular {
+        return write(1) && write_matrix(inverse, d);
     }
+    write(0)
 }
 
 // The rows in falling order.

@@ -27,11 +27,7 @@ use Rattle.spec.specs.Search.{Member, Setting, firstFar, exchangedIn, exchanged
 use Rattle.spec.specs.Calls.{SearchOut, roomOf}
 use Rattle.spec.proofs.Shapes.{Holds}
 use Rattle.spec.proofs.Marked.{both}
-use Rattle.float.specs.declared.elimination.Answer as Found
-use Rattle.float.specs.declared.elimination.Answer.the-variants.{Regular, Singular}
-use Rattle.float.specs.declared.elimination.Inverse.{Inverse}
-use Rattle.float.specs.Reading.{corner, rowsOf, inverseOf}
-use Rattle.float.proofs.Inverses.{regular-is, singular-is}
+use Rattle.float.specs.Reading.{ifRegular}
 use Rattle.float.proofs.Parts.{parts-take}
 use Rattle.sheet.specs.declared.Verdict.the-variants as verdict
 use Rattle.ranked.specs.declared.Shape.{Shape}
@@ -189,38 +185,33 @@ module _ (c d : Concrete) (z : State) where
   unfolding from11
   solid-is i q n = wanted-yes Flat inverted _ i q ∙ judge-yes Flat (allFinite i) _ n
 
--- a regular inverse is the rows beside its answer
-regular-rows : (n : ℕ) (r : Inverse) → regular (inverseOf n r) ≡ true → (inverseOf n r ≡ some (corner n (rowsOf r))) × (allFinite (corner n (rowsOf r)) ≡ true)
-unfolding regular
-regular-rows n r e = go (r .answer) refl
-  where
-    go : (a : Found.Answer) → r .answer ≡ a → (inverseOf n r ≡ some (corner n (rowsOf r))) × (allFinite (corner n (rowsOf r)) ≡ true)
-    go Regular q = let i = regular-is n r q in (i, sym (ap regular i) ∙ e)
-    go Singular q = absurd (false≢true (sym (ap regular (singular-is n r q)) ∙ e))
+-- an inverse that passes was found, and is finite
+regular-found : (f : Bool) (m : Matrix) → regular (ifRegular f m) ≡ true → (ifRegular f m ≡ some m) × (allFinite m ≡ true)
+unfolding regular ifRegular
+regular-found true m e = (refl, e)
+regular-found false m e = absurd (false≢true e)
 
-module _ (sh : Shape) (low : ℕ) (ws : List ℕ) (fs : List Float) (rot : Bool) (old : SearchOut) (c : Concrete) (r : Inverse) (b : Bool)
-    (i : inverseOf (sh .dimension) r ≡ inverse (flagColumns (solidOn sh (take low ws) fs (sh .dimension)) (firstFlag (solidIn sh (take low ws)))))
-    (e : b ≡ regular (inverseOf (sh .dimension) r)) where
+module _ (sh : Shape) (low : ℕ) (ws : List ℕ) (fs : List Float) (rot : Bool) (old : SearchOut) (c : Concrete) (f : Bool) (m : Matrix) (b : Bool)
+    (i : ifRegular f m ≡ inverse (flagColumns (solidOn sh (take low ws) fs (sh .dimension)) (firstFlag (solidIn sh (take low ws)))))
+    (e : b ≡ regular (ifRegular f m)) where
   abbrev d : Concrete
   d = solidAt sh low ws fs
 
   abbrev z : State
   z = stateIn sh low ws
 
-  inverse-is : inverted c d z ≡ inverseOf (sh .dimension) r
+  inverse-is : inverted c d z ≡ ifRegular f m
   inverse-is = ap (λ (x : Concrete). inverse (flagColumns x (firstFlag (solidIn sh (take low ws))))) (sym (solid-on sh low ws fs)) ∙ sym i
 
   pub flat : b ≡ false → (Refused Flat 0, old) ≡ ends rot c (from11 c d z) old
   unfolding inverse-is
   flat q = stops rot c old Flat (from11 c d z) (flat-is c d z (ap regular inverse-is ∙ sym e ∙ q))
 
-  pub not-flat : b ≡ true → (inv : List (List Float)) → inv ≡ rowsOf r → (x : Answer × SearchOut) → x ≡ ends rot c (passed (settingOf c d z (corner (sh .dimension) inv))) old
-      → x ≡ ends rot c (from11 c d z) old
+  pub not-flat : b ≡ true → (x : Answer × SearchOut) → x ≡ ends rot c (passed (settingOf c d z m)) old → x ≡ ends rot c (from11 c d z) old
   unfolding inverse-is
-  not-flat q inv m x p =
-      let k = regular-rows (sh .dimension) r (sym e ∙ q) in
-      goes-on rot c old (from11 c d z) (passed (settingOf c d z (corner (sh .dimension) (rowsOf r))))
-      (solid-is c d z (corner (sh .dimension) (rowsOf r)) (inverse-is ∙ k .0) (k .1)) x (rw m at p)
+  not-flat q x p =
+      let k = regular-found f m (sym e ∙ q) in
+      goes-on rot c old (from11 c d z) (passed (settingOf c d z m)) (solid-is c d z m (inverse-is ∙ k .0) (k .1)) x p
 
 -- ---- 12 or 13, and the marks
 

@@ -9,7 +9,6 @@ use crate::marking::write_marks;
 use candidates::no_double;
 use exchange::exchange;
 use float::DIMENSION;
-use float::matrix;
 use ranked::Shape;
 use ranked::preflight::preflight;
 use settling::types_of;
@@ -33,7 +32,7 @@ ghost use Rattle.symmetry.specs.Listing.{answerOf};
 ghost use Rattle.symmetry.specs.Searching.{Parted};
 ghost use Rattle.search.specs.Reading.{callOf};
 
-// "then 12 or 13".
+// The answer once the members are listed: refusal 13 where they are too many for the outputs, 12 where there is none, and otherwise done.
 fn answer_of(l: Listing) -> Answer
     ensures { λ r. ⌜ r ≡ answerOf (l .short) (l .count) ⌝ }
 {
@@ -47,7 +46,7 @@ fn answer_of(l: Listing) -> Answer
     Answer::Done(n)
 }
 
-// The members, each with its matrix and row, and then their marks: for these the facets go back to their places.
+// What follows the judgements: the members, each with its matrix and row, and then their marks, for which the facets go back to their places.
 fn from_inverse(
     words: &mut [u32],
     low: usize,
@@ -97,7 +96,7 @@ fn from_inverse(
     answer_of(l)
 }
 
-// 11: the words hold the types of the exchanged solid.
+// From the judgement behind refusal 11 on. The words hold the exchanged solid and its types.
 fn from11(
     words: &mut [u32],
     low: usize,
@@ -119,11 +118,11 @@ fn from11(
         (stateIn sh low (now (words .entry))))
         (outOf (now (matrices .entry)) (now (rows .entry)) (now (marks .entry))) ⌝ }
 {
-    let inverse = first_inverse(&words[..low], sh, floats);
-    if !is_regular(inverse, sh.dimension) {
+    let mut found = false;
+    let inv = first_inverse(&words[..low], sh, floats, &mut found);
+    if !is_regular(found, inv, sh.dimension) {
         return Answer::Refused(Refusal::Flat, 0);
     }
-    let inv = matrix::rows(inverse);
     from_inverse(
         words,
         low,
@@ -164,7 +163,7 @@ fn from15(
     Answer::Refused(Refusal::Unsettled, 0)
 }
 
-// 10, and the exchange.
+// From the judgement behind refusal 10 on: the first facet that is far from the origin changes places with facet 0.
 fn from10(
     words: &mut [u32],
     low: usize,
@@ -192,7 +191,7 @@ fn from10(
     }
 }
 
-// 9.
+// From the judgement behind refusal 9 on: no two vertices may be within EPS of each other.
 fn from9(
     words: &mut [u32],
     low: usize,
@@ -218,7 +217,7 @@ fn from9(
     Answer::Refused(Refusal::DoubleCorner, 0)
 }
 
-// 8, of the solid that preflight left in the workspace.
+// From the judgement behind refusal 8 on, of the solid that preflight left in the workspace.
 fn from8(
     words: &mut [u32],
     low: usize,

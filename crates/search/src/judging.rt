@@ -3,8 +3,7 @@ use candidates::all_finite;
 use candidates::columns;
 use distances::element_distance;
 use flag::Flag;
-use float::elimination::Answer;
-use float::elimination::Inverse;
+use float::DIMENSION;
 use float::matrix;
 use float::tolerance::Tolerance;
 use ranked::Shape;
@@ -19,18 +18,18 @@ ghost use Rattle.spec.specs.Matrix.{inverse};
 ghost use Rattle.spec.specs.Solid.{diamond};
 ghost use Rattle.spec.specs.Flags.{firstFlag};
 ghost use Rattle.spec.specs.Search.{firstFar, flagColumns};
-ghost use Rattle.float.specs.Reading.{inverseOf};
+ghost use Rattle.float.specs.Reading.{corner, ifRegular};
 ghost use Rattle.ranked.specs.Words.{sizeAt, solidIn, Held};
 ghost use Rattle.distances.specs.Solids.{solidOn, coordinates};
 ghost use Rattle.search.specs.Reading.{farOf, regular};
 
-// A facet that is further than EPS from the origin, if there is one.
+// The first facet that is further than EPS from the origin, or that there is none.
 pub enum Far {
     Facet(usize),
     Nothing,
 }
 
-// Not 8: "search with R < 2 or D ≠ R−1".
+// Whether refusal 8, "search with R < 2 or D ≠ R−1", does not apply.
 pub fn is_full(sh: Shape) -> bool
     ensures { λ r. ⌜ r ≡ leb 2 (sh .rank) && eqb (sh .dimension) (sh .rank - 1) ⌝ }
 {
@@ -60,28 +59,32 @@ pub fn first_far(w: &[u32], sh: Shape, points: &[f64]) -> Far
     Far::Nothing
 }
 
-// The inverse of the first flag's columns, or that there is none.
-pub fn first_inverse(w: &[u32], sh: Shape, points: &[f64]) -> Inverse
+// The inverse of the first flag's columns; `found` says whether there is one.
+pub fn first_inverse(
+    w: &[u32],
+    sh: Shape,
+    points: &[f64],
+    found: &mut bool,
+) -> [[f64; DIMENSION]; DIMENSION]
     requires { ⌜ Held sh (now w) ⌝ }
     requires { ⌜ diamond (solidIn sh (now w)) ≡ true ⌝ }
     requires { ⌜ 2 ≤ sh .rank ⌝ }
     requires { ⌜ coordinates sh (now w) ≤ length (now points) ⌝ }
-    ensures { λ r. ⌜ inverseOf (sh .dimension) r
+    ensures { λ r. ⌜ ifRegular (now (found .exit)) (corner (sh .dimension) r)
         ≡ inverse (flagColumns (solidOn sh (now (w .entry)) (now (points .entry)) (sh .dimension)) (firstFlag (solidIn sh (now (w .entry))))) ⌝ }
 {
     let d = sh.dimension;
     let first = Flag::first(w, sh);
-    matrix::inverse(columns(w, sh, points, first), d)
+    matrix::inverse(columns(w, sh, points, first), d, found)
 }
 
-// Not 11: "first columns singular, or a non-finite inverse".
-pub fn is_regular(r: Inverse, d: usize) -> bool
+// Whether refusal 11, "first columns singular, or a non-finite inverse", does not apply.
+pub fn is_regular(found: bool, inverse: [[f64; DIMENSION]; DIMENSION], d: usize) -> bool
     requires { ⌜ d ≤ maxDimension ⌝ }
-    ensures { λ b. ⌜ b ≡ regular (inverseOf d r) ⌝ }
+    ensures { λ b. ⌜ b ≡ regular (ifRegular found (corner d inverse)) ⌝ }
 {
-    let answer = r.answer;
-    match answer {
-        Answer::Singular => false,
-        Answer::Regular => all_finite(matrix::rows(r), d),
+    if found {
+        return all_finite(inverse, d);
     }
+    false
 }

@@ -1,8 +1,14 @@
 -- The product of what the two callees give.
 -- Assumes nothing.
 use mathlib.Core.Path.{_≡_, ap, _∙_}
+use native.Mathlib.Omega.{arith}
+use lib.ListN.{length}
+use borrow.Author.Needs.{needs}
+use Rattle.spec.specs.Limits.{maxDimension}
 use Rattle.spec.specs.Matrix.{Matrix, mulMat}
 use Rattle.float.specs.Reading.{corner}
+use Rattle.float.proofs.Corner.{length-corner}
+use Rattle.float.proofs.Padded.{corner-product}
 use Rattle.candidates.proofs.candidate.Statement.{statement}
 use Rattle.candidates.proofs.candidate.Tie as tie
 
@@ -13,4 +19,9 @@ candidate-spec =
     (λ c κs. c .before .before .pre)
     (λ c κs. c .before .before .before .pre .0 .wide)
     (λ c. let a = c .before .before .before .before .args in
-    c .product .ensures ∙ ap (λ (m : Matrix). mulMat m (corner (a .sh .dimension) (a .inv))) (c .before .columns .ensures)))
+    let d = a .sh .dimension in
+    let wide = c .before .before .before .before .pre .0 .wide in
+    let long : length (c .before .columns .result) ≡ maxDimension = search needs in
+    let long₂ : length (a .inv) ≡ maxDimension = search needs in
+    corner-product d (corner d (c .before .columns .result)) (length-corner d (c .before .columns .result) (omega arith)) (corner d (a .inv)) _ (length-corner d (a .inv) (omega arith)) (c .product .ensures)
+    ∙ ap (λ (m : Matrix). mulMat m (corner (a .sh .dimension) (a .inv))) (c .before .columns .ensures)))

@@ -6,6 +6,9 @@ use mathlib.Core.Path.{_≡_}
 use Prim.Native.Nat.{_-_}
 use lib.ListN.{replicate}
 use lib.Ieee.{binary64, ofBits}
+use Rattle.float.specs.Reading.{corner}
+use Rattle.float.proofs.Corner.{length-corner}
+use Rattle.float.proofs.Padded.{corner-columns}
 use Rattle.flag.specs.Reading.{flagIn}
 use Rattle.candidates.proofs.Rounds.{Walking, vertex-in, walk-first, walk-next, columns-are}
 use Rattle.candidates.proofs.columns.Statement.{statement}
@@ -43,4 +46,5 @@ columns-spec =
     -- from-columns-requires, returns
     (λ c κs. c .before .before .before .before .before .before .pre .0 .wide)
     (λ c. let l = c .before .before .loop in let s = c .before .before .before .before .before .before .before in let a = s .args in
-    columns-are (a .sh) (a .w .now) (a .points .now) (s .pre .0) (s .pre .1 .1 .1 .0) (s .pre .1 .1 .1 .1) _ _ _ (l .rows) (c .from-columns .result) (l .i) (l .inv) (c .before .loop-test .left) (c .from-columns .ensures)))
+    columns-are (a .sh) (a .w .now) (a .points .now) (s .pre .0) (s .pre .1 .1 .1 .0) (s .pre .1 .1 .1 .1) _ _ _ (l .rows) (c .from-columns .result) (l .i) (l .inv) (c .before .loop-test .left)
+    (corner-columns (a .sh .dimension) (corner (a .sh .dimension) (l .rows)) (length-corner (a .sh .dimension) (l .rows) (omega (arith, l .inv .written .long, s .pre .0 .wide))) _ (c .from-columns .ensures))))

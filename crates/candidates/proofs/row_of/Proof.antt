@@ -6,10 +6,13 @@ use mathlib.Core.Path.{_≡_, refl, sym, ap, _∙_}
 use mathlib.Core.List.{[]}
 use Prim.Native.Nat.{_-_}
 use lib.ListN.{length, getD}
+use Rattle.spec.specs.Limits.{maxDimension}
 use Rattle.spec.specs.Matrix.{Vector, mulVec}
 use Rattle.spec.specs.Copying.{find, parts}
 use Rattle.float.specs.Reading.{corner}
 use Rattle.float.specs.Finding.{foundAt}
+use Rattle.float.proofs.Corner.{length-corner}
+use Rattle.float.proofs.Padded.{take-image}
 use Rattle.float.proofs.Parts.{length-parts, part-at, part-end}
 use Rattle.candidates.proofs.Rows.{Rowing, row-none, at-low, row-next, row-not, row-end}
 use Rattle.candidates.proofs.row_of.Statement.{statement}
@@ -26,9 +29,11 @@ image-is : (c : tie.After-found Inv μ) → let a = c .before .before .before .b
     c .found .result ≡ foundAt (a .n) (find (parts (a .n) (a .d) (a .points .now)) (mulVec (corner (a .d) (a .m)) (getD (parts (a .n) (a .d) (a .points .now)) (c .before .before .before .before .loop .k) [])))
 image-is c =
     let a = c .before .before .before .before .before .before .before .args in
+    let wide = c .before .before .before .before .before .before .before .pre .0 .1 in
+    let long : length (a .m) ≡ maxDimension = search needs in
     c .found .ensures
     ∙ ap (λ (p : Vector). foundAt (a .n) (find (parts (a .n) (a .d) (a .points .now)) p))
-    (c .before .image .ensures ∙ ap (mulVec (corner (a .d) (a .m))) (c .before .before .loaded .ensures ∙ sym (part-at (a .n) (a .d) (a .points .now) (c .before .before .before .before .loop .k) (c .before .before .before .loop-test .taken))))
+    (take-image (a .d) (corner (a .d) (a .m)) (length-corner (a .d) (a .m) (omega arith)) _ _ (c .before .image .ensures) ∙ ap (mulVec (corner (a .d) (a .m))) (c .before .before .loaded .ensures ∙ sym (part-at (a .n) (a .d) (a .points .now) (c .before .before .before .before .loop .k) (c .before .before .before .loop-test .taken))))
 
 returns : tie.Need-returns Inv μ
 returns c =

@@ -20,9 +20,6 @@ start-requires c κs = search needs
 inverse-requires : tie.Need-inverse-requires Inv-loop μ-loop
 inverse-requires c κs = search needs
 
-rows-requires : tie.Need-rows-requires Inv-loop μ-loop
-rows-requires c κs = search needs
-
 index-1-x : tie.Need-index-1-x Inv-loop μ-loop
 index-1-x c = search needs
 
@@ -50,7 +47,6 @@ repeat-inverse-spec =
     loop-holds
     start-requires
     inverse-requires
-    rows-requires
     index-1-x
     index-2-x
     sub-left

@@ -9,6 +9,8 @@ use lib.ListN.{length, getD, take}
 use borrow.Author.Needs.{needs}
 use Rattle.spec.specs.Matrix.{Matrix, Vector, mulVec}
 use Rattle.spec.specs.Copying.{spread, parts, matrices}
+use Rattle.float.proofs.Parts.{length-parts}
+use Rattle.float.proofs.Padded.{take-image}
 use Rattle.copying.proofs.Growth.{Grown, grown-first, grown-next, grown-full, grown-end, Done, done-first, done-next, done-longer, done-end, spread-nothing, spread-turn, matrix-is, length-matrices, image-longer}
 use Rattle.spec.proofs.CopyLaws.{spread-adds}
 use Rattle.copying.specs.Post.{Kept, withImage}
@@ -60,7 +62,7 @@ kept c =
     let a = c .before .before .before .before .before .before .before .before .args in
     let l = c .before .before .before .before .before .loop in
     let e : take (a .d) (c .before .before .image .result) ≡ mulVec (getD (matrices (a .d) (a .turns .now)) (l .j) []) (take (a .d) (a .p)) =
-    c .before .before .image .ensures
+    take-image (a .d) _ (ap length (c .before .before .before .matrix-at .ensures) ∙ length-parts (a .d) (a .d) _) _ _ (c .before .before .image .ensures)
     ∙ ap (λ (m : Matrix). mulVec m (take (a .d) (a .p))) (c .before .before .before .matrix-at .ensures ∙ sym (matrix-is (a .d) (a .turns .now) (l .j) (c .before .before .before .before .loop-test .taken))) in
     rw e at (c .add .ensures)
 

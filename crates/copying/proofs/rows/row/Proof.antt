@@ -6,11 +6,14 @@ use Prim.Native.Nat.{ℕ, _≤_, _<_, _-_}
 use native.Mathlib.Omega.{arith}
 use lib.ListN.{length, getD, length-set}
 use borrow.Author.Needs.{needs}
+use Rattle.spec.specs.Limits.{maxDimension}
 use Rattle.spec.specs.Matrix.{Vector, mulVec}
 use Rattle.spec.specs.Copying.{find, parts, copyRow}
 use Rattle.spec.proofs.CopyLaws.{not-found}
 use Rattle.float.specs.Reading.{corner}
 use Rattle.float.specs.Finding.{foundAt}
+use Rattle.float.proofs.Corner.{length-corner}
+use Rattle.float.proofs.Padded.{take-image}
 use Rattle.float.proofs.Parts.{length-parts, part-at, part-end}
 use Rattle.float.proofs.Finding.{at-number, is-missing}
 use Rattle.copying.proofs.Tables.{Filled, Piece, filled-none, filled-next, filled-open, filled-end, cell, cell-set, cell-is, length-row, one-held, one-other}
@@ -47,11 +50,14 @@ image-is c =
     let a = c .before .before .before .before .before .before .before .args in
     let l = c .before .before .before .before .loop in
     let cs = parts (a .n) (a .d) (a .copies .now) in
+    let m = corner (a .d) (a .m) in
+    let wide = c .before .before .before .before .before .before .before .pre .0 .1 in
+    let long : length (a .m) ≡ maxDimension = search needs in
     sym
     (c .found .ensures
     ∙ ap
     (λ (q : Vector). foundAt (a .n) (find cs q))
-    (c .before .image .ensures ∙ ap (mulVec (corner (a .d) (a .m))) (c .before .before .loaded .ensures ∙ sym (part-at (a .n) (a .d) (a .copies .now) (l .k) (c .before .before .before .loop-test .taken)))))
+    (take-image (a .d) m (length-corner (a .d) (a .m) (omega arith)) _ _ (c .before .image .ensures) ∙ ap (mulVec m) (c .before .before .loaded .ensures ∙ sym (part-at (a .n) (a .d) (a .copies .now) (l .k) (c .before .before .before .loop-test .taken)))))
 
 -- and is the row's cell k
 piece : (c : tie.After-found Inv-loop μ-loop) → (x : ℕ) → x ≡ imageOf c → Piece (whole c) (c .before .before .before .before .loop .k) 1 (x ∷ [])

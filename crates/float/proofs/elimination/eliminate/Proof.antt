@@ -1,6 +1,7 @@
 -- The loop's invariant: what is left to eliminate gives what the whole elimination gives. The measure is what is left of d.
 -- Assumes nothing.
-use mathlib.Core.Path.{_≡_, sym, _∙_}
+use mathlib.Core.Path.{_≡_, sym, ap, _∙_}
+use mathlib.Core.Option.{some}
 use Prim.Native.Nat.{_+_, _≤_, _-_}
 use native.Mathlib.Omega.{arith}
 use lib.ListN.{length}
@@ -8,18 +9,17 @@ use lib.Ieee.{ofBits}
 use borrow.Author.Needs.{needs}
 use Rattle.spec.specs.Float.{zeroF, oneF}
 use Rattle.spec.specs.Matrix.{entry}
-use Rattle.float.specs.Reading.{leading}
+use Rattle.float.specs.Reading.{leading, paddedRows, ifRegular, inverseCells}
 use Rattle.float.proofs.Leading.{entry-leading}
-use Rattle.float.proofs.Inverses.{singular-is}
 use Rattle.float.proofs.Columns.{Run, first, stop, next, inverse-none, determinant-none, inverse-end, determinant-end}
 use Rattle.float.proofs.elimination.eliminate.Statement.{statement}
 use Rattle.float.proofs.elimination.eliminate.Tie as tie
 
 abbrev Inv-loop : tie.InvT-loop
-Inv-loop d w₀ t₀ odd₀ c₀ w t odd c = (c ≤ d) × Run d (leading d (d + d) w₀) (leading d (d + d) w) t odd c
+Inv-loop d regular₀ product₀ w₀ t₀ odd₀ c₀ regular product w t odd c = (c ≤ d) × Run d (leading d (d + d) w₀) (leading d (d + d) w) t odd c
 
 abbrev μ-loop : tie.MeasureT-loop
-μ-loop d w₀ t₀ odd₀ c₀ w t odd c = d - c
+μ-loop d regular₀ product₀ w₀ t₀ odd₀ c₀ regular product w t odd c = d - c
 
 loop-holds : tie.Need-loop-holds Inv-loop μ-loop
 unfolding ofBits oneF
@@ -40,16 +40,15 @@ pivot-is c =
     ∙ sym (entry-leading d (d + d) (l .loop .w) (c .before .pivot-row .result) (l .loop .c) (c .before .pivot-row .ensures .1) (omega arith))
 
 returns : tie.Need-returns Inv-loop μ-loop
-unfolding ofBits zeroF
+unfolding ofBits zeroF paddedRows ifRegular inverseCells
 returns c =
-    let e = c .before .before in
+    let e = c .before in
     let l = e .before .before .before in
     let s = l .before .before in
     let h = e .before .before .loop-test .taken in
-    let z = stop (l .loop .inv .1) h _ _ (e .before .pivot-row .ensures .0) (pivot-is e) (c .before .if1 .taken) in (
-      singular-is _ _ (c .singular .ensures .0) ∙ inverse-none (s .args .d) (s .args .m) (long s) _ (l .before .beside-identity .ensures) z,
-      c .singular .ensures .1 ∙ determinant-none (s .args .d) (s .args .m) (long s) _ (l .before .beside-identity .ensures) z,
-    )
+    let z = stop (l .loop .inv .1) h _ _ (e .before .pivot-row .ensures .0) (pivot-is e) (c .if1 .taken) in
+    let i = inverse-none (s .args .d) (s .args .m) (long s) _ (l .before .beside-identity .ensures) z in
+    (i, ap inverseCells i, determinant-none (s .args .d) (s .args .m) (long s) _ (l .before .beside-identity .ensures) z)
 
 loop-again : tie.Need-loop-again Inv-loop μ-loop
 unfolding ofBits zeroF
@@ -76,12 +75,16 @@ loop-again c =
     )
 
 returns-2 : tie.Need-returns-2 Inv-loop μ-loop
+unfolding ifRegular inverseCells
 returns-2 c =
-    let l = c .before .before in
+    let g = c .before in
+    let l = g .before .before in
     let s = l .before .before in
-    let k = c .before .loop-test .left in (
-      c .regular .ensures .0 ∙ inverse-end (s .args .d) (s .args .m) (long s) _ (l .before .beside-identity .ensures) k (l .loop .inv .1),
-      c .regular .ensures .1 ∙ determinant-end (s .args .d) (s .args .m) (long s) _ (l .before .beside-identity .ensures) k (l .loop .inv .1),
+    let k = g .before .loop-test .left in
+    let i = inverse-end (s .args .d) (s .args .m) (long s) _ (l .before .beside-identity .ensures) k (l .loop .inv .1) in (
+      ap some (c .right-halves .ensures .1) ∙ i,
+      c .right-halves .ensures .0 ∙ ap inverseCells i,
+      g .signed .ensures ∙ determinant-end (s .args .d) (s .args .m) (long s) _ (l .before .beside-identity .ensures) k (l .loop .inv .1),
     )
 
 pub eliminate-spec : {M : Type 1} → statement M
@@ -94,7 +97,6 @@ eliminate-spec =
     loop-holds
     (λ c κs. search needs)
     (λ c κs. search needs)
-    (λ c κs. search needs)
     returns
     (λ c κs. search needs)
     (λ c κs. search needs)
@@ -102,5 +104,6 @@ eliminate-spec =
     (λ c. search needs)
     (λ c. search needs)
     loop-again
+    (λ c κs. search needs)
     (λ c κs. search needs)
     returns-2)

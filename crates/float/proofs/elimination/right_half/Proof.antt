@@ -1,16 +1,18 @@
 -- The loop's invariant: the cells below j hold those from d on. The measure is what is left of d.
 -- Assumes nothing.
-use mathlib.Core.Path.{_≡_, sym, _∙_}
+use mathlib.Core.Path.{_≡_, sym, ap, _∙_}
 use mathlib.Core.List.{map-id}
 use Prim.Native.Nat.{_≤_, _-_}
 use native.Mathlib.Omega.{arith}
 use lib.ListN.{getD, take, drop, length, length-drop}
 use lib.Seq.{getD-drop}
-use lib.Ieee.{nan}
+use lib.Ieee.{nan, ofBits}
 use borrow.Author.Needs.{needs}
-use Rattle.float.specs.Reading.{width}
-use Rattle.float.proofs.Written.{Written, none, next, end-plain, table-map}
+use Rattle.spec.specs.Float.{zeroF}
+use Rattle.float.specs.Reading.{width, padded}
+use Rattle.float.proofs.Written.{Written, none, next, table-map}
 use Rattle.float.proofs.Beside.{drop-take}
+use Rattle.float.proofs.Padded.{padded-table}
 use Rattle.float.proofs.elimination.right_half.Statement.{statement}
 use Rattle.float.proofs.elimination.right_half.Tie as tie
 
@@ -27,14 +29,16 @@ loop-again c =
     (search needs, next _ (omega arith) (sym (getD-drop (a .d) (a .t1) (l .j) nan)) (l .inv .1))
 
 returns : tie.Need-returns Inv-loop μ-loop
+unfolding ofBits zeroF
 returns c =
     let a = c .before .before .args in
     let v = drop (a .d) (a .t1) in
     let k : length (a .t1) ≡ width = search needs in
-    end-plain (a .d) (c .before .loop .inv .0) (c .loop-test .left) (c .before .loop .inv .1)
-    ∙ table-map (λ x. x) nan v (a .d) (omega (arith, length-drop (a .d) (a .t1)))
+    padded-table _ _ _ (a .d) (c .before .loop .inv .0) (c .loop-test .left) (c .before .loop .inv .1)
+    ∙ ap padded
+    (table-map (λ x. x) nan v (a .d) (omega (arith, length-drop (a .d) (a .t1)))
     ∙ map-id (take (a .d) v)
-    ∙ sym (drop-take (a .d) (a .d) (a .t1) (omega arith))
+    ∙ sym (drop-take (a .d) (a .d) (a .t1) (omega arith)))
 
 pub right-half-spec : {M : Type 1} → statement M
 right-half-spec =

@@ -1,25 +1,31 @@
 -- The loop's invariant: the rows below i hold the right halves. The measure is what is left of d.
 -- Assumes nothing.
-use mathlib.Core.Path.{_≡_, _∙_}
+use mathlib.Core.Path.{_≡_, ap, _∙_}
 use mathlib.Core.List.{List}
-use Prim.Native.Nat.{ℕ, _+_, _≤_, _-_}
+use Prim.Native.Nat.{ℕ, _+_, _≤_, _<_, _-_}
 use native.Mathlib.Omega.{arith}
 use lib.ListN.{take, drop, length}
-use lib.Ieee.{Float}
+use lib.Ieee.{Float, binary64, ofBits}
+use denote.Floats.{FloatOf}
 use borrow.Author.Needs.{needs}
 use Rattle.spec.specs.Limits.{maxDimension}
+use Rattle.spec.specs.Float.{zeroF}
 use Rattle.spec.specs.Matrix.{row}
-use Rattle.float.specs.declared.elimination.Row.{Row}
-use Rattle.float.proofs.Written.{Written, none, next, end}
+use Rattle.float.specs.Reading.{width, padded, paddedRows}
+use Rattle.float.proofs.Written.{Written, none, next}
+use Rattle.float.proofs.Sized.{wide}
 use Rattle.float.proofs.Corner.{over-leading}
+use Rattle.float.proofs.Beside.{half-long}
+use Rattle.float.proofs.Padded.{corner-padded, square-table, padded-rows-table}
 use Rattle.float.proofs.elimination.right_halves.Statement.{statement}
 use Rattle.float.proofs.elimination.right_halves.Tie as tie
 
-abbrev first : ℕ → Row → List Float
-first d x = take d (x .entries)
+-- row k's right half
+abbrev half : List (List Float) → ℕ → ℕ → List Float
+half w d k = drop d (take (d + d) (row w k))
 
 abbrev Inv-loop : tie.InvT-loop
-Inv-loop d w r₀ i₀ r i = (i ≤ d) × Written (first d) (λ k. drop d (take (d + d) (row w k))) r₀ r i
+Inv-loop d w r₀ i₀ r i = (i ≤ d) × Written (λ x. x) (λ k. padded (half w d k)) r₀ r i
 
 abbrev μ-loop : tie.MeasureT-loop
 μ-loop d w r₀ i₀ r i = d - i
@@ -28,11 +34,17 @@ loop-again : tie.Need-loop-again Inv-loop μ-loop
 loop-again c = (search needs, next _ (omega arith) (c .right-half .ensures) (c .before .before .before .loop .inv .1))
 
 returns : tie.Need-returns Inv-loop μ-loop
+unfolding ofBits zeroF
 returns c =
-    let a = c .before .before .args in
-    let k : length (a .t1) ≡ maxDimension = search needs in
-    end (a .d) (c .before .loop .inv .0) (c .loop-test .left) (c .before .loop .inv .1)
-    ∙ over-leading (drop (a .d)) (a .d) (a .d + a .d) (a .t1) (omega arith)
+    let s = c .before .before in
+    let w = s .args .t1 in
+    let d = s .args .d in
+    let k : length w ≡ maxDimension = search needs in
+    let long : (i : ℕ) → i < d → length (half w d i) ≡ d =
+    λ i h. half-long d (row w i) (omega (arith, wide (FloatOf binary64) width maxDimension w _ i (s .good .0) (omega arith))) in
+    let e = over-leading (drop d) d (d + d) w (omega arith) in
+    let z = padded-rows-table (half w d) _ _ d (c .before .loop .inv .0) (c .loop-test .left) (c .before .loop .inv .1) in
+    (z ∙ ap paddedRows e, corner-padded d _ _ (square-table (half w d) d long) z ∙ e)
 
 pub right-halves-spec : {M : Type 1} → statement M
 right-halves-spec =

@@ -1,18 +1,20 @@
 -- The loop's invariant: the cells below i hold the rows' entries at j. The measure is what is left of d.
 -- Assumes nothing.
-use mathlib.Core.Path.{_≡_, sym, _∙_}
+use mathlib.Core.Path.{_≡_, sym, ap, _∙_}
 use mathlib.Core.List.{[]}
 use Prim.Native.Nat.{_≤_, _-_}
 use native.Mathlib.Omega.{arith}
 use lib.ListN.{getD, take, length}
 use lib.Seq.{getD-take}
-use lib.Ieee.{nan, binary64}
+use lib.Ieee.{nan, binary64, ofBits}
 use denote.Floats.{FloatOf}
 use borrow.Author.Needs.{needs}
 use Rattle.spec.specs.Limits.{maxDimension}
 use Rattle.spec.specs.Float.{zeroF}
-use Rattle.float.proofs.Written.{Written, none, next, end-plain}
+use Rattle.float.specs.Reading.{padded}
+use Rattle.float.proofs.Written.{Written, none, next}
 use Rattle.float.proofs.Corner.{over-corner}
+use Rattle.float.proofs.Padded.{padded-table}
 use Rattle.float.proofs.Sized.{wide, getD-any}
 use Rattle.float.proofs.matrix.column_of.Statement.{statement}
 use Rattle.float.proofs.matrix.column_of.Tie as tie
@@ -34,13 +36,14 @@ loop-again c =
     (search needs, next _ (omega arith) e (l .inv .1))
 
 returns : tie.Need-returns Inv-loop μ-loop
+unfolding ofBits zeroF
 returns c =
     let s = c .before .before in
     let m = s .args .t1 in
     let d = s .args .d in
     let h : length m ≡ maxDimension = search needs in
-    end-plain d (c .before .loop .inv .0) (c .loop-test .left) (c .before .loop .inv .1)
-    ∙ over-corner (λ x. getD x (s .args .j) zeroF) d m (omega arith)
+    padded-table _ _ _ d (c .before .loop .inv .0) (c .loop-test .left) (c .before .loop .inv .1)
+    ∙ ap padded (over-corner (λ x. getD x (s .args .j) zeroF) d m (omega arith))
 
 pub column-of-spec : {M : Type 1} → statement M
 column-of-spec =

@@ -1,15 +1,18 @@
 -- The loop's invariant: the cells below i hold the rows' dots. The measure is what is left of d.
 -- Assumes nothing.
-use mathlib.Core.Path.{_≡_, _∙_}
+use mathlib.Core.Path.{_≡_, ap, _∙_}
 use mathlib.Core.List.{[]}
 use Prim.Native.Nat.{_≤_, _-_}
 use native.Mathlib.Omega.{arith}
 use lib.ListN.{getD, take, length}
+use lib.Ieee.{ofBits}
 use borrow.Author.Needs.{needs}
 use Rattle.spec.specs.Limits.{maxDimension}
-use Rattle.spec.specs.Float.{dot}
-use Rattle.float.proofs.Written.{Written, none, next, end-plain}
+use Rattle.spec.specs.Float.{zeroF, dot}
+use Rattle.float.specs.Reading.{padded}
+use Rattle.float.proofs.Written.{Written, none, next}
 use Rattle.float.proofs.Corner.{over-corner}
+use Rattle.float.proofs.Padded.{padded-table}
 use Rattle.float.proofs.matrix.dots.Statement.{statement}
 use Rattle.float.proofs.matrix.dots.Tie as tie
 
@@ -25,13 +28,14 @@ loop-again c =
     (search needs, next _ (omega arith) (c .dot-of .ensures) (s .loop .inv .1))
 
 returns : tie.Need-returns Inv-loop μ-loop
+unfolding ofBits zeroF
 returns c =
     let s = c .before .before in
     let m = s .args .t2 in
     let d = s .args .d in
     let h : length m ≡ maxDimension = search needs in
-    end-plain d (c .before .loop .inv .0) (c .loop-test .left) (c .before .loop .inv .1)
-    ∙ over-corner (dot (take d (s .args .v))) d m (omega arith)
+    padded-table _ _ _ d (c .before .loop .inv .0) (c .loop-test .left) (c .before .loop .inv .1)
+    ∙ ap padded (over-corner (dot (take d (s .args .v))) d m (omega arith))
 
 pub dots-spec : {M : Type 1} → statement M
 dots-spec =

@@ -1,21 +1,23 @@
 -- The loop's invariant: the rows below i hold the columns. The measure is what is left of d.
 -- Assumes nothing.
-use mathlib.Core.Path.{_≡_, _∙_}
+use mathlib.Core.Path.{_≡_, ap, _∙_}
 use mathlib.Core.List.{map}
 use Prim.Native.Nat.{_≤_, _-_}
 use native.Mathlib.Omega.{arith}
-use lib.ListN.{getD, take, length}
+use lib.ListN.{getD, length}
+use lib.Ieee.{ofBits}
 use borrow.Author.Needs.{needs}
 use Rattle.spec.specs.Limits.{maxDimension}
 use Rattle.spec.specs.Float.{zeroF}
-use Rattle.float.specs.Reading.{corner}
-use Rattle.float.proofs.Written.{Written, none, next, end}
+use Rattle.float.specs.Reading.{corner, padded, paddedRows}
+use Rattle.float.proofs.Written.{Written, none, next}
 use Rattle.float.proofs.Corner.{columns-corner}
+use Rattle.float.proofs.Padded.{padded-rows-table}
 use Rattle.float.proofs.matrix.from_columns.Statement.{statement}
 use Rattle.float.proofs.matrix.from_columns.Tie as tie
 
 abbrev Inv-loop : tie.InvT-loop
-Inv-loop c d r₀ i₀ r i = (i ≤ d) × Written (take d) (λ j. map (λ row. getD row j zeroF) (corner d c)) r₀ r i
+Inv-loop c d r₀ i₀ r i = (i ≤ d) × Written (λ x. x) (λ j. padded (map (λ row. getD row j zeroF) (corner d c))) r₀ r i
 
 abbrev μ-loop : tie.MeasureT-loop
 μ-loop c d r₀ i₀ r i = d - i
@@ -24,12 +26,12 @@ loop-again : tie.Need-loop-again Inv-loop μ-loop
 loop-again c = (search needs, next _ (omega arith) (c .column-of .ensures) (c .before .before .loop .inv .1))
 
 returns : tie.Need-returns Inv-loop μ-loop
-unfolding corner
+unfolding ofBits zeroF
 returns c =
     let s = c .before .before in
     let h : length (s .args .c) ≡ maxDimension = search needs in
-    end (s .args .d) (c .before .loop .inv .0) (c .loop-test .left) (c .before .loop .inv .1)
-    ∙ columns-corner (s .args .d) (s .args .c) (omega arith)
+    padded-rows-table _ _ _ (s .args .d) (c .before .loop .inv .0) (c .loop-test .left) (c .before .loop .inv .1)
+    ∙ ap paddedRows (columns-corner (s .args .d) (s .args .c) (omega arith))
 
 pub from-columns-spec : {M : Type 1} → statement M
 from-columns-spec =

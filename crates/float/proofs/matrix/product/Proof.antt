@@ -1,22 +1,24 @@
 -- The loop's invariant: the rows below i hold the product's. The measure is what is left of d.
 -- Assumes nothing.
-use mathlib.Core.Path.{_≡_, _∙_}
+use mathlib.Core.Path.{_≡_, ap, _∙_}
 use mathlib.Core.List.{[], map}
 use Prim.Native.Nat.{_≤_, _-_}
 use native.Mathlib.Omega.{arith}
 use lib.ListN.{getD, take, length}
+use lib.Ieee.{ofBits}
 use borrow.Author.Needs.{needs}
 use Rattle.spec.specs.Limits.{maxDimension}
-use Rattle.spec.specs.Float.{dot}
+use Rattle.spec.specs.Float.{zeroF, dot}
 use Rattle.spec.specs.Matrix.{mulMat}
-use Rattle.float.specs.Reading.{corner}
-use Rattle.float.proofs.Written.{Written, none, next, end}
-use Rattle.float.proofs.Corner.{over-corner}
+use Rattle.float.specs.Reading.{corner, padded, paddedRows}
+use Rattle.float.proofs.Written.{Written, none, next}
+use Rattle.float.proofs.Corner.{length-corner, over-corner}
+use Rattle.float.proofs.Padded.{padded-rows-table, corner-columns}
 use Rattle.float.proofs.matrix.product.Statement.{statement}
 use Rattle.float.proofs.matrix.product.Tie as tie
 
 abbrev Inv-loop : tie.InvT-loop
-Inv-loop d a t r₀ i₀ r i = (i ≤ d) × Written (take d) (λ k. map (dot (take d (getD a k []))) (corner d t)) r₀ r i
+Inv-loop d a t r₀ i₀ r i = (i ≤ d) × Written (λ x. x) (λ k. padded (map (dot (take d (getD a k []))) (corner d t))) r₀ r i
 
 abbrev μ-loop : tie.MeasureT-loop
 μ-loop d a t r₀ i₀ r i = d - i
@@ -25,14 +27,18 @@ loop-again : tie.Need-loop-again Inv-loop μ-loop
 loop-again c = (search needs, next _ (omega arith) (c .dots .ensures) (c .before .before .before .loop .inv .1))
 
 returns : tie.Need-returns Inv-loop μ-loop
-unfolding corner mulMat
+unfolding mulMat ofBits zeroF
 returns c =
     let s = c .before .before in
     let a = s .before .args .t1 in
+    let b = s .before .args .b in
+    let d = s .before .args .d in
     let h : length a ≡ maxDimension = search needs in
-    end (s .before .args .d) (c .before .loop .inv .0) (c .loop-test .left) (c .before .loop .inv .1)
-    ∙ over-corner (λ x. map (dot x) (corner (s .before .args .d) (s .from-columns .result))) (s .before .args .d) a (omega arith)
-    ∙ rw (s .from-columns .ensures)
+    let k : length b ≡ maxDimension = search needs in
+    padded-rows-table _ _ _ d (c .before .loop .inv .0) (c .loop-test .left) (c .before .loop .inv .1)
+    ∙ ap paddedRows
+    (over-corner (λ x. map (dot x) (corner d (s .from-columns .result))) d a (omega arith)
+    ∙ rw (corner-columns d (corner d b) (length-corner d b (omega arith)) (s .from-columns .result) (s .from-columns .ensures)))
 
 pub product-spec : {M : Type 1} → statement M
 product-spec =

@@ -1,4 +1,4 @@
--- 11, and what is after it.
+-- By the judgement behind refusal 11, and what follows it.
 -- Assumes nothing.
 use borrow.Author.Needs.{needs}
 use borrow.Author.Tests.{not-true, not-false}
@@ -12,7 +12,7 @@ use Rattle.search.proofs.driver.from11.Statement.{statement}
 use Rattle.search.proofs.driver.from11.Tie as tie
 
 entry : (c : tie.After-first-inverse) → tie.Start
-entry c = c .before .before .before .before .before .before .before .before
+entry c = c .before .before .before .before .before .before .before .before .before
 
 pub from11-spec : {M : Type 1} → statement M
 unfolding entry
@@ -22,7 +22,7 @@ from11-spec =
     -- slice-reshare-prefix-first-inverse, slice-aggregate-first-inverse, first-inverse-requires, is-regular-requires
     (λ c. let s = c .before .before .before .before .before in omega (arith, s .pre .0 .words-in))
     (λ c. let s = c .before .before .before .before .before .before in sym (length-take-le (s .args .low) (s .args .words .now) (s .pre .0 .words-in)))
-    (λ c κs. let s = c .before .before .before .before .before .before .before in (s .pre .0 .held, (s .pre .0 .diamonds, (s .pre .1 .0 .0, points-in (s .pre .0)))))
+    (λ c κs. let s = c .before .before .before .before .before .before .before .before in (s .pre .0 .held, (s .pre .0 .diamonds, (s .pre .1 .0 .0, points-in (s .pre .0)))))
     (λ c κs. entry c .pre .0 .held .wide)
     -- same-length, same-length-2, returns
     (λ c. search needs)
@@ -30,10 +30,9 @@ from11-spec =
     (λ c. let r = c .before in
     let i = r .before in
     let a = entry i .args in
-    flat (a .sh) (a .low) (a .words .now) (a .floats .now) (a .rotations) (outOf (a .matrices .now) (a .rows .now) (a .marks .now)) _ _ _ (i .first-inverse .ensures) (r .is-regular .ensures) (not-true _ (c .if1 .taken)))
-    -- rows-requires, from-inverse-requires
-    (λ c κs. search needs)
-    (λ c κs. entry (c .before .before .before .before .before .before .before .before) .pre)
+    flat (a .sh) (a .low) (a .words .now) (a .floats .now) (a .rotations) (outOf (a .matrices .now) (a .rows .now) (a .marks .now)) _ _ _ _ (i .first-inverse .ensures) (r .is-regular .ensures) (not-true _ (c .if1 .taken)))
+    -- from-inverse-requires
+    (λ c κs. entry (c .before .before .before .before .before .before .before) .pre)
     -- same-length-3 to same-length-7, returns-2
     (λ c. search needs)
     (λ c. search needs)
@@ -41,9 +40,8 @@ from11-spec =
     (λ c. search needs)
     (λ c. search needs)
     (λ c. let k = c .before .before .before .before .before .before .before .before .before .before in
-    let m = k .before .before .before .before .before .before in
-    let e = m .before in
+    let e = k .before .before .before .before .before .before in
     let r = e .before in
     let i = r .before in
     let a = entry i .args in
-    not-flat (a .sh) (a .low) (a .words .now) (a .floats .now) (a .rotations) (outOf (a .matrices .now) (a .rows .now) (a .marks .now)) _ _ _ (i .first-inverse .ensures) (r .is-regular .ensures) (not-false _ (e .if1 .left)) _ (m .rows .ensures) _ (k .from-inverse .ensures)))
+    not-flat (a .sh) (a .low) (a .words .now) (a .floats .now) (a .rotations) (outOf (a .matrices .now) (a .rows .now) (a .marks .now)) _ _ _ _ (i .first-inverse .ensures) (r .is-regular .ensures) (not-false _ (e .if1 .left)) _ (k .from-inverse .ensures)))

@@ -24,10 +24,10 @@ first-inverse-spec =
     -- first-requires, columns-requires, inverse-requires
     (λ c κs. search needs)
     (λ c κs. let s = c .before .before .before in (s .pre .0, (s .pre .1 .0, (is-flag c, (omega (arith, s .pre .1 .1 .0), s .pre .1 .1 .1)))))
-    (λ c κs. c .before .before .before .before .pre .0 .wide)
+    (λ c κs. c .before .before .before .before .before .pre .0 .wide)
     -- returns
-    (λ c. let f = c .before .before in
+    (λ c. let f = c .before .before .before in
     let a = f .before .before .before .args in
     let d = a .sh .dimension in
     let C = solidOn (a .sh) (a .w .now) (a .points .now) d in
-    c .inverse .ensures ∙ ap inverse (c .before .columns .ensures ∙ ap (flagColumns C) (f .first .ensures))))
+    c .inverse .ensures .0 ∙ ap inverse (c .before .before .columns .ensures ∙ ap (flagColumns C) (f .first .ensures))))
