@@ -8,13 +8,6 @@ pub struct Tolerance {}
 
 impl Tolerance {
     pub const EPS: f64 = 1e-7;
-
-    // The constant is the one that the definitions name.
-    pub fn eps() -> f64
-        ensures { λ r. ⌜ r ≡ eps ⌝ }
-    {
-        Self::EPS
-    }
 }
 
 // The number without its sign. A zero is equal to 0.0 under either sign, so it has a case of its own; a NaN passes neither test.
