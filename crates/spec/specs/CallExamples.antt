@@ -1,4 +1,4 @@
--- Small closed examples of the calls, the mark and single rules: they tell the definitions from the wrong ones that the must-fail edits make.
+-- Small closed examples of the calls, of clean, of the mark and of single rules. They tell the definitions from the wrong ones that the must-fail edits make.
 -- Assumes nothing.
 use mathlib.Core.Path.{_≡_, refl}
 use Prim.Native.Nat.{ℕ}
@@ -26,48 +26,48 @@ use Rattle.spec.specs.Eval.{evaluate}
 
 -- ---- sheets of rank 2: two vertices on a line
 
--- "R = 2 at −1 and 1"
+-- The trial solid "R = 2 at −1 and 1".
 abbrev pub dyad : List ℕ
 dyad =
     68 ∷ 0 ∷ 175 ∷ 252 ∷ 0 ∷ 0 ∷ 0 ∷ 0 ∷ 0 ∷ 0 ∷ 15 ∷ 252 ∷ 0 ∷ 0 ∷ 0 ∷ 0 ∷ 0 ∷ 0 ∷ 0 ∷ []
 
--- "At 0 and 1"
+-- The trial solid "At 0 and 1".
 abbrev pub lopsided : List ℕ
 lopsided =
     68 ∷ 0 ∷ 128 ∷ 0 ∷ 0 ∷ 0 ∷ 0 ∷ 0 ∷ 0 ∷ 0 ∷ 15 ∷ 252 ∷ 0 ∷ 0 ∷ 0 ∷ 0 ∷ 0 ∷ 0 ∷ 0 ∷ []
 
--- "At −1e-7 and 1e-7"
+-- The trial solid "At −1e-7 and 1e-7".
 abbrev pub tiny : List ℕ
 tiny =
     68 ∷ 0 ∷ 175 ∷ 158 ∷ 181 ∷ 252 ∷ 166 ∷ 175 ∷ 43 ∷ 210 ∷ 15 ∷ 158 ∷ 181 ∷ 252 ∷ 166 ∷ 175 ∷ 43 ∷ 210 ∷ 0 ∷ []
 
--- "At 0 and 1e-7"
+-- The trial solid "At 0 and 1e-7".
 abbrev pub close : List ℕ
 close =
     68 ∷ 0 ∷ 128 ∷ 0 ∷ 0 ∷ 0 ∷ 0 ∷ 0 ∷ 0 ∷ 0 ∷ 15 ∷ 158 ∷ 181 ∷ 252 ∷ 166 ∷ 175 ∷ 43 ∷ 210 ∷ 0 ∷ []
 
--- R = 2 at −1 and 1.00000009: the vertices share a distance class, and yet no member exchanges them
+-- R = 2 at −1 and 1.00000009. The vertices share a distance class, and yet no member exchanges them.
 abbrev pub unequal : List ℕ
 unequal =
     68 ∷ 0 ∷ 175 ∷ 252 ∷ 0 ∷ 0 ∷ 0 ∷ 0 ∷ 0 ∷ 0 ∷ 15 ∷ 252 ∷ 0 ∷ 0 ∷ 6 ∷ 10 ∷ 48 ∷ 47 ∷ 128 ∷ []
 
--- R = 2 at 5e-8 and −1.2e-7: the second vertex is further than EPS from the origin, and the listed value of its distance is 5e-8
+-- R = 2 at 5e-8 and −1.2e-7. The second vertex is further than EPS from the origin, but the listed value of its distance is the first vertex's, 5e-8.
 abbrev pub listedNearer : List ℕ
 listedNearer =
     68 ∷ 0 ∷ 143 ∷ 154 ∷ 181 ∷ 252 ∷ 166 ∷ 175 ∷ 43 ∷ 210 ∷ 47 ∷ 160 ∷ 6 ∷ 202 ∷ 202 ∷ 105 ∷ 26 ∷ 74 ∷ 192 ∷ []
 
--- old cells of 7, and of 2.0
+-- Outputs of the given lengths as they are before a call: every number in them is 7, and every float 2.0.
 abbrev pub typesOld : ℕ → ℕ → TypesOut
 typesOld n m = record { elements = replicate n 7; types = replicate m 7 }
 
 abbrev pub searchOld : ℕ → ℕ → ℕ → SearchOut
 searchOld f n m = record { matrices = replicate f (ofBits binary64 0x4000_0000_0000_0000); rows = replicate n 7; marks = replicate m 7 }
 
--- what a search answers and writes, the floats as bit patterns
+-- What a search answers and writes, with the floats shown as bit patterns.
 abbrev pub shown : Answer × SearchOut → Answer × List ℕ × List ℕ × List ℕ
 shown x = (x .0, map (toBits binary64) (x .1 .matrices), x .1 .rows, x .1 .marks)
 
--- buffers that the answer just fills: the types, the identity and the mirror, with rows and marks
+-- The dyad's types, its members (the identity and the mirror) and its rotation, each in buffers that the answer just fills.
 pub dyad-types : typesCall dyad 96 80 (typesOld 2 4) ≡ (Done 1, record { elements = 0 ∷ 0 ∷ []; types = 1 ∷ 0 ∷ 0 ∷ 2 ∷ [] })
 unfolding evaluate
 dyad-types = refl
@@ -80,17 +80,17 @@ pub dyad-rotations : shown (rotationsCall dyad 96 80 (searchOld 1 2 1)) ≡ (Don
 unfolding evaluate
 dyad-rotations = refl
 
--- a row entry too few: one whole member is kept, and the cells past it stay
+-- With one row entry too few, one whole member is kept and the cells past it stay as they were.
 pub dyad-short : shown (searchCall dyad 96 80 (searchOld 2 3 2)) ≡ (Refused ShortSheet 1, 0x3ff0000000000000 ∷ 0x4000000000000000 ∷ [], 0 ∷ 1 ∷ 7 ∷ [], 1 ∷ 7 ∷ [])
 unfolding evaluate
 dyad-short = refl
 
--- vertex 0 lies at the origin, and does not change places with vertex 1: "For R = 2 coordinates don't move"
+-- Vertex 0 lies at the origin and does not change places with vertex 1: "For R = 2 coordinates don't move".
 pub lopsided-members : searchCall lopsided 96 80 (searchOld 2 4 2) .0 ≡ Refused Flat 0
 unfolding evaluate
 lopsided-members = refl
 
--- a distance of EPS is not further than EPS; a difference of EPS is within EPS, and not nearer than EPS
+-- A distance of EPS is not further than EPS, and a difference of EPS is within EPS but not nearer than EPS.
 pub tiny-members : searchCall tiny 96 80 (searchOld 2 4 2) .0 ≡ Refused Centred 0
 unfolding evaluate
 tiny-members = refl
@@ -103,7 +103,7 @@ pub close-types : typesCall close 96 80 (typesOld 2 8) .0 ≡ Done 2
 unfolding evaluate
 close-types = refl
 
--- one vertex's image is found nowhere: no member, and no row with an entry left unfilled
+-- Under the mirror one vertex's image is found nowhere, so the mirror is no member, and no row is written with an entry left unfilled.
 pub unequal-members : shown (searchCall unequal 96 80 (searchOld 2 4 2)) ≡ (Done 1, 0x3ff0000000000000 ∷ 0x4000000000000000 ∷ [], 0 ∷ 1 ∷ 7 ∷ 7 ∷ [], 1 ∷ 7 ∷ [])
 unfolding evaluate
 unequal-members = refl
@@ -155,26 +155,34 @@ pub not-clean-whole-list : cleanDistances (map (ofBits binary64) (0 ∷ 0x3e701b
 unfolding evaluate
 not-clean-whole-list = refl
 
--- The same in a triangle whose coordinates and images are clean: (1,0), (−0.50000003,0.86602546), (−0.50000006,−0.86602551). No distance is near two listed values when
--- it is taken, and yet the Rust has 6 types and 1 member where these definitions have 4 and 2.
-pub not-clean-later : clean (triangleOf 2 ((0x3ff0000000000000 ∷ 0 ∷ []) ∷ (0xbfe00000101b2b2a ∷ 0x3febb67b068681e5 ∷ []) ∷ (0xbfe0000020365653 ∷ 0xbfebb67b215e7480 ∷ []) ∷ [])) ≡ false
+-- The triangle (1,0), (−0.50000003,0.86602546), (−0.50000006,−0.86602551). Its vertices' distances are about 1, 1.00000006 and 1.00000012: none is near two listed
+-- values when it is taken, and the second is when the list is whole. Its coordinates and images are clean. The Rust, which looks distances up again, gives it 6 types
+-- and 1 member, and these definitions give it 4 and 2 (crates/trials, Differences), so that it must not pass for clean.
+abbrev pub later : Concrete
+later = triangleOf 2 ((0x3ff0000000000000 ∷ 0 ∷ []) ∷ (0xbfe00000101b2b2a ∷ 0x3febb67b068681e5 ∷ []) ∷ (0xbfe0000020365653 ∷ 0xbfebb67b215e7480 ∷ []) ∷ [])
+
+pub not-clean-later : clean later ≡ false
 unfolding evaluate
 not-clean-later = refl
 
--- The quadrangle (−1,−1), (1,−1), (4.5e-8,1), (−6e-8,1). Under the mirror the third vertex's image is near the third and the fourth; the lowest number makes the
--- mirror no member, so that the images of members alone would be clean. The Rust takes the least point, and has the mirror.
-pub not-clean-candidate : clean (polygon ((0 ∷ 1 ∷ []) ∷ (1 ∷ 2 ∷ []) ∷ (2 ∷ 3 ∷ []) ∷ (0 ∷ 3 ∷ []) ∷ []) 2 (
+-- The quadrangle (−1,−1), (1,−1), (4.5e-8,1), (−6e-8,1). Under the mirror the third vertex's image is near the third and the fourth vertex. By the lowest number it goes
+-- to the third, and the mirror is no member; by the least point, as in the Rust, it goes to the fourth, and the mirror is one. So the images of members alone, which
+-- here are those of the identity, would let a difference from the Rust pass for clean.
+abbrev pub folded : Concrete
+folded = polygon ((0 ∷ 1 ∷ []) ∷ (1 ∷ 2 ∷ []) ∷ (2 ∷ 3 ∷ []) ∷ (0 ∷ 3 ∷ []) ∷ []) 2 (
     (0xbff0000000000000 ∷ 0xbff0000000000000 ∷ [])
     ∷ (0x3ff0000000000000 ∷ 0xbff0000000000000 ∷ [])
     ∷ (0x3e6828c0be769dc1 ∷ 0x3ff0000000000000 ∷ [])
     ∷ (0xbe701b2b29a4692b ∷ 0x3ff0000000000000 ∷ [])
-    ∷ [])) ≡ false
+    ∷ [])
+
+pub not-clean-candidate : clean folded ≡ false
 unfolding evaluate
 not-clean-candidate = refl
 
 -- ---- sweeps
 
--- eight vertices round, of which vertex 0 alone has a class of its own: each sweep tells one more pair apart, and the fourth ends it
+-- Eight vertices in a ring, of which vertex 0 alone has a class of its own. Each sweep tells one more pair apart, and the fourth is the last.
 abbrev octagon : Solid
 octagon =
     ([] ∷ [])
@@ -191,7 +199,7 @@ pub octagon-types : result octagon oneApart
 unfolding evaluate
 octagon-types = refl
 
--- two vertices of the prism's six in use by one type: counts and examples of types that share a rank
+-- The counts and examples of types that share a rank: of the prism's six vertices, four have one type and two another.
 pub prism-element-types : elementTypes prism ((0 ∷ []) ∷ (0 ∷ 1 ∷ 0 ∷ 0 ∷ 1 ∷ 0 ∷ []) ∷ replicate 9 0 ∷ replicate 5 0 ∷ (0 ∷ []) ∷ [])
     ≡ record { rank = 1; number = 0; example = 0; count = 4 }
     ∷ record { rank = 1; number = 1; example = 1; count = 2 }
@@ -203,13 +211,13 @@ prism-element-types = refl
 
 -- ---- the mark's clauses, each the only one that fails
 
--- the quarter turn of an oblong: every edge goes to an edge, of another distance class
+-- The quarter turn of an oblong takes every edge to an edge, but to one of another distance class.
 pub class-clause : marked square sides (1 ∷ 2 ∷ 3 ∷ 0 ∷ []) ≡ false
 unfolding evaluate
 class-clause = refl
 
--- four vertices, their six edges, and the one face 0 1 2 3: with 1 and 2 exchanged each edge goes to an edge and the face to itself, but
--- the face's edges 01 and 23 go to 02 and 13, which are not the face's
+-- Four vertices, their six edges, and the one face 0 1 2 3. With 1 and 2 exchanged each edge goes to an edge and the face to itself, but the face's edges 01 and 23
+-- go to 02 and 13, which are not the face's.
 abbrev fourCycle : Solid
 fourCycle =
     ([] ∷ [])
@@ -227,21 +235,21 @@ pub four-cycle-turned : marked fourCycle alike (1 ∷ 2 ∷ 3 ∷ 0 ∷ []) ≡ 
 unfolding evaluate
 four-cycle-turned = refl
 
--- two faces on one vertex set: not even the identity is confirmed
+-- Where two elements have one vertex set, not even the identity is confirmed.
 pub vertex-set-clause : marked (
     ([] ∷ []) ∷ replicate 2 (0 ∷ []) ∷ ((0 ∷ 1 ∷ []) ∷ (0 ∷ 1 ∷ []) ∷ []) ∷ ((0 ∷ 1 ∷ []) ∷ []) ∷ []) alike (0 ∷ 1 ∷ []) ≡ false
 unfolding evaluate
 vertex-set-clause = refl
 
--- a row that repeats a vertex
+-- A row that repeats a vertex is not confirmed.
 pub repeat-clause : marked (([] ∷ []) ∷ replicate 2 (0 ∷ []) ∷ ((0 ∷ 1 ∷ []) ∷ []) ∷ []) alike (0 ∷ 0 ∷ []) ≡ false
 unfolding evaluate
 repeat-clause = refl
 
 -- ---- single rules
 
--- "a list's length counts as entries when it is read": entry 8,192 passes, entry 8,193 is refused 2 before the cut after it is seen, and a
--- length of 0 only then 4
+-- "a list's length counts as entries when it is read": entry 8,192 passes, and entry 8,193 is refused 2 before the sheet's end, which comes next, is seen. A length of
+-- 0 adds no entry, and is refused 4.
 pub entries-full : list (0 ∷ 16 ∷ 0 ∷ []) 1 8191 0 ≡ passed (0 ∷ [], 23)
 unfolding evaluate
 entries-full = refl
@@ -254,13 +262,13 @@ pub entries-none : list (0 ∷ 0 ∷ 0 ∷ []) 1 8192 0 ≡ refused BadList
 unfolding evaluate
 entries-none = refl
 
--- "sorted with repeats kept": the face 0 1 2 3 goes to 0 0 1 2, which is not the face 0 1 2
+-- "sorted with repeats kept": the face 0 1 2 3 goes to 0 0 1 2, which is not the face 0 1 2.
 pub repeats-kept : examplesGo (
     ([] ∷ []) ∷ replicate 4 (0 ∷ []) ∷ ((0 ∷ 1 ∷ 2 ∷ 3 ∷ []) ∷ (0 ∷ 1 ∷ 2 ∷ []) ∷ []) ∷ ((0 ∷ 1 ∷ []) ∷ []) ∷ []) ((0 ∷ []) ∷ replicate 4 0 ∷ replicate 2 0 ∷ (0 ∷ []) ∷ []) (0 ∷ 0 ∷ 1 ∷ 2 ∷ []) ≡ false
 unfolding evaluate
 repeats-kept = refl
 
--- a determinant that is no number is not above 0
+-- A determinant that is no number is not above 0.
 pub nan-is-no-rotation : isRotation (record { matrix = (nan ∷ []) ∷ []; row = []; mark = 0 }) ≡ false
 unfolding evaluate
 nan-is-no-rotation = refl
