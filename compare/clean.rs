@@ -32,6 +32,7 @@ fn clean_points(d: usize, points: &[f64], images: &[f64]) -> bool {
 
 // ---- distances
 
+/// "strictly nearer than EPS".
 fn nearer(x: f64, y: f64) -> bool {
     (x - y).abs() < EPS
 }
@@ -55,8 +56,8 @@ fn clean_distances(distances: &[f64]) -> bool {
 
 // ---- solids and copyings
 
-/// Of the distances as read and, in a search, with the facets exchanged; of the coordinates, and of the images of every vertex under every
-/// candidate. A search that is refused before it makes a candidate has neither images nor a second list.
+/// Whether a solid is clean. The distances are asked as it was read and, in a search, once more with its facets exchanged; the images are those
+/// of every vertex under every candidate. A search that is refused before it makes a candidate has neither images nor a second list.
 pub fn clean(s: &Solid) -> bool {
     let points = s.points.concat();
     clean_distances(&model::distances(s).concat())
@@ -66,8 +67,8 @@ pub fn clean(s: &Solid) -> bool {
         }
 }
 
-/// "In copying, the first two are meant of points, copies and images": the images of the points that are multiplied, those "not found among the
-/// copies", and of the copies.
+/// Whether a copying is clean: "In copying, the first two are meant of points, copies and images". The images are those of the points that are
+/// multiplied, which are those "not found among the copies", and those of the copies.
 pub fn clean_copying(d: usize, points: &[f64], turns: &[f64]) -> bool {
     let found = |copies: &[f64], p: &[f64]| copies.chunks(d).any(|c| c.iter().zip(p).all(|(x, y)| within_eps(*x, *y)));
     let (mut copies, mut multiplied) = (Vec::new(), Vec::new());
@@ -93,7 +94,8 @@ fn ring<const D: usize>(points: &[[f64; D]]) -> Solid {
     Solid::new(points.iter().map(|p| p.to_vec()).collect(), vec![(0..n).map(|k| vec![k, (k + 1) % n]).collect()])
 }
 
-/// Clean on the examples that are evaluated in crates/spec/specs/CallExamples.antt and crates/trials/specs/Differences.antt. Panics where one fails.
+/// Tests this file on the examples that are evaluated in crates/spec/specs/CallExamples.antt and crates/trials/specs/Differences.antt, and panics
+/// where one fails.
 pub fn check() {
     let steps = [0.0, 0.5e-7, 0.6e-7, 1e-7, 1.2e-7, 2e-7, -0.5e-7, 1.0, 1.00000006, 1.0000001, 1.0000002];
     for k in 0..steps.len().pow(4) {

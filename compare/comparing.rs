@@ -1,4 +1,4 @@
-//! The two sides held against each other.
+//! Holds the library's answers against the Rust's and, for what the Rust does not have, against the model's.
 
 use crate::clean::{clean, clean_copying};
 use crate::copyings::{some_copying, Given};
@@ -196,7 +196,7 @@ impl Sheet<'_> {
         self.tell(tally, "types", lengths, answer, expected, alike);
     }
 
-    /// The same of search or rotations: matrices, rows and marks.
+    /// The search or rotations call: the same is asked of its answer, its matrices, rows and marks, and the sheet.
     fn members(&self, tally: &mut Tally, only_rotations: bool, lengths: [usize; 3], expected: (u64, usize), cells: (&[f64], &[u16], &[u8])) {
         let (mut sheet, mut space) = (Lent::holding(self.bytes), Workspace::new(self.words, self.floats));
         let mut out = Members { matrices: Lent::new(lengths[0]), rows: Lent::new(lengths[1]), marks: Lent::new(lengths[2]) };
@@ -223,7 +223,7 @@ impl Sheet<'_> {
     }
 }
 
-/// The sheet with bits or bytes wrong, that of the solid broken, or one of a low rank.
+/// The sheet with some bits or bytes wrong, the sheet of the solid after it was broken, or a sheet of rank 0 or 1.
 fn broken_sheet(random: &mut Random, solid: Solid, sheet: &[u8]) -> Vec<u8> {
     match random.below(10) {
         0 => solids::low_sheet(random),
@@ -343,7 +343,7 @@ fn compare_types(random: &mut Random, tally: &mut Tally, sheet: &Sheet, expected
     }
 }
 
-/// Whole, and at times again with too little room: then the members that fit. Gives the marks.
+/// Compares the members whole and, at times, once more with too little room, when the members that fit are expected. Gives the marks.
 fn compare_members(random: &mut Random, tally: &mut Tally, sheet: &Sheet, solid: &Solid, only_rotations: bool, found: &oracle::Members) -> Vec<u8> {
     let (d, v, n) = (solid.dimension, solid.points.len(), found.rotations.len());
     let rows: Vec<u16> = found.rows.iter().map(|x| *x as u16).collect();

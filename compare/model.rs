@@ -1,4 +1,5 @@
-//! What the oracle does not have, from document 01's own sentences: the refusals before a search, marks, what a copying refuses and leaves.
+//! What the oracle does not have, written from document 01's own sentences: the refusals before a search, the candidates that a search tests,
+//! the marks, and what a copying refuses and leaves.
 
 use crate::solids::Solid;
 use std::collections::BTreeMap;
@@ -107,7 +108,7 @@ fn is_diamond(s: &Solid, r: usize) -> bool {
     })
 }
 
-/// 9: two vertices within EPS on every axis.
+/// Refusal 9: are two vertices within EPS of each other on every axis?
 pub fn double_corner(s: &Solid) -> bool {
     let near = |a: &[f64], b: &[f64]| a.iter().zip(b).all(|(x, y)| (x - y).abs() <= EPS);
     (0..s.points.len()).any(|i| (0..i).any(|j| near(&s.points[i], &s.points[j])))
@@ -194,7 +195,7 @@ fn classes(distances: &[Vec<f64>]) -> Vec<Vec<f64>> {
 
 // ---- types
 
-/// Numbers from 0 by first appearance.
+/// Each key's number; numbers go from 0 by first appearance.
 fn numbered<K: Ord>(keys: impl Iterator<Item = K>) -> Vec<usize> {
     let mut met = BTreeMap::new();
     keys.map(|k| {
@@ -240,7 +241,7 @@ fn types(s: &Solid, distances: &[Vec<f64>]) -> Vec<Vec<usize>> {
 
 // ---- marks
 
-/// The marks of these rows, V numbers each.
+/// The marks of these rows, which stand one after another with V numbers each.
 pub fn marks(s: &Solid, rows: &[usize]) -> Vec<u8> {
     let sets: Vec<Vec<Vec<usize>>> = (0..s.rank()).map(|r| if r == 0 { vec![] } else { (0..s.count(r)).map(|i| s.vertices(r, i)).collect() }).collect();
     let classes = classes(&distances(s));
@@ -279,7 +280,7 @@ fn is_confirmed(s: &Solid, sets: &[Vec<Vec<usize>>], classes: &[Vec<f64>], row: 
 
 // ---- candidates
 
-/// "The first facet whose hull is further than EPS from the origin"; 10 where there is none.
+/// "The first facet whose hull is further than EPS from the origin". Where there is none, a search is refused 10.
 pub fn first_facet(s: &Solid) -> Option<usize> {
     let r = s.rank() - 1;
     (0..s.count(r)).find(|f| distance(s, r, *f) > EPS)
@@ -317,24 +318,24 @@ fn columns(s: &Solid, flag: &[usize]) -> Vec<Vec<f64>> {
     columns
 }
 
-/// 11, where D = R - 1 and not 10: "first columns singular, or a non-finite inverse".
+/// Refusal 11, asked where D = R - 1 and the search is not refused 10: are the first columns singular, or is their inverse not finite?
 pub fn is_flat(s: &Solid) -> bool {
     first_facet(s).is_some_and(|facet| first_inverse(&exchanged(s, facet)).is_none())
 }
 
-/// The inverse of the first flag's columns, row by row; none where they are singular or it is not finite.
+/// The inverse of the first flag's columns, row by row. There is none where they are singular or it is not finite.
 fn first_inverse(s: &Solid) -> Option<Vec<Vec<f64>>> {
     inverse(&columns(s, &flags(s)[0])).filter(|rows| rows.iter().flatten().all(|x| x.is_finite()))
 }
 
-/// What stands when a search begins, after 8, 9, 10 and 11: the solid with its facets exchanged, and its distances.
+/// What stands when a search has passed 8, 9, 10 and 11: the solid with its facets exchanged, its distances, and the inverse of its first columns.
 pub struct Setting {
     searched: Solid,
     pub distances: Vec<Vec<f64>>,
     inverse: Vec<Vec<f64>>,
 }
 
-/// None where the search is refused before it makes a candidate.
+/// The setting of a search. There is none where the search is refused before it makes a candidate.
 pub fn setting(s: &Solid) -> Option<Setting> {
     if s.dimension + 1 != s.rank() || double_corner(s) {
         return None;
@@ -345,14 +346,15 @@ pub fn setting(s: &Solid) -> Option<Setting> {
 }
 
 impl Setting {
-    /// The matrices of the flags whose elements have the first flag's types, members or not: row by row, one after another.
+    /// The candidates that are tested: the matrices of the flags whose elements have the first flag's types, whether or not they become members.
+    /// They stand one after another, each row by row.
     pub fn candidates(&self) -> Vec<f64> {
         let (s, types, all) = (&self.searched, types(&self.searched, &self.distances), flags(&self.searched));
         let same_types = |flag: &&Vec<usize>| (1..s.rank()).all(|r| types[r][flag[r]] == types[r][all[0][r]]);
         all.iter().filter(same_types).flat_map(|flag| self.candidate(&columns(s, flag))).collect()
     }
 
-    /// "columns times the inverse of the first flag's".
+    /// The candidate of a flag with these columns: "columns times the inverse of the first flag's".
     fn candidate(&self, columns: &[Vec<f64>]) -> Vec<f64> {
         let d = columns.len();
         let row = |i: usize| columns.iter().map(|c| c[i]).collect::<Vec<f64>>();
@@ -361,7 +363,7 @@ impl Setting {
     }
 }
 
-/// The inverse of the matrix with these columns, by section 1's Gauss-Jordan; none where a pivot is zero.
+/// The inverse of the matrix with these columns, by section 1's Gauss-Jordan. There is none where a pivot is zero.
 fn inverse(columns: &[Vec<f64>]) -> Option<Vec<Vec<f64>>> {
     let d = columns.len();
     let unit = |i: usize| (0..d).map(move |j| if i == j { 1.0 } else { 0.0 });
@@ -386,7 +388,7 @@ fn inverse(columns: &[Vec<f64>]) -> Option<Vec<Vec<f64>>> {
 
 // ---- copying
 
-/// "copying goes 2, 1, 3, 12": or 0.
+/// The first refusal of a copying in the order "2, 1, 3, 12", or 0.
 pub fn refused_early(d: u64, points: &[f64], turns: &[f64]) -> u64 {
     if !(1..=4).contains(&d) {
         return 2;
@@ -412,7 +414,7 @@ pub struct Copied {
     pub table: Vec<u16>,
 }
 
-/// By the whole copies and their table (none where an image is not among the copies), and how long the outputs are.
+/// What the call answers, given all copies, their table (there is none where an image is not among the copies) and the lengths of the outputs.
 pub fn copied(d: usize, turns: usize, copies: &[f64], table: Option<&[usize]>, floats: usize, cells: usize) -> Copied {
     let n = copies.len() / d;
     let room = MOST.min(floats / d);
@@ -427,7 +429,7 @@ pub fn copied(d: usize, turns: usize, copies: &[f64], table: Option<&[usize]>, f
     }
 }
 
-/// Images of the points under each matrix.
+/// The images of the points under each matrix in turn.
 pub fn images(d: usize, points: &[f64], turns: &[f64]) -> Vec<f64> {
     let mut all = Vec::new();
     for m in turns.chunks(d * d) {

@@ -390,6 +390,11 @@ pub fn some_solid(random: &mut Random) -> Solid {
     match random.below(12) {
         0 => solid = solid.shaken(random, 1e-2),
         1..=3 => solid = solid.shaken(random, 1e-10),
+        // by about EPS, where it is decided what is clean
+        4 => {
+            let by = [1e-8, 4e-8, 1e-7][random.below(3)];
+            solid = solid.shaken(random, by);
+        }
         _ => {}
     }
     if !random.once_in(4) {

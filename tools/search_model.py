@@ -323,29 +323,31 @@ def images(matrices, points):
     return [image(m, p) for m in matrices for p in points]
 
 
-def listed_by(all_distances):
+def listed_by(taken):
     """What is listed when each distance has been taken or has joined."""
     listed = []
-    for d in all_distances:
+    for d in taken:
         if not any(abs(l - d) < EPS for l in listed):
             listed.append(d)
     return listed
 
 
-def clean_distances(all_distances):
+def clean_distances(taken):
     """"no distance is ever nearer than EPS to two listed values": strictly nearer, and to two of the whole list."""
-    listed = listed_by(all_distances)
-    return all(sum(abs(l - d) < EPS for l in listed) < 2 for d in all_distances)
+    listed = listed_by(taken)
+    return all(sum(abs(l - d) < EPS for l in listed) < 2 for d in taken)
 
 
 def all_distances(solid):
+    """The distances of all proper elements, "by rising rank, then index"."""
     return [d for of_rank in distances(solid) for d in of_rank]
 
 
 @functools.cache
 def clean(solid):
-    """Of the distances as read and, in a search, with the facets exchanged; of the coordinates, and of the images of every vertex under every
-    candidate. A search that is refused before it makes a candidate has neither images nor a second list. Solids of rank 0 and 1 are clean."""
+    """Whether a solid of rank 2 or more is clean. The distances are asked as it was read and, in a search, once more with its facets exchanged;
+    the images are those of every vertex under every candidate. A search that is refused before it makes a candidate has neither images nor a
+    second list."""
     if not clean_distances(all_distances(solid)):
         return False
     found = setting(solid)
@@ -368,7 +370,8 @@ def copying(matrices, points):
 
 
 def clean_copying(dimension, points, matrices):
-    """"In copying, the first two are meant of points, copies and images": the images of the points that are multiplied, and of the copies."""
+    """Whether a copying is clean: "In copying, the first two are meant of points, copies and images". The images are those of the points that
+    are multiplied, and those of the copies."""
     copies, multiplied = copying(matrices, points)
     return clean_points(dimension, points + copies, images(matrices, multiplied + copies))
 
@@ -388,7 +391,8 @@ def dyad(a, b):
 
 
 def check_clean():
-    """Clean on the examples that are evaluated in crates/spec/specs/CallExamples.antt and crates/trials/specs/Differences.antt."""
+    """Tests `clean` and `clean_copying` on the examples that are evaluated in crates/spec/specs/CallExamples.antt and
+    crates/trials/specs/Differences.antt."""
     by_triples = lambda xs: all(not (within_eps(x, y) and within_eps(y, z)) or within_eps(x, z) for x in xs for y in xs for z in xs)
     steps = (0.0, 0.5e-7, 0.6e-7, 1e-7, 1.2e-7, 2e-7, -0.5e-7, 1.0, 1.00000006, 1.0000001, 1.0000002)
     for xs in itertools.product(steps, repeat=4):
