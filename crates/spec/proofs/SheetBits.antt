@@ -42,7 +42,7 @@ module _ {A : Type 0} (why : Refusal) (k : Reader A) (i : ℕ) where
   unfolding judge _>>_
   judge-on ok e = rw e
 
-le-true : (m n : ℕ) → m ≤ n → leb m n ≡ true
+pub le-true : (m n : ℕ) → m ≤ n → leb m n ≡ true
 le-true m n h = is-true (leb m n) (le→leb m n h)
 
 module _ (b : List ℕ) where

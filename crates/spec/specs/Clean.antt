@@ -1,14 +1,17 @@
--- Section 6, "Clean": the input on which the Rust and these definitions are held to agree. No call asks for it and none refuses for it; the comparison with the
--- Rust (compare/, tools/) tests this definition, and leaves out what is not clean.
+-- Section 6, "Clean": the input on which the Rust and these definitions are held to agree. No call asks whether its input is clean. The comparison with the Rust
+-- (compare/clean.rs, tools/search_model.py) tests this definition, under the same names, and leaves out what is not clean.
 -- Assumes nothing.
-use Prim.Native.Nat.{ℕ}
-use mathlib.Core.Bool.{Bool, true, false, _&&_}
+use mathlib.Core.Path.{_≡_}
+use mathlib.Core.Logic.{_↔_}
+use Prim.Native.Nat.{ℕ, _<_}
+use mathlib.Core.Bool.{Bool, true, false, _&&_, Bool·beq}
 use mathlib.Core.List.{List, [], _∷_, _++_, map}
-use lib.ListN.{getD}
-use lib.Dec.{leb}
-use lib.Ieee.{Float, eq}
-use Rattle.spec.specs.Lists.{distinct, count, range, join, every}
-use Rattle.spec.specs.Float.{zeroF}
+use lib.ListN.{length, getD}
+use lib.Dec.{leb, eqb}
+use lib.IntN.{ℤ, pos, negsuc}
+use lib.Ieee.{Float, nan, inf, fin}
+use Rattle.spec.specs.Lists.{In, distinct, count, range, join, every}
+use Rattle.spec.specs.Float.{zeroF, finite}
 use Rattle.spec.specs.Matrix.{Vector, Matrix, mulVec}
 use Rattle.spec.specs.Hull.{nearer, listing}
 use Rattle.spec.specs.Copying.{near, found, spread, copies}
@@ -20,49 +23,68 @@ use Rattle.spec.specs.Search.{Setting, candidate, sameTypes, allFinite, 
 
 -- ---- coordinates and images
 
--- "differ by at most EPS": the rounded difference, EPS included, which is what finding tests on one axis
+-- "differ by at most EPS": of the rounded difference, EPS included. Finding asks the same on each axis.
 unfoldable pub withinEps : Float → Float → Bool
 withinEps x y = near (x ∷ []) (y ∷ [])
 
--- ".. is transitive among" the values xs: where x and y differ by at most EPS, and y and z, so do x and z
+-- ".. is transitive among" the values xs: where x and y differ by at most EPS, and y and z do, so do x and z.
 unfoldable pub transitive : List Float → Bool
 transitive xs =
     every (λ x. every (λ y. elim (withinEps x y) [ true ↦ every (λ z. elim (withinEps y z) [ true ↦ withinEps x z | false ↦ true ]) xs | false ↦ true ]) xs) xs
 
--- what the points have on axis k. Equal values are taken once: they differ from any other value by the same, and an evaluation stays short
-unfoldable pub onAxis : List Vector → ℕ → List Float
-onAxis ps k = distinct eq (map (λ p. getD p k zeroF) ps)
+-- Whether two integers, and two floats, are one and the same; of floats, +0 and −0 are not.
+unfoldable pub sameInteger : ℤ → ℤ → Bool
+sameInteger (pos m) (pos n) = eqb m n
+sameInteger (pos m) (negsuc n) = false
+sameInteger (negsuc m) (pos n) = false
+sameInteger (negsuc m) (negsuc n) = eqb m n
 
--- "is transitive among coordinates and images on each axis, images are finite": of the points ps, with the images qs, in d dimensions
+unfoldable pub sameFloat : Float → Float → Bool
+sameFloat nan nan = true
+sameFloat nan (inf t) = false
+sameFloat nan (fin t n d) = false
+sameFloat (inf s) nan = false
+sameFloat (inf s) (inf t) = Bool·beq s t
+sameFloat (inf s) (fin t n d) = false
+sameFloat (fin s m e) nan = false
+sameFloat (fin s m e) (inf t) = false
+sameFloat (fin s m e) (fin t n d) = Bool·beq s t && eqb m n && sameInteger e d
+
+-- The values of the points on axis k.
+abbrev pub onAxis : List Vector → ℕ → List Float
+onAxis ps k = map (λ p. getD p k zeroF) ps
+
+-- "is transitive among coordinates and images on each axis, images are finite": of the points ps with the images qs, in d dimensions. Each value is taken once, which
+-- changes nothing (`EveryClean.points`) and keeps an evaluation short.
 unfoldable pub cleanPoints : ℕ → List Vector → List Vector → Bool
-cleanPoints d ps qs = allFinite qs && every (λ k. transitive (onAxis (ps ++ qs) k)) (range 0 d)
+cleanPoints d ps qs = allFinite qs && every (λ k. transitive (distinct sameFloat (onAxis (ps ++ qs) k))) (range 0 d)
 
--- the images of points under each matrix in turn
+-- The images of the points under each matrix in turn.
 unfoldable pub images : List Matrix → List Vector → List Vector
 images ms ps = join (map (λ m. map (mulVec m) ps) ms)
 
 -- ---- distances
 
--- what is listed, from a list on, when each of these distances has been taken or has joined
+-- The list after each of these distances has taken a listed value or joined, from the list l on.
 unfoldable pub listedBy : List Float → List Float → List Float
 listedBy l [] = l
 listedBy l (x ∷ xs) = listedBy (listing l x .1) xs
 
--- "no distance is ever nearer than EPS to two listed values": strictly nearer, and to two of all the values that the distances xs leave listed. A value
--- that joins later counts as well, because the Rust looks each distance up again in every sweep, when the list is whole
+-- "no distance is ever nearer than EPS to two listed values": strictly nearer, and to two values of the whole list. A value that joins after the distance was taken
+-- counts as well, since the Rust looks every distance up again in every sweep.
 unfoldable pub cleanDistances : List Float → Bool
 cleanDistances xs = let l = listedBy [] xs in every (λ x. leb (count nearer x l) 1) xs
 
 -- ---- a solid
 
--- the candidates that are tested: those of the flags whose elements have the first flag's types, members or not
+-- The candidates that are tested: those of the flags whose elements have the first flag's types, whether or not they become members.
 unfoldable pub candidates : Setting → List Flag → List Matrix
 candidates w [] = []
 candidates w (F ∷ Fs) = elim (sameTypes w F) [ true ↦ candidate w F ∷ candidates w Fs | false ↦ candidates w Fs ]
 
--- A solid's distances are listed as it was read and, in a search, once more with its facets exchanged; its images are those of every vertex under every candidate
--- of that search. Where the search is refused before it makes a candidate (8, 9, 10, 15, 11) there is no image and no answer goes by the second list, so the
--- coordinates and the first list are all that is asked
+-- Whether a solid is clean. Its distances are listed as it was read and, in a search, once more with its facets exchanged. Its images are those of every vertex under
+-- every candidate of that search. Where the search is refused before it makes a candidate (8, 9, 10, 15, 11), there are no images and no answer turns on the second
+-- list, so only the coordinates and the first list are asked.
 unfoldable pub clean : Concrete → Bool
 clean c = cleanDistances (distances c) && elim (setting c) [
   | refused why ↦ cleanPoints (c .dimension) (c .points) []
@@ -71,11 +93,32 @@ clean c = cleanDistances (distances c) && elim (setting c) [
 
 -- ---- copying
 
--- the points that copying multiplies, those "not found among the copies": from the copies cs on
+-- The points that copying multiplies, from the copies cs on: those "not found among the copies".
 unfoldable pub multiplied : List Matrix → List Vector → List Vector → List Vector
 multiplied ms [] cs = []
 multiplied ms (p ∷ ps) cs = elim (found cs p) [ true ↦ multiplied ms ps cs | false ↦ p ∷ multiplied ms ps (spread ms p cs) ]
 
--- "In copying, the first two are meant of points, copies and images": the images of the points that are multiplied, and those of the copies
+-- Whether a copying is clean: "In copying, the first two are meant of points, copies and images". The images are those that copying makes: of the points that it
+-- multiplies, and of the copies.
 unfoldable pub cleanCopying : ℕ → List Vector → List Matrix → Bool
 cleanCopying d ps ms = let cs = copies ms ps in cleanPoints d (ps ++ cs) (images ms (multiplied ms ps [] ++ cs))
+
+-- ---- the clauses as statements, which the tests above decide
+
+-- "differ by at most EPS" is transitive among the values of xs.
+abbrev pub Transitive : List Float → Type 0
+Transitive xs = (x y z : Float) → In x xs → In y xs → In z xs → withinEps x y ≡ true → withinEps y z ≡ true → withinEps x z ≡ true
+
+-- The first two clauses, of the points ps with the images qs in d dimensions.
+pub record CleanPoints (d : ℕ) (ps qs : List Vector) : Type 0 where
+  pub axes : (k : ℕ) → k < d → Transitive (onAxis (ps ++ qs) k)
+  pub images : (q : Vector) → In q qs → (x : Float) → In x q → finite x ≡ true
+
+-- The third clause, of the distances xs: where a distance is nearer than EPS to the listed values of the numbers i and j, these are one number.
+abbrev pub CleanDistances : List Float → Type 0
+CleanDistances xs = (x : Float) → In x xs → (i j : ℕ) → i < length (listedBy [] xs) → j < length (listedBy [] xs)
+    → nearer (getD (listedBy [] xs) i zeroF) x ≡ true → nearer (getD (listedBy [] xs) j zeroF) x ≡ true → i ≡ j
+
+pub record EveryClean : Type 0 where
+  pub points : (d : ℕ) (ps qs : List Vector) → (cleanPoints d ps qs ≡ true) ↔ CleanPoints d ps qs
+  pub distances : (xs : List Float) → (cleanDistances xs ≡ true) ↔ CleanDistances xs
