@@ -112,14 +112,15 @@ pub unequal-text : kitText unequal ≡ ascii "types 1\n1 0 0 2\nmembers 1 confir
 unfolding evaluate
 unequal-text = refl
 
--- "whose hull is further than EPS from the origin" is asked of the hull's own distance. By its listed value neither facet would be, and the search would be refused 10.
+-- "whose hull is further than EPS from the origin" is asked of the hull's own distance. By its listed value neither facet would be further, and the search
+-- would be refused 10.
 pub listed-nearer-members : searchCall listedNearer 96 80 (searchOld 2 4 2) .0 ≡ Done 1
 unfolding evaluate
 listed-nearer-members = refl
 
 -- ---- clean
 
--- Whether the solid of a sheet is clean; the sheet's own refusal, where it has one.
+-- Whether the solid of a sheet is clean, or the sheet's own refusal where it has one.
 abbrev pub cleanSheet : List ℕ → Judged Bool
 cleanSheet b = preflight b 4096 2048 >>= λ c. passed (clean c)
 

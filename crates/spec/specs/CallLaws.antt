@@ -1,5 +1,6 @@
 -- Statements about the calls: that no empty list passes for success, when a call answers 13 and what then stands in the outputs, what every other refusal
--- leaves untouched, that outputs keep their lengths, and what the calls answer for a solid without proper ranks; and about finding, which search and copying share.
+-- leaves untouched, that outputs keep their lengths, and what the calls answer for a solid without proper ranks; and about finding, which search and copying
+-- share.
 -- Assumes nothing.
 use mathlib.Core.Path.{_≡_}
 use mathlib.Core.Logic.{_≢_, _⊎_}
@@ -61,9 +62,9 @@ pub record SearchLaws (call : List ℕ → ℕ → ℕ → SearchOut → Answer 
   -- An empty list is never a success.
   pub some-member : (b : List ℕ) (words floats : ℕ) (old : SearchOut) (n : ℕ) → call b words floats old .0 ≡ Done n → 0 < n
   pub done : (b : List ℕ) (words floats : ℕ) (old : SearchOut) (n : ℕ) → call b words floats old .0 ≡ Done n → AllMembers (inside b words floats) old (call b words floats old .1) n
-  -- 13: "members (rotations in their call) .. exceed their buffers", and it "keeps what fitted in search (whole members only)"
+  -- 13 comes when "members (rotations in their call) .. exceed their buffers", and it "keeps what fitted in search (whole members only)".
   pub short : (b : List ℕ) (words floats : ℕ) (old : SearchOut) (k : ℕ) → call b words floats old .0 ≡ Refused ShortSheet k → FirstMembers (inside b words floats) old (call b words floats old .1) k
-  -- "Outputs are untouched, except: 13"
+  -- "Outputs are untouched, except: 13": any other refusal leaves all three as they were.
   pub untouched : (b : List ℕ) (words floats : ℕ) (old : SearchOut) (why : Refusal) (k : ℕ) → call b words floats old .0 ≡ Refused why k → why ≢ ShortSheet → call b words floats old .1 ≡ old
   pub lengths : (b : List ℕ) (words floats : ℕ) (old : SearchOut) →
       let new = call b words floats old .1 in
@@ -100,7 +101,7 @@ pub record CallLaws : Type 0 where
   pub searches : SearchLaws searchCall membersIn
   pub rotations : SearchLaws rotationsCall rotationsIn
   pub types-done : (b : List ℕ) (words floats : ℕ) (old : TypesOut) (n : ℕ) → typesCall b words floats old .0 ≡ Done n → AllTypes b words floats old (typesCall b words floats old .1) n
-  -- 13: "types .. exceed their buffers"
+  -- 13 comes when "types .. exceed their buffers".
   pub types-short : (b : List ℕ) (words floats : ℕ) (old : TypesOut) (k : ℕ) → typesCall b words floats old .0 ≡ Refused ShortSheet k → NoRoom b words floats old k
   -- "Outputs are untouched": every refusal of the types call leaves them so.
   pub types : (b : List ℕ) (words floats : ℕ) (old : TypesOut) (why : Refusal) (k : ℕ) → typesCall b words floats old .0 ≡ Refused why k → typesCall b words floats old .1 ≡ old
@@ -127,11 +128,11 @@ pub record CopyCallLaws (d : ℕ) (ps ts outPoints : List Float) (outTable : Lis
   -- Success means at least one copy and at most 2,048, and both outputs have room for all of them.
   pub done : (n : ℕ) → copyCall d ps ts outPoints outTable .0 ≡ Done n
       → (0 < n) × (n ≤ maxCount) × (n * d ≤ length outPoints) × (length (matrices d ts) * n ≤ length outTable)
-  -- 13: "points and then table entries, exceed their buffers; copies over 2,048"
+  -- 13 comes when "points and then table entries, exceed their buffers; copies over 2,048".
   pub short : (k : ℕ) → copyCall d ps ts outPoints outTable .0 ≡ Refused ShortSheet k →
       let n = length (copies (matrices d ts) (points d ps)) in
       (maxCount < n) ⊎ (length outPoints < n * d) ⊎ (length outTable < length (matrices d ts) * n)
-  -- "Outputs are untouched, except: 13 keeps what fitted .. (points only); 14 .."
+  -- "Outputs are untouched, except: 13 keeps what fitted .. (points only); 14 ..": any other refusal leaves both as they were, and 13 leaves the table.
   pub untouched : (why : Refusal) (k : ℕ) → copyCall d ps ts outPoints outTable .0 ≡ Refused why k → why ≢ ShortSheet → why ≢ Open
       → (copyCall d ps ts outPoints outTable .1 ≡ outPoints) × (copyCall d ps ts outPoints outTable .2 ≡ outTable)
   pub points-only : (k : ℕ) → copyCall d ps ts outPoints outTable .0 ≡ Refused ShortSheet k → copyCall d ps ts outPoints outTable .2 ≡ outTable

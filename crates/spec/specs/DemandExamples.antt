@@ -13,7 +13,7 @@ use Rattle.spec.specs.Types.{Classes, State, Step, up, down, at, subs, s
 use Rattle.spec.specs.Demand.{Proper, Parts, Steady, Final, Agree}
 use Rattle.spec.specs.SolidExamples.{square}
 
--- the corner 0 is further out than the other three
+-- Corner 0 is further out than the other three.
 abbrev pub oneCorner : Classes
 oneCorner r e = getD (getD ([] ∷ (9 ∷ 5 ∷ 5 ∷ 5 ∷ []) ∷ []) r []) e 0
 
@@ -34,21 +34,21 @@ ends = refl
 apart : _≢_ {A = ℕ} 0 1
 apart e = omega arith
 
--- the step up at rank 2 parts edge 0, which has the corner 0, from edge 1, which has not
+-- The step up at rank 2 parts edge 0, which has corner 0, from edge 1, which does not.
 pub parted : Parts square begun (up 2) 2 0 1
 unfolding step keys key subs distinct renumber count eqList range without place
 parted = (refl, apart)
 
--- and it does not part the edges 0 and 3, which both have that corner
+-- The same step does not part the edges 0 and 3, which both have that corner.
 pub not-parted : ¬ Parts square begun (up 2) 2 0 3
 unfolding step keys key subs distinct renumber count eqList range without place
 not-parted p = p .1 refl
 
--- so the start is not steady
+-- So the start is not steady.
 pub not-steady : ¬ Steady square begun
 not-steady st = st (up 2) (lit< tt, lit< tt) 2 0 1 (lit< tt) (lit< tt) parted
 
--- no step changes the result
+-- No step changes the result.
 unchanged : (x : Step) → Proper square (at x) → step square ended x ≡ ended
 unfolding step keys key subs sups distinct renumber count holds eqList range keep without place
 unchanged (up zero) p = absurd (omega (arith, p .0))
@@ -60,22 +60,23 @@ unchanged (down (suc zero)) p = refl
 unchanged (down (suc (suc zero))) p = refl
 unchanged (down (suc (suc (suc r)))) p = absurd (omega (arith, p .1))
 
--- so the result is steady
+-- So the result is steady.
 pub steady : Steady square ended
 steady x p r e f he hf w = w .1 (subst (λ (S : State). typeOf S r e ≡ typeOf S r f) (sym (unchanged x p)) (w .0))
 
--- (b) asks nothing of the start, whose numbers are not the result's, because the start is not steady. The result is, so (b) would be false here if it went by that
+-- (b) asks nothing of the start, whose numbers are not the result's, because the start is not steady. The result is steady, so (b) would be false here if it
+-- asked that of the result.
 pub final-begun : Final square begun ended
 final-begun st = absurd (not-steady st)
 
 pub begun-differs : typeOf begun 2 1 ≢ typeOf ended 2 1
 begun-differs = apart
 
--- two steps lead to the result
+-- Two steps lead to the result.
 pub reached : play square (start square oneCorner) (up 2 ∷ down 1 ∷ []) ≡ ended
 unfolding play step keys key start startAt subs sups distinct renumber count holds eqList range keep without place
 reached = refl
 
--- and (b) gives every steady state the result's number for edge 1, and not just the start, which is not steady
+-- (b) gives every steady state the result's number for edge 1. It says so of any state, and not just of the start, which is not steady.
 pub final-steady : (S : State) → Agree square oneCorner S ended → Steady square S → typeOf S 2 1 ≡ 1
 final-steady S a st = a .final st 2 1 (lit< tt, lit< tt) (lit< tt)

@@ -1,4 +1,4 @@
--- Section 5 of every solid whose sheet passes preflight, as read and as search exchanges its facets.
+-- What section 5 says of every solid whose sheet passes preflight, both as it was read and after search has exchanged its facets.
 -- Assumes nothing.
 use mathlib.Core.Path.{_≡_}
 use Prim.Native.Nat.{ℕ, _-_, _≤_, _<_}
@@ -11,17 +11,17 @@ use Rattle.spec.specs.Solid.{Concrete, preflight}
 use Rattle.spec.specs.Flags.{Flag, firstFlag, flags, IsFlag, Listed, Changed}
 use Rattle.spec.specs.Search.{exchangedIn}
 
--- what section 5 says of a solid's flags
+-- What section 5 says of a solid's flags.
 pub record FlagsOf (s : Solid) : Type 0 where
-  -- "gives every flag once, the sub at rank 1 moving fastest"
+  -- The iterator "gives every flag once, the sub at rank 1 moving fastest".
   pub listed : Listed s
-  -- `first_flag` is a flag, and the first that is given
+  -- `first_flag` is a flag, and it is the first that the iterator gives.
   pub first : IsFlag s (firstFlag s)
   pub starts : getD (flags s) 0 [] ≡ firstFlag s
-  -- "A change at r gives the other of the two elements between its neighbours"
+  -- "A change at r gives the other of the two elements between its neighbours".
   pub changed : (r : ℕ) → Proper s r → (F : Flag) → IsFlag s F → Changed s r F
 
--- the flags of the solid as read, and of the one that search walks, where facet f has changed places with facet 0
+-- The flags of the solid as read, and of the one that search walks, where facet f has changed places with facet 0.
 pub record FlagLaws (c : Concrete) : Type 0 where
   pub read : FlagsOf (c .abs)
   pub searched : 2 ≤ top (c .abs) → (f : ℕ) → f < size (c .abs) (top (c .abs) - 1) → FlagsOf (exchangedIn (c .abs) f)

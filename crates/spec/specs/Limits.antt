@@ -3,22 +3,22 @@
 use Prim.Native.Nat.{ℕ}
 use lib.Ieee.{Float, binary64, ofBits}
 
--- "R 0 to 5"
+-- The greatest rank R of a sheet: "R 0 to 5".
 abbrev pub maxRank : ℕ
 maxRank = 5
 
--- "D 0 to 4"; and in copying "D 1 to 4"
+-- The greatest dimension D: "D 0 to 4", and in copying "D 1 to 4".
 abbrev pub maxDimension : ℕ
 maxDimension = 4
 
--- "counts 1 to 2,048"; and "copies over 2,048"
+-- The greatest count of a proper rank, "counts 1 to 2,048", which is also the greatest number of copies: 13 comes at "copies over 2,048".
 abbrev pub maxCount : ℕ
 maxCount = 2048
 
--- "at most 8,192 list entries a rank"
+-- The greatest number of list entries: "at most 8,192 list entries a rank".
 abbrev pub maxEntries : ℕ
 maxEntries = 8192
 
--- "coordinate magnitude at most 1,048,576", which is 2 ^ 20
+-- The greatest magnitude: "coordinate magnitude at most 1,048,576", which is 2 ^ 20.
 unfoldable pub maxMagnitude : Float
 maxMagnitude = ofBits binary64 0x4130_0000_0000_0000

@@ -1,4 +1,4 @@
--- Sections 1, 3 and 7, evaluated on bit patterns.
+-- The definitions of sections 1, 3 and 7, evaluated on bit patterns.
 -- Assumes nothing.
 use mathlib.Core.Path.{_≡_, refl}
 use Prim.Native.Nat.{ℕ}
@@ -16,7 +16,7 @@ use Rattle.spec.specs.Hull.{add as addPoint}
 use Rattle.spec.specs.Copying.{near, found, find, spread, copiesFrom, copies, copyRow, copyTable, orders, signed, axisOrder, axisOrders, parts, points, matrices, written, judgeCopy, copyOut, copyCall}
 use Rattle.spec.specs.Judged.{_>>_, judge}
 
--- To name it on an `unfolding` line opens every definition of sections 1, 3 and 7, but the last of copying
+-- This name on an `unfolding` line opens every definition of sections 1, 3 and 7, except the last ones of copying.
 unfoldable pub most : ℕ
 unfolding size units neg add sub mul div lt le eq ofBits toBits place holds range join every distinct without renumber
     eps zeroF oneF maxMagnitude absF finite inRange zip addOn total dot rootDown rootUnits root norm
@@ -25,12 +25,12 @@ unfolding size units neg add sub mul div lt le eq ofBits toBits place holds rang
     near found find spread copiesFrom copies orders signed axisOrder axisOrders parts points matrices _>>_ judge judgeCopy copyCall
 most = 0
 
--- and every one
+-- This name opens those as well.
 unfoldable pub all : ℕ
 unfolding most copyRow copyTable written copyOut
 all = 0
 
--- floats by their patterns
+-- Floats are given by their bit patterns.
 abbrev vec : List ℕ → List Float
 vec l = map (ofBits binary64) l
 
@@ -39,7 +39,7 @@ mat l = map vec l
 
 -- ---- roots
 
--- P: "root of 4 is 2; of 2 is 0x3FF6A09E667F3BCD"
+-- Proved, as the trial solids ask: "root of 4 is 2; of 2 is 0x3FF6A09E667F3BCD".
 pub root-of-4 : root (ofBits binary64 0x4010_0000_0000_0000) ≡ ofBits binary64 0x4000_0000_0000_0000
 unfolding all
 root-of-4 = refl
@@ -48,14 +48,14 @@ pub root-of-2 : root (ofBits binary64 0x4000_0000_0000_0000) ≡ ofBits binary64
 unfolding all
 root-of-2 = refl
 
--- zeros, infinity, what is below zero, and no number
+-- The roots of the zeros, of infinity, of values below zero, and of NaN.
 pub odd-roots : map root (vec (0 ∷ 0x8000_0000_0000_0000 ∷ 0x7ff0_0000_0000_0000 ∷ 0xbff0_0000_0000_0000 ∷ 0xfff0_0000_0000_0000 ∷ 0x7ff8_0000_0000_0000 ∷ []))
     ≡ vec (0 ∷ 0x8000_0000_0000_0000 ∷ 0x7ff0_0000_0000_0000 ∷ 0x7ff8_0000_0000_0000 ∷ 0x7ff8_0000_0000_0000 ∷ 0x7ff8_0000_0000_0000 ∷ [])
 unfolding all
 odd-roots = refl
 
--- the smallest and the largest values, neighbours of 1 (whose roots lie close to a midpoint), squares with their two neighbours, and others:
--- the answers are those of the processor
+-- The smallest and the largest values, neighbours of 1 (whose roots lie close to a midpoint), squares with their two neighbours, and others. The roots given
+-- here are those that the processor computes.
 pub roots : map root (vec (
     0x0000_0000_0000_0001 ∷ 0x0000_0000_0000_0002 ∷ 0x0000_0000_0000_0003 ∷ 0x0000_0000_0000_0004 ∷ 0x0000_0000_0000_0005 ∷ 0x000f_ffff_ffff_ffff ∷
     0x0010_0000_0000_0000 ∷ 0x0010_0000_0000_0001 ∷ 0x7fef_ffff_ffff_ffff ∷ 0x7fef_ffff_ffff_fffe ∷ 0x3fef_ffff_ffff_ffff ∷ 0x3fef_ffff_ffff_fffe ∷
@@ -107,12 +107,12 @@ pub image-3 : mulVec m3 (vec (0x3fb9_9999_9999_999a ∷ 0x3fc9_9999_9999_999a �
 unfolding all
 image-3 = refl
 
--- a quarter turn: one swap, and a minus zero on the way
+-- The inverse of a quarter turn takes one swap, and a minus zero comes up on the way.
 pub inverse-2 : inverse quarter ≡ some (mat ((0 ∷ 0x3ff0_0000_0000_0000 ∷ []) ∷ (0xbff0_0000_0000_0000 ∷ 0x8000_0000_0000_0000 ∷ []) ∷ []))
 unfolding all
 inverse-2 = refl
 
--- a tie in the first column: the lowest row
+-- The first column has a tie, and the lowest row is taken.
 pub inverse-3 : inverse m3 ≡ some (mat ((0x4010_efa4_8eae_9bb1 ∷ 0xbff1_bc99_b7de_e436 ∷ 0xbfd2_3aba_6ec1_86ff ∷ []) ∷ (0xbfe8_2443_0161_2866 ∷ 0x3fda_9ae6_93ce_5651 ∷ 0x3fe0_c058_4a19_9ea5 ∷ []) ∷ (0x4003_6648_211b_c99b ∷ 0x3fb7_a622_4a7e_85a1 ∷ 0xbfd0_4237_9336_fbdc ∷ []) ∷ []))
 unfolding all
 inverse-3 = refl
@@ -121,12 +121,12 @@ pub inverse-4 : inverse m4 ≡ some (mat ((0x3fbd_948a_4109_c65f ∷ 0x3fc0_f6ef
 unfolding all
 inverse-4 = refl
 
--- a NaN is never strictly larger: row 0 stays
+-- A NaN is never strictly larger, so that row 0 stays the pivot's.
 pub pivot-no-nan : pivotRow (mat ((0x3ff0_0000_0000_0000 ∷ []) ∷ (0x7ff8_0000_0000_0000 ∷ []) ∷ [])) 0 ≡ 0
 unfolding all
 pivot-no-nan = refl
 
--- singular
+-- A singular matrix has no inverse.
 pub inverse-flat : inverse flat3 ≡ none
 unfolding all
 inverse-flat = refl
@@ -150,33 +150,33 @@ pub distance-3 : distance 3 (hullOf 3 (mat ((0x3fd3_3333_3333_3333 ∷ 0x3ffb_33
 unfolding all
 distance-3 = refl
 
--- all of space: the origin is a rounding away
+-- This hull is all of space, so that its distance from the origin is a rounding error.
 pub distance-full : distance 3 (hullOf 3 (mat ((0x3fd3_3333_3333_3333 ∷ 0x3ffb_3333_3333_3333 ∷ 0xc001_9999_9999_999a ∷ []) ∷ (0x3ff1_9999_9999_999a ∷ 0x3fd9_9999_9999_999a ∷ 0x3fec_cccc_cccc_cccd ∷ []) ∷ (0xbfe6_6666_6666_6666 ∷ 0x4004_0000_0000_0000 ∷ 0x3fb9_9999_9999_999a ∷ []) ∷ (0x3fc9_9999_9999_999a ∷ 0x3fc9_9999_9999_999a ∷ 0x3fc9_9999_9999_999a ∷ []) ∷ []))) ≡ ofBits binary64 0x3cc6_d34f_03cd_a114
 unfolding all
 distance-full = refl
 
--- the third point lies between the first two: 2 vectors
+-- The third point lies between the first two, so that the basis has 2 vectors.
 pub distance-4 : distance 4 (hullOf 4 (mat ((0x3ff0_0000_0000_0000 ∷ 0x3fe0_0000_0000_0000 ∷ 0xbfd0_0000_0000_0000 ∷ 0x4008_0000_0000_0000 ∷ []) ∷ (0x4000_0000_0000_0000 ∷ 0x3ff0_0000_0000_0000 ∷ 0x3fb9_9999_9999_999a ∷ 0xbff0_0000_0000_0000 ∷ []) ∷ (0x3ff8_0000_0000_0000 ∷ 0x3fe8_0000_0000_0000 ∷ 0xbfb3_3333_3333_3333 ∷ 0x3ff0_0000_0000_0000 ∷ []) ∷ (0x3fe3_3333_3333_3333 ∷ 0xbff1_9999_9999_999a ∷ 0x4001_9999_9999_999a ∷ 0x3fd9_9999_9999_999a ∷ []) ∷ []))) ≡ ofBits binary64 0x3ff8_c6ed_33d7_6472
 unfolding all
 distance-4 = refl
 
--- "Stop at D vectors": a basis of one vector in one dimension takes no more, though the point 1 lies off what it spans
+-- "Stop at D vectors": a basis of one vector in one dimension takes no more, though the point 1 would join.
 pub hull-stops : addAll 1 (record { offset = vec (0 ∷ []); basis = mat ((0x3fe0_0000_0000_0000 ∷ []) ∷ []) }) (mat ((0x3ff0_0000_0000_0000 ∷ []) ∷ []))
     ≡ record { offset = vec (0 ∷ []); basis = mat ((0x3fe0_0000_0000_0000 ∷ []) ∷ []) }
 unfolding all
 hull-stops = refl
 
--- no dimension
+-- In no dimensions the distance is 0.
 pub hull-0 : distance 0 (hullOf 0 ([] ∷ [])) ≡ zeroF
 unfolding all
 hull-0 = refl
 
--- "above EPS": EPS itself does not join, the next value does
+-- "above EPS": a length of EPS itself does not join, and the next value does.
 pub joins-at-eps : map (λ p. joins (record { offset = vec (0 ∷ []); basis = [] }) (vec (p ∷ []))) (0x3e7a_d7f2_9abc_af48 ∷ 0x3e7a_d7f2_9abc_af49 ∷ []) ≡ nothing ∷ joined (ofBits binary64 0x3e7a_d7f2_9abc_af49) ∷ []
 unfolding all
 joins-at-eps = refl
 
--- two listed values near: the smaller; EPS apart: another class
+-- Where two listed values are near, the smaller is taken; a distance that is EPS away from them has another class.
 pub classes-8 : classes (vec (0x3e84_21f5_f40d_8376 ∷ 0 ∷ 0x3e75_798e_e230_8c3a ∷ 0x3e7a_d7f2_9abc_af48 ∷ 0x3ff0_0000_0000_0000 ∷ 0x3ff0_0000_1ad7_f29a ∷ 0x3ff0_0000_1ad7_f29b ∷ 0x3ff0_0000_35af_e535 ∷ []))
     ≡ vec (0x3e84_21f5_f40d_8376 ∷ 0 ∷ 0 ∷ 0x3e84_21f5_f40d_8376 ∷ 0x3ff0_0000_0000_0000 ∷ 0x3ff0_0000_0000_0000 ∷ 0x3ff0_0000_1ad7_f29b ∷ 0x3ff0_0000_1ad7_f29b ∷ [])
 unfolding all
@@ -187,115 +187,115 @@ pub classes-8-numbers : classNumbers (vec (0x3e84_21f5_f40d_8376 ∷ 0 ∷ 0x3e7
 unfolding all
 classes-8-numbers = refl
 
--- P: at 0 and 1e-7 "two vertex types"
+-- Proved, as the trial solids ask: at 0 and 1e-7 there are "two vertex types".
 pub classes-at-eps : classNumbers (vec (0 ∷ 0x3e7a_d7f2_9abc_af48 ∷ [])) ≡ 0 ∷ 1 ∷ []
 unfolding all
 classes-at-eps = refl
 
 -- ---- copying
 
--- P: "A quarter turn alone on (1,0): 14"
+-- Proved, as the trial solids ask: "A quarter turn alone on (1,0): 14".
 pub quarter-alone : copyCall 2 (vec (0x3ff0_0000_0000_0000 ∷ 0 ∷ [])) (vec (0 ∷ 0xbff0_0000_0000_0000 ∷ 0x3ff0_0000_0000_0000 ∷ 0 ∷ [])) (vec (0x401c_0000_0000_0000 ∷ 0x401c_0000_0000_0000 ∷ 0x401c_0000_0000_0000 ∷ 0x401c_0000_0000_0000 ∷ [])) (7 ∷ 7 ∷ 7 ∷ [])
     ≡ (Refused Open 1, vec (0 ∷ 0x3ff0_0000_0000_0000 ∷ 0x401c_0000_0000_0000 ∷ 0x401c_0000_0000_0000 ∷ []), 65535 ∷ 7 ∷ 7 ∷ [])
 unfolding all
 quarter-alone = refl
 
--- the identity and a half turn: the second point is found among the copies, and is passed over; cells past the answer stay
+-- Under the identity and a half turn, the second point is found among the copies and is passed over. The cells past the answer stay as they were.
 pub half-turn : copyCall 2 (vec (0x3ff0_0000_0000_0000 ∷ 0x4000_0000_0000_0000 ∷ 0xbff0_0000_0000_0000 ∷ 0xc000_0000_0000_0000 ∷ [])) (vec (0x3ff0_0000_0000_0000 ∷ 0 ∷ 0 ∷ 0x3ff0_0000_0000_0000 ∷ 0xbff0_0000_0000_0000 ∷ 0 ∷ 0 ∷ 0xbff0_0000_0000_0000 ∷ [])) (vec (0x401c_0000_0000_0000 ∷ 0x401c_0000_0000_0000 ∷ 0x401c_0000_0000_0000 ∷ 0x401c_0000_0000_0000 ∷ 0x401c_0000_0000_0000 ∷ [])) (7 ∷ 7 ∷ 7 ∷ 7 ∷ 7 ∷ [])
     ≡ (Done 2, vec (0x3ff0_0000_0000_0000 ∷ 0x4000_0000_0000_0000 ∷ 0xbff0_0000_0000_0000 ∷ 0xc000_0000_0000_0000 ∷ 0x401c_0000_0000_0000 ∷ []), 0 ∷ 1 ∷ 1 ∷ 0 ∷ 7 ∷ [])
 unfolding all
 half-turn = refl
 
--- 1 under [2] and [3]: an image is not multiplied again
+-- The point 1 under the matrices [2] and [3]: an image is not multiplied again.
 pub images-once : copies (mat ((0x4000_0000_0000_0000 ∷ []) ∷ []) ∷ mat ((0x4008_0000_0000_0000 ∷ []) ∷ []) ∷ []) (mat ((0x3ff0_0000_0000_0000 ∷ []) ∷ []))
     ≡ mat ((0x4000_0000_0000_0000 ∷ []) ∷ (0x4008_0000_0000_0000 ∷ []) ∷ [])
 unfolding all
 images-once = refl
 
--- near both points: the lowest number; near none: how many there are
+-- A point that is near both points finds the lowest number, and a point that is near none finds how many there are.
 pub lowest-found : map (find (mat ((0 ∷ []) ∷ (0x3e80_0000_0000_0000 ∷ []) ∷ []))) (mat ((0x3e70_0000_0000_0000 ∷ []) ∷ (0x3ff0_0000_0000_0000 ∷ []) ∷ [])) ≡ 0 ∷ 2 ∷ []
 unfolding all
 lowest-found = refl
 
--- a point EPS away (as rounded: beyond EPS) from a copy
+-- A point that is EPS away from a copy, and as rounded beyond EPS, is not found and joins.
 pub near-copies : copyCall 2 (vec (0x3ff0_0000_0000_0000 ∷ 0 ∷ 0x3ff0_0000_1ad7_f29b ∷ 0 ∷ [])) (vec (0x3ff0_0000_0000_0000 ∷ 0 ∷ 0 ∷ 0x3ff0_0000_0000_0000 ∷ [])) (vec (0x401c_0000_0000_0000 ∷ 0x401c_0000_0000_0000 ∷ 0x401c_0000_0000_0000 ∷ 0x401c_0000_0000_0000 ∷ [])) (7 ∷ 7 ∷ [])
     ≡ (Done 2, vec (0x3ff0_0000_0000_0000 ∷ 0 ∷ 0x3ff0_0000_1ad7_f29b ∷ 0 ∷ []), 0 ∷ 1 ∷ [])
 unfolding all
 near-copies = refl
 
--- half of the first is within EPS of both: the lower number, and not the lower coordinate
+-- Half of the first point is within EPS of both copies. The lower number is found, and not the lower coordinate.
 pub lowest-number : copyCall 1 (vec (0x3e85_798e_e230_8c3a ∷ 0 ∷ [])) (vec (0x3ff0_0000_0000_0000 ∷ 0x3fe0_0000_0000_0000 ∷ [])) (vec (0x401c_0000_0000_0000 ∷ 0x401c_0000_0000_0000 ∷ [])) (7 ∷ 7 ∷ 7 ∷ 7 ∷ [])
     ≡ (Done 2, vec (0x3e85_798e_e230_8c3a ∷ 0 ∷ []), 0 ∷ 1 ∷ 0 ∷ 1 ∷ [])
 unfolding all
 lowest-number = refl
 
--- 2: D is 5; and a length is broken too
+-- 2 comes first: D is 5, and a length is broken too.
 pub refused-2 : copyCall 5 (vec (0x3ff0_0000_0000_0000 ∷ [])) (vec (0x3ff0_0000_0000_0000 ∷ [])) (vec (0x401c_0000_0000_0000 ∷ [])) (7 ∷ [])
     ≡ (Refused Format 0, vec (0x401c_0000_0000_0000 ∷ []), 7 ∷ [])
 unfolding all
 refused-2 = refl
 
--- 2: D is 0
+-- 2 comes where D is 0.
 pub refused-2-0 : copyCall 0 (vec ([])) (vec ([])) (vec (0x401c_0000_0000_0000 ∷ [])) (7 ∷ [])
     ≡ (Refused Format 0, vec (0x401c_0000_0000_0000 ∷ []), 7 ∷ [])
 unfolding all
 refused-2-0 = refl
 
--- 1: a point and a half
+-- 1 comes for a point and a half.
 pub refused-1 : copyCall 2 (vec (0x3ff0_0000_0000_0000 ∷ 0 ∷ 0x3ff0_0000_0000_0000 ∷ [])) (vec (0 ∷ 0xbff0_0000_0000_0000 ∷ 0x3ff0_0000_0000_0000 ∷ 0 ∷ [])) (vec (0x401c_0000_0000_0000 ∷ 0x401c_0000_0000_0000 ∷ 0x401c_0000_0000_0000 ∷ 0x401c_0000_0000_0000 ∷ [])) (7 ∷ [])
     ≡ (Refused CutSheet 0, vec (0x401c_0000_0000_0000 ∷ 0x401c_0000_0000_0000 ∷ 0x401c_0000_0000_0000 ∷ 0x401c_0000_0000_0000 ∷ []), 7 ∷ [])
 unfolding all
 refused-1 = refl
 
--- 1: a matrix and a bit, not finite
+-- 1 comes for a matrix and one more entry, and before 3, although that entry is not finite.
 pub refused-1-matrix : copyCall 2 (vec (0x3ff0_0000_0000_0000 ∷ 0 ∷ [])) (vec (0 ∷ 0xbff0_0000_0000_0000 ∷ 0x3ff0_0000_0000_0000 ∷ 0 ∷ 0x7ff0_0000_0000_0000 ∷ [])) (vec (0x401c_0000_0000_0000 ∷ 0x401c_0000_0000_0000 ∷ 0x401c_0000_0000_0000 ∷ 0x401c_0000_0000_0000 ∷ [])) (7 ∷ [])
     ≡ (Refused CutSheet 0, vec (0x401c_0000_0000_0000 ∷ 0x401c_0000_0000_0000 ∷ 0x401c_0000_0000_0000 ∷ 0x401c_0000_0000_0000 ∷ []), 7 ∷ [])
 unfolding all
 refused-1-matrix = refl
 
--- 3: a coordinate too large
+-- 3 comes for a coordinate that is too large.
 pub refused-3 : copyCall 2 (vec (0x3ff0_0000_0000_0000 ∷ 0x4130_0001_0000_0000 ∷ [])) (vec (0 ∷ 0xbff0_0000_0000_0000 ∷ 0x3ff0_0000_0000_0000 ∷ 0 ∷ [])) (vec (0x401c_0000_0000_0000 ∷ 0x401c_0000_0000_0000 ∷ 0x401c_0000_0000_0000 ∷ 0x401c_0000_0000_0000 ∷ [])) (7 ∷ [])
     ≡ (Refused OffTheBoard 0, vec (0x401c_0000_0000_0000 ∷ 0x401c_0000_0000_0000 ∷ 0x401c_0000_0000_0000 ∷ 0x401c_0000_0000_0000 ∷ []), 7 ∷ [])
 unfolding all
 refused-3 = refl
 
--- 3: a matrix entry that is no number; and no points
+-- 3 comes for a matrix entry that is not a number, and before 12, although there are no points.
 pub refused-3-nan : copyCall 2 (vec ([])) (vec (0 ∷ 0x3ff0_0000_0000_0000 ∷ 0x7ff8_0000_0000_0000 ∷ 0 ∷ [])) (vec (0x401c_0000_0000_0000 ∷ 0x401c_0000_0000_0000 ∷ 0x401c_0000_0000_0000 ∷ 0x401c_0000_0000_0000 ∷ [])) (7 ∷ [])
     ≡ (Refused OffTheBoard 0, vec (0x401c_0000_0000_0000 ∷ 0x401c_0000_0000_0000 ∷ 0x401c_0000_0000_0000 ∷ 0x401c_0000_0000_0000 ∷ []), 7 ∷ [])
 unfolding all
 refused-3-nan = refl
 
--- the largest magnitude allowed
+-- The largest magnitude that is allowed passes.
 pub at-the-limit : copyCall 1 (vec (0xc130_0000_0000_0000 ∷ [])) (vec (0x3ff0_0000_0000_0000 ∷ [])) (vec (0x401c_0000_0000_0000 ∷ [])) (7 ∷ [])
     ≡ (Done 1, vec (0xc130_0000_0000_0000 ∷ []), 0 ∷ [])
 unfolding all
 at-the-limit = refl
 
--- 12: no points
+-- 12 comes where there are no points.
 pub refused-12 : copyCall 2 (vec ([])) (vec (0 ∷ 0xbff0_0000_0000_0000 ∷ 0x3ff0_0000_0000_0000 ∷ 0 ∷ [])) (vec (0x401c_0000_0000_0000 ∷ 0x401c_0000_0000_0000 ∷ 0x401c_0000_0000_0000 ∷ 0x401c_0000_0000_0000 ∷ [])) (7 ∷ [])
     ≡ (Refused Blank 0, vec (0x401c_0000_0000_0000 ∷ 0x401c_0000_0000_0000 ∷ 0x401c_0000_0000_0000 ∷ 0x401c_0000_0000_0000 ∷ []), 7 ∷ [])
 unfolding all
 refused-12 = refl
 
--- 12: no matrices
+-- 12 comes where there are no matrices.
 pub refused-12-matrices : copyCall 2 (vec (0x3ff0_0000_0000_0000 ∷ 0 ∷ [])) (vec ([])) (vec (0x401c_0000_0000_0000 ∷ 0x401c_0000_0000_0000 ∷ 0x401c_0000_0000_0000 ∷ 0x401c_0000_0000_0000 ∷ [])) (7 ∷ [])
     ≡ (Refused Blank 0, vec (0x401c_0000_0000_0000 ∷ 0x401c_0000_0000_0000 ∷ 0x401c_0000_0000_0000 ∷ 0x401c_0000_0000_0000 ∷ []), 7 ∷ [])
 unfolding all
 refused-12-matrices = refl
 
--- 13: room for one point and a half; the point that fitted is kept
+-- 13 comes where there is room for one point and a half. The point that fitted is kept.
 pub refused-13-points : copyCall 2 (vec (0x3ff0_0000_0000_0000 ∷ 0x4000_0000_0000_0000 ∷ [])) (vec (0x3ff0_0000_0000_0000 ∷ 0 ∷ 0 ∷ 0x3ff0_0000_0000_0000 ∷ 0xbff0_0000_0000_0000 ∷ 0 ∷ 0 ∷ 0xbff0_0000_0000_0000 ∷ [])) (vec (0x401c_0000_0000_0000 ∷ 0x401c_0000_0000_0000 ∷ 0x401c_0000_0000_0000 ∷ [])) (7 ∷ 7 ∷ 7 ∷ 7 ∷ 7 ∷ 7 ∷ 7 ∷ 7 ∷ 7 ∷ [])
     ≡ (Refused ShortSheet 1, vec (0x3ff0_0000_0000_0000 ∷ 0x4000_0000_0000_0000 ∷ 0x401c_0000_0000_0000 ∷ []), 7 ∷ 7 ∷ 7 ∷ 7 ∷ 7 ∷ 7 ∷ 7 ∷ 7 ∷ 7 ∷ [])
 unfolding all
 refused-13-points = refl
 
--- 13: the points fit, the table does not
+-- 13 comes where the points fit and the table does not.
 pub refused-13-table : copyCall 2 (vec (0x3ff0_0000_0000_0000 ∷ 0x4000_0000_0000_0000 ∷ [])) (vec (0x3ff0_0000_0000_0000 ∷ 0 ∷ 0 ∷ 0x3ff0_0000_0000_0000 ∷ 0xbff0_0000_0000_0000 ∷ 0 ∷ 0 ∷ 0xbff0_0000_0000_0000 ∷ [])) (vec (0x401c_0000_0000_0000 ∷ 0x401c_0000_0000_0000 ∷ 0x401c_0000_0000_0000 ∷ 0x401c_0000_0000_0000 ∷ 0x401c_0000_0000_0000 ∷ [])) (7 ∷ 7 ∷ 7 ∷ [])
     ≡ (Refused ShortSheet 2, vec (0x3ff0_0000_0000_0000 ∷ 0x4000_0000_0000_0000 ∷ 0xbff0_0000_0000_0000 ∷ 0xc000_0000_0000_0000 ∷ 0x401c_0000_0000_0000 ∷ []), 7 ∷ 7 ∷ 7 ∷ [])
 unfolding all
 refused-13-table = refl
 
--- 13 comes before 14
+-- 13 comes before 14.
 pub refused-13-before-14 : copyCall 2 (vec (0x3ff0_0000_0000_0000 ∷ 0 ∷ [])) (vec (0 ∷ 0xbff0_0000_0000_0000 ∷ 0x3ff0_0000_0000_0000 ∷ 0 ∷ [])) (vec (0x401c_0000_0000_0000 ∷ 0x401c_0000_0000_0000 ∷ 0x401c_0000_0000_0000 ∷ 0x401c_0000_0000_0000 ∷ [])) ([])
     ≡ (Refused ShortSheet 1, vec (0 ∷ 0x3ff0_0000_0000_0000 ∷ 0x401c_0000_0000_0000 ∷ 0x401c_0000_0000_0000 ∷ []), [])
 unfolding all

@@ -1,5 +1,5 @@
--- Section 2, the sheet the other way round: the bytes of what a sheet says. "The sheet (added) is bit-packed, most significant first";
--- what may be packed; and what is proved of packing and reading.
+-- Section 2's sheet the other way round: the bytes that say what a sheet says. "The sheet (added) is bit-packed, most significant first". The file also says
+-- what may be packed, and what is proved of packing and reading.
 -- Assumes nothing.
 use mathlib.Core.Path.{_≡_, refl}
 use Prim.Native.Nat.{ℕ, zero, suc, _+_, _-_, _*_, _/_, _%_, _≤_, _<_}
@@ -16,24 +16,24 @@ use Rattle.spec.specs.Sheet.{Parsed, vertexCount, readSheet}
 
 -- ---- the bits
 
--- "most significant first": the w bits of n
+-- The w bits of n, "most significant first".
 unfoldable pub bitsOf : ℕ → ℕ → List ℕ
 bitsOf zero n = []
 bitsOf (suc w) n = bitsOf w (n / 2) ++ (n % 2 ∷ [])
 
--- "each vertex's D coordinates, 64 bits each (binary64)"
+-- "each vertex's D coordinates, 64 bits each (binary64)".
 unfoldable pub pointBits : List Float → List ℕ
 pointBits v = join (map (λ x. bitsOf 64 (toBits binary64 x)) v)
 
--- "each element's list: length, 12 bits; subs, 11 each"
+-- "each element's list: length, 12 bits; subs, 11 each".
 unfoldable pub listBits : List ℕ → List ℕ
 listBits l = bitsOf 12 (length l) ++ join (map (bitsOf 11) l)
 
--- the lists of a rank's elements
+-- The lists of a rank's elements.
 unfoldable pub rankBits : List (List ℕ) → List ℕ
 rankBits ls = join (map listBits ls)
 
--- "R, 3 bits; dimension D, 3; for each proper rank its count, 12. Then each vertex's D coordinates .. Then, for ranks 2 to R−1, each element's list"
+-- "R, 3 bits; dimension D, 3; for each proper rank its count, 12. Then each vertex's D coordinates .. Then, for ranks 2 to R−1, each element's list".
 unfoldable pub packBits : Parsed → List ℕ
 packBits p =
     bitsOf 3 (p .rank)
@@ -44,86 +44,86 @@ packBits p =
 
 -- ---- the bytes
 
--- the number that the w bits of l from bit i on are, the first the highest; "zero bits fill the last byte"
+-- The number that is written in the w bits of l from bit i on, the first of them being the highest. Bits past the end are 0: "Zero bits fill the last byte".
 unfoldable pub number : List ℕ → ℕ → ℕ → ℕ
 number l i zero = 0
 number l i (suc w) = 2 * number l i w + getD l (i + w) 0
 
--- n bytes, of eight bits each
+-- The first n bytes, of eight bits each.
 unfoldable pub bytesFrom : ℕ → List ℕ → List ℕ
 bytesFrom zero l = []
 bytesFrom (suc n) l = number l 0 8 ∷ bytesFrom n (drop 8 l)
 
--- as many as hold the bits
+-- As many bytes as it takes to hold the bits.
 unfoldable pub bytesOf : List ℕ → List ℕ
 bytesOf l = bytesFrom ((length l + 7) / 8) l
 
 unfoldable pub pack : Parsed → List ℕ
 pack p = bytesOf (packBits p)
 
--- b is a list of bytes
+-- The list b is a list of bytes.
 abbrev pub Bytes : List ℕ → Type 0
 Bytes b = (x : ℕ) → In x b → x < 256
 
 -- ---- what may be packed: section 2's limits, and refusals 3 and 4 not met
 
--- a coordinate: a binary64 in range
+-- A coordinate has to be a binary64 that is in range.
 pub record AllowedCoordinate (x : Float) : Type 0 where
   pub binary : fits binary64 x ≡ true
   pub range : inRange x ≡ true
 
--- a vertex's coordinates, D of them
+-- A vertex has to have D coordinates, each of them allowed.
 pub record AllowedPoint (D : ℕ) (v : List Float) : Type 0 where
   pub wide : length v ≡ D
   pub coordinates : (x : Float) → In x v → AllowedCoordinate x
 
--- an element's list: not empty, strictly rising, below c, the count of the rank below
+-- An element's list may not be empty, and it has to rise strictly and to stay below c, the count of the rank below.
 pub record AllowedList (c : ℕ) (l : List ℕ) : Type 0 where
   pub filled : 0 < length l
   pub rising : Rising l
   pub below : (x : ℕ) → In x l → x < c
 
--- a rank's n lists; "at most 8,192 list entries a rank"
+-- A rank has to have n lists, with "at most 8,192 list entries a rank".
 pub record AllowedRank (c n : ℕ) (ls : List (List ℕ)) : Type 0 where
   pub sized : length ls ≡ n
   pub each : (l : List ℕ) → In l ls → AllowedList c l
   pub entries : sum (map length ls) ≤ maxEntries
 
 pub record Allowed (p : Parsed) : Type 0 where
-  -- "R 0 to 5, D 0 to 4"
+  -- "R 0 to 5, D 0 to 4".
   pub tall : p .rank ≤ maxRank
   pub wide : p .dimension ≤ maxDimension
-  -- "for each proper rank its count"; "counts 1 to 2,048"
+  -- "for each proper rank its count", and "counts 1 to 2,048".
   pub counted : length (p .counts) ≡ p .rank - 1
   pub counts : (n : ℕ) → In n (p .counts) → (0 < n) × (n ≤ maxCount)
-  -- "each vertex's D coordinates"
+  -- "each vertex's D coordinates".
   pub pointed : length (p .points) ≡ vertexCount (p .rank) (p .counts)
   pub points : (v : List Float) → In v (p .points) → AllowedPoint (p .dimension) v
-  -- "for ranks 2 to R−1, each element's list": rank 2 is the first of `lists`, and the second of `counts`
+  -- "for ranks 2 to R−1, each element's list": rank 2 is the first of `lists`, and the second of `counts`.
   pub listed : length (p .lists) ≡ length (p .counts) - 1
   pub lists : (r : ℕ) → suc r < length (p .counts) → AllowedRank (getD (p .counts) r 0) (getD (p .counts) (suc r) 0) (getD (p .lists) r [])
 
 -- ---- what is proved of packing and reading
 
 pub record RoundTrip : Type 0 where
-  -- the bytes of what was read are those that were read
+  -- The bytes of what was read are those that were read.
   pub packs : (b : List ℕ) (p : Parsed) → Bytes b → readSheet b ≡ passed p → pack p ≡ b
-  -- packing an accepted solid and reading it gives it back
+  -- Packing an accepted solid and reading it gives it back.
   pub again : (b : List ℕ) (p : Parsed) → Bytes b → readSheet b ≡ passed p → readSheet (pack p) ≡ passed p
-  -- two accepted sheets with the same reading are the same bytes
+  -- Two accepted sheets with the same reading are the same bytes.
   pub once : (a b : List ℕ) (p : Parsed) → Bytes a → Bytes b → readSheet a ≡ passed p → readSheet b ≡ passed p → a ≡ b
 
--- whatever may be packed is read back from its bytes
+-- Whatever may be packed is read back from its bytes.
 abbrev pub PackedAllowed : Type 0
 PackedAllowed = (p : Parsed) → Allowed p → (readSheet (pack p) ≡ passed p) × Bytes (pack p)
 
--- and nothing else is ever read
+-- Nothing else is ever read.
 abbrev pub ReadAllowed : Type 0
 ReadAllowed = (b : List ℕ) (p : Parsed) → readSheet b ≡ passed p → Allowed p
 
 -- ---- an example
 
--- R = 2 at −1 and 1
+-- The bytes of R = 2 at −1 and 1.
 pub packed-pair : pack (record {
   rank = 2;
   dimension = 1;

@@ -1,4 +1,4 @@
--- What holds of every solid that passes preflight; and what the exchange of facets keeps.
+-- What holds of every solid that passes preflight, and what the exchange of facets keeps.
 -- Assumes nothing.
 use mathlib.Core.Path.{_≡_}
 use Prim.Native.Nat.{ℕ, suc, _-_, _≤_, _<_}
@@ -16,7 +16,7 @@ use Rattle.spec.specs.Sheet.{Parsed, readSheet}
 use Rattle.spec.specs.Solid.{Concrete, solidOf, bound, diamond, preflight}
 use Rattle.spec.specs.Search.{exchangedIn}
 
--- The sheet was read, the solid is the one that the sheet says, it is as section 2 allows, and neither 5 nor 6 is met
+-- The sheet was read, the solid is the one that the sheet says, it is as section 2 allows, and neither 5 nor 6 applies to it.
 pub record Passed (b : List ℕ) (c : Concrete) : Type 0 where
   pub parsed : Parsed
   pub read : readSheet b ≡ passed parsed
@@ -25,14 +25,14 @@ pub record Passed (b : List ℕ) (c : Concrete) : Type 0 where
   pub dimension : c .dimension ≡ parsed .dimension
   pub same-points : c .points ≡ parsed .points
   pub sound : Sound (c .abs)
-  -- it keeps to the limits of section 2
+  -- The solid keeps to the limits of section 2.
   pub tall : top (c .abs) ≤ maxRank
   pub wide : c .dimension ≤ maxDimension
   pub sizes : (r : ℕ) → r ≤ top (c .abs) → (0 < size (c .abs) r) × (size (c .abs) r ≤ maxCount)
-  -- each vertex has a point, of D coordinates that are on the board
+  -- Each vertex has a point, with D coordinates that are on the board.
   pub points : length (c .points) ≡ size (c .abs) 1
   pub coordinates : (x : List Float) → In x (c .points) → (length x ≡ c .dimension) × ((y : Float) → In y x → inRange y ≡ true)
-  -- every element but the least has a sub
+  -- Every element but the least has a sub.
   pub filled : (r e : ℕ) → e < size (c .abs) (suc r) → 0 < length (subs (c .abs) (suc r) e)
   pub joined : bound (c .abs) ≡ true
   pub diamonds : diamond (c .abs) ≡ true
@@ -40,7 +40,7 @@ pub record Passed (b : List ℕ) (c : Concrete) : Type 0 where
 abbrev pub EveryPassed : Type 0
 EveryPassed = (b : List ℕ) (words floats : ℕ) (c : Concrete) → preflight b words floats ≡ passed c → Passed b c
 
--- The exchange of facets keeps what section 2 and the diamond ask, every rank's size, and the verdict of the test behind refusal 5
+-- The exchange of facets keeps what section 2 and the diamond ask, every rank's size, and the verdict of the test behind refusal 5.
 pub record Kept (s t : Solid) : Type 0 where
   pub sound : Sound t
   pub diamonds : diamond t ≡ true

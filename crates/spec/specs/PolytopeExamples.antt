@@ -10,7 +10,7 @@ use Rattle.spec.specs.Types.{subs}
 use Rattle.spec.specs.Polytope.{Element, element, IsElement, AtMost, itself, over, Comparable, leastElement, topElement, IsChain, IsMaximal, elementsOf, ExactlyTwo, Between, Diamonds}
 use Rattle.spec.specs.SolidExamples.{square}
 
--- corner 1 is at most edge 0, and at most the top
+-- Corner 1 is at most edge 0, and at most the top.
 pub corner-edge : AtMost square (element 1 1) (element 2 0)
 unfolding subs
 corner-edge = over itself (refl, inr (inl refl))
@@ -19,7 +19,7 @@ pub corner-top : AtMost square (element 1 1) (topElement square)
 unfolding subs
 corner-top = over corner-edge (refl, inl refl)
 
--- the least element alone is a chain
+-- The least element alone is a chain.
 pub lone-chain : IsChain square (leastElement ∷ [])
 lone-chain = record { elements = elements; comparable = comparable }
   where
@@ -29,16 +29,16 @@ lone-chain = record { elements = elements; comparable = comparable }
     comparable : (F G : Element) → In F (leastElement ∷ []) → In G (leastElement ∷ []) → Comparable square F G
     comparable F G (inl q) (inl p) = rw (q, p) (inl itself)
 
--- so the empty chain is not maximal
+-- So the empty chain is not maximal.
 pub not-maximal : ¬ IsMaximal square []
 not-maximal w = w .largest (leastElement ∷ []) lone-chain (λ F m. absurd m) leastElement (inl refl)
 
--- the ranks of the least element and of edge 0 differ by two, so P4 asks for exactly two elements between them, the edge's two corners
+-- The ranks of the least element and of edge 0 differ by two, so P4 asks for exactly two elements between them, which are the edge's two corners.
 pub corners : Diamonds square → ExactlyTwo (Between square leastElement (element 2 0))
 unfolding subs
 corners d = d leastElement (element 2 0) (omega arith, lit< tt) (lit< tt, lit< tt) (over (over itself (refl, inl refl)) (refl, inl refl), λ e. omega (arith, ap (λ (H : Element). H .rank) e)) refl
 
--- what the theorems say of the square: the elements of its first flag are a maximal chain, and it has P4
+-- What the theorems say of the square: the elements of its first flag are a maximal chain, and P4 holds.
 pub record OfSquare : Type 0 where
   pub chain : IsMaximal square (elementsOf (0 ∷ 0 ∷ 0 ∷ 0 ∷ []))
   pub diamonds : Diamonds square

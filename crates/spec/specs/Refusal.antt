@@ -7,7 +7,7 @@ use Rattle.spec.specs.declared.Refusal.the-variants.{CutSheet, Format, O
 use Rattle.spec.specs.declared.Answer.{Answer}
 use Rattle.spec.specs.declared.Answer.the-variants.{Done, Refused}
 
--- the column "No."
+-- The column "No.".
 abbrev pub number : Refusal → ℕ
 number CutSheet = 1
 number Format = 2
@@ -25,17 +25,17 @@ number ShortSheet = 13
 number Open = 14
 number Unsettled = 15
 
--- an answer's number: the refusal's, or 0 where the call gave its result
+-- The number of an answer, which is the refusal's, or 0 where the call gave its result.
 abbrev pub answerNumber : Answer → ℕ
 answerNumber (Done n) = 0
 answerNumber (Refused why n) = number why
 
--- an answer's value: how many types, members or copies there are; at 13, how many members or points fitted; at 14, how many copies; else 0
+-- The value of an answer: how many types, members or copies there are; at 13, how many members or points fitted; at 14, how many copies; and otherwise 0.
 abbrev pub answerCount : Answer → ℕ
 answerCount (Done n) = n
 answerCount (Refused why n) = n
 
--- the column "Word"
+-- The column "Word".
 abbrev pub word : Refusal → String
 word CutSheet = "cut sheet"
 word Format = "format"

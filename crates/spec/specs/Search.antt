@@ -1,4 +1,4 @@
--- Section 6: the search, its members, and their marks; and of the preflight answers 8, 9, 10, 15 and 11.
+-- Section 6: the search, its members, and their marks; and the preflight answers 8, 9, 10, 15 and 11.
 -- Assumes nothing.
 use Prim.Native.Nat.{ℕ, zero, suc, _-_}
 use mathlib.Core.Bool.{Bool, true, false, _&&_}
@@ -21,7 +21,7 @@ use Rattle.spec.specs.Classes.{pointOf, distanceOf, classTable, byTable,
 
 -- ---- the exchange of facets
 
--- the first of the facets fs "whose hull is further than EPS from the origin"
+-- The first of the facets fs "whose hull is further than EPS from the origin".
 unfoldable pub firstFar : Concrete → List ℕ → Option ℕ
 firstFar c [] = none
 firstFar c (f ∷ fs) = elim (lt eps (distanceOf c (top (c .abs) - 1) f)) [ true ↦ some f | false ↦ firstFar c fs ]
@@ -29,11 +29,12 @@ firstFar c (f ∷ fs) = elim (lt eps (distanceOf c (top (c .abs) - 1) f)) [ true
 unfoldable pub swapWithFirst : List (List ℕ) → ℕ → List (List ℕ)
 swapWithFirst l f = set (set l f (getD l 0 [])) 0 (getD l f [])
 
--- "changes places with facet 0; ridges' sups follow": they are derived. "For R = 2 coordinates don't move": the facets' lists are alike, and nothing does
+-- Facet f "changes places with facet 0; ridges' sups follow", because they are derived. "For R = 2 coordinates don't move": the facets' lists are alike
+-- there, and nothing moves.
 unfoldable pub exchangedIn : Solid → ℕ → Solid
 exchangedIn s f = set s (top s - 1) (swapWithFirst (getD s (top s - 1) []) f)
 
--- the exchanged solid, with its vertices where they were
+-- The exchanged solid, with its vertices where they were.
 unfoldable pub exchanged : Concrete → ℕ → Concrete
 exchanged c f = record { dimension = c .dimension; points = c .points; abs = exchangedIn (c .abs) f }
 
@@ -43,16 +44,16 @@ unfoldable pub changes : Solid → List ℕ → Flag → Flag
 changes s [] F = F
 changes s (r ∷ rs) F = changes s rs (change s r F)
 
--- "its vertex; then .. change ranks 1 to R−1 in turn and take the vertex": n vertices
+-- "its vertex; then .. change ranks 1 to R−1 in turn and take the vertex", until there are n vertices.
 unfoldable pub walk : Solid → ℕ → Flag → List ℕ
 walk s zero F = []
 walk s (suc n) F = elementAt F 1 ∷ walk s n (changes s (properRanks s) F)
 
--- "A flag's columns", D of them
+-- "A flag's columns", of which there are D.
 unfoldable pub flagColumns : Concrete → Flag → Matrix
 flagColumns c F = columns (map (pointOf c) (walk (c .abs) (c .dimension) F))
 
--- the solid as read, with its distance classes; the solid searched, its types, and the inverse of its first flag's columns
+-- The solid as read, with its distance classes; the solid that is searched, with its types; and the inverse of that solid's first flag's columns.
 pub record Setting : Type 0 where
   pub read : Concrete
   pub classes : List (List ℕ)
@@ -60,19 +61,19 @@ pub record Setting : Type 0 where
   pub types : State
   pub inv : Matrix
 
--- "columns times the inverse of the first flag's"
+-- "Candidate: columns times the inverse of the first flag's".
 unfoldable pub candidate : Setting → Flag → Matrix
 candidate w F = mulMat (flagColumns (w .searched) F) (w .inv)
 
 -- ---- the test of a flag
 
--- "its elements have the first flag's types"
+-- Whether "its elements have the first flag's types".
 unfoldable pub sameTypes : Setting → Flag → Bool
 sameTypes w F =
     let G = firstFlag (w .searched .abs) in
     every (λ r. eqb (typeOf (w .types) r (elementAt F r)) (typeOf (w .types) r (elementAt G r))) (range 0 (length (w .searched .abs)))
 
--- the vertex that each vertex's image is "within EPS, EPS included, of .. on every axis (lowest number taken)"; V where there is none
+-- The vertex that each vertex's image is "within EPS, EPS included, of .. on every axis (lowest number taken)", or V where there is none.
 unfoldable pub rowOf : List (List Float) → Matrix → List ℕ
 rowOf ps m = map (λ p. find ps (mulVec m p)) ps
 
@@ -80,34 +81,34 @@ unfoldable pub insert : ℕ → List ℕ → List ℕ
 insert x [] = x ∷ []
 insert x (y ∷ l) = elim (leb x y) [ true ↦ x ∷ y ∷ l | false ↦ y ∷ insert x l ]
 
--- "sorted with repeats kept"
+-- The list l "sorted with repeats kept".
 unfoldable pub sorted : List ℕ → List ℕ
 sorted [] = []
 sorted (x ∷ l) = insert x (sorted l)
 
--- "the images of the vertices of each type's example at ranks 2 to R−1 .. are the vertices of some element of that rank"
+-- "the images of the vertices of each type's example at ranks 2 to R−1 .. are the vertices of some element of that rank".
 unfoldable pub examplesGo : Solid → State → List ℕ → Bool
 examplesGo s z row =
     every (λ r. every (λ k. holds eqList (sorted (map (λ v. getD row v 0) (vertices s r (k .example)))) (vertexSets s r)) (elementTypesAt z r)) (range 2 (top s - 2))
 
--- "Members come in flag order with matrix and row", and with the mark
+-- A member has a matrix and a row, "Members come in flag order with matrix and row", and its mark.
 pub record Member : Type 0 where
   pub matrix : Matrix
   pub row : List ℕ
   pub mark : ℕ
 
--- "The mark is confirmed, 1, .. Otherwise 0", in the solid as read
+-- The mark is "confirmed, 1, exactly when" the rule holds "in the solid as read", and "Otherwise 0".
 unfoldable pub markOf : Setting → List ℕ → ℕ
 markOf w row = elim (marked (w .read .abs) (byTable (w .classes)) row) [ true ↦ 1 | false ↦ 0 ]
 
--- the member of a candidate, where it passes
+-- The member that a candidate gives, where it passes.
 unfoldable pub tested : Setting → Matrix → Option Member
 tested w m =
     let row = rowOf (w .searched .points) m in
     elim (every (λ v. ltb v (length (w .searched .points))) row && examplesGo (w .searched .abs) (w .types) row)
     [ true ↦ some (record { matrix = m; row = row; mark = markOf w row }) | false ↦ none ]
 
--- "Members come in flag order with matrix and row"
+-- The members of a list of flags: "Members come in flag order with matrix and row".
 unfoldable pub membersOf : Setting → List Flag → List Member
 membersOf w [] = []
 membersOf w (F ∷ Fs) = elim (sameTypes w F) [
@@ -115,7 +116,7 @@ membersOf w (F ∷ Fs) = elim (sameTypes w F) [
   | false ↦ membersOf w Fs
 ]
 
--- "Rotations are those of determinant above 0"
+-- "Rotations are those of determinant above 0".
 unfoldable pub isRotation : Member → Bool
 isRotation m = lt zeroF (determinant (m .matrix))
 
@@ -125,15 +126,15 @@ rotationsOf (m ∷ ms) = elim (isRotation m) [ true ↦ m ∷ rotationsOf ms | f
 
 -- ---- the search
 
--- not 8, "search with R < 2 or D ≠ R−1"
+-- Whether the solid is full. Refusal 8, "search with R < 2 or D ≠ R−1", is the contrary.
 unfoldable pub full : Concrete → Bool
 full c = leb 2 (top (c .abs)) && eqb (c .dimension) (top (c .abs) - 1)
 
--- not 11, "a non-finite inverse"
+-- Whether all entries are finite. Refusal 11, "a non-finite inverse", is the contrary.
 unfoldable pub allFinite : Matrix → Bool
 allFinite m = every (every finite) m
 
--- "8, 9, 10, 15, 11": what stands after them
+-- What a search goes by once it has passed "8, 9, 10, 15, 11".
 unfoldable pub setting : Concrete → Judged Setting
 setting c = do
   judge NotFull (full c)
@@ -145,7 +146,7 @@ setting c = do
   judge Flat (allFinite i)
   passed (record { read = c; classes = classTable c; searched = d; types = z; inv = i })
 
--- the members of every flag that passes, in flag order
+-- The members of every flag that passes, in flag order.
 unfoldable pub search : Concrete → Judged (List Member)
 search c = do
   w ← setting c

@@ -1,5 +1,5 @@
--- Section 2, the sheet and its limits, and of the preflight answers 1 to 4: "Fields are judged as they come
--- (wholeness, then 2, 3 or 4; a list's length counts as entries when it is read), then 1 for the end".
+-- Section 2's sheet and its limits, and the preflight answers 1 to 4: "Fields are judged as they come (wholeness, then 2, 3 or 4; a list's length counts as
+-- entries when it is read), then 1 for the end".
 -- Assumes nothing.
 use Prim.Native.Nat.{ℕ, zero, suc, _+_, _-_, _*_}
 use mathlib.Core.Bool.{Bool, true, false, _&&_}
@@ -14,7 +14,7 @@ use Rattle.spec.specs.Float.{inRange}
 use Rattle.spec.specs.Bits.{field}
 use Rattle.spec.specs.Judged.{Judged, refused, passed}
 
--- what a sheet says: R, D, the counts of ranks 1 to R - 1, each vertex's coordinates, and for ranks 2 to R - 1 each element's list
+-- What a sheet says: R, D, the counts of ranks 1 to R - 1, each vertex's coordinates, and for ranks 2 to R - 1 each element's list.
 pub record Parsed : Type 0 where
   pub rank : ℕ
   pub dimension : ℕ
@@ -28,7 +28,7 @@ abbrev pub Reader : Type 0 → Type 0
 Reader A = ℕ → Judged (A × ℕ)
 
 infixl 10 _>>=_ _>>_
--- one reading, then another that may go by its value
+-- One reading, followed by another that may depend on the first one's value.
 unfoldable pub _>>=_ : {A B : Type 0} → Reader A → (A → Reader B) → Reader B
 _>>=_ m k i = elim (m i) [ refused why ↦ refused why | passed x ↦ k (x .0) (x .1) ]
 
@@ -38,11 +38,11 @@ _>>_ m k i = elim (m i) [ refused why ↦ refused why | passed x ↦ k (x .1) ]
 unfoldable pub done : {A : Type 0} → A → Reader A
 done a i = passed (a, i)
 
--- refused, unless the test passes
+-- Refused, unless the test passes.
 unfoldable pub judge : Refusal → Bool → Reader (Unit {0})
 judge why ok i = elim ok [ true ↦ passed (tt, i) | false ↦ refused why ]
 
--- the same reading n times
+-- The same reading, done n times.
 unfoldable pub times : {A : Type 0} → ℕ → Reader A → Reader (List A)
 times zero m = done []
 times (suc n) m = do
@@ -52,44 +52,44 @@ times (suc n) m = do
 
 -- ---- the fields, each with its limit
 
--- V: "rank 1's count, but 1 where R = 1 and 0 where R = 0": there the list of counts is empty, and V is R itself
+-- V is "rank 1's count, but 1 where R = 1 and 0 where R = 0". In those two cases the list of counts is empty, and V is R itself.
 unfoldable pub vertexCount : ℕ → List ℕ → ℕ
 vertexCount R counts = getD counts 0 R
 
 module _ (b : List ℕ) where
-  -- the next w bits; "a field isn't whole": 1
+  -- The next w bits. Refusal 1 comes where "a field isn't whole".
   unfoldable pub bits : ℕ → Reader ℕ
   bits w i = elim (leb (i + w) (8 * length b)) [ true ↦ passed (field b i w, i + w) | false ↦ refused CutSheet ]
 
-  -- "R, 3 bits"; "R 0 to 5"
+  -- The field "R, 3 bits", with the limit "R 0 to 5".
   unfoldable pub rank : Reader ℕ
   rank = do
     n ← bits 3
     judge Format (leb n maxRank)
     done n
 
-  -- "dimension D, 3"; "D 0 to 4"
+  -- The field "dimension D, 3", with the limit "D 0 to 4".
   unfoldable pub dimension : Reader ℕ
   dimension = do
     n ← bits 3
     judge Format (leb n maxDimension)
     done n
 
-  -- "for each proper rank its count, 12"; "counts 1 to 2,048"
+  -- The field "for each proper rank its count, 12", with the limit "counts 1 to 2,048".
   unfoldable pub count : Reader ℕ
   count = do
     n ← bits 12
     judge Format (ltb 0 n && leb n maxCount)
     done n
 
-  -- "64 bits each (binary64)"; "not finite or too large": 3
+  -- A coordinate has "64 bits each (binary64)". Refusal 3 comes where it is "not finite or too large".
   unfoldable pub coordinate : Reader Float
   coordinate = do
     n ← bits 64
     judge OffTheBoard (inRange (ofBits binary64 n))
     done (ofBits binary64 n)
 
-  -- "subs, 11 each": n of them, below c, the first at least `low` and each more than the one before; otherwise 4
+  -- "subs, 11 each": there are n of them, all below c, the first at least `low` and each more than the one before. Otherwise refusal 4 comes.
   unfoldable pub subList : ℕ → ℕ → ℕ → Reader (List ℕ)
   subList c zero low = done []
   subList c (suc n) low = do
@@ -98,7 +98,7 @@ module _ (b : List ℕ) where
     l ← subList c n (suc x)
     done (x ∷ l)
 
-  -- "each element's list: length, 12 bits; subs"; "at most 8,192 list entries a rank", of which `used` came before; c is the count of the rank below
+  -- "each element's list: length, 12 bits; subs", with "at most 8,192 list entries a rank", of which `used` came before. The count of the rank below is c.
   unfoldable pub list : ℕ → ℕ → Reader (List ℕ)
   list c used = do
     n ← bits 12
@@ -106,7 +106,7 @@ module _ (b : List ℕ) where
     judge BadList (ltb 0 n)
     subList c n 0
 
-  -- the lists of n elements
+  -- The lists of n elements of one rank.
   unfoldable pub listsAt : ℕ → ℕ → ℕ → Reader (List (List ℕ))
   listsAt c zero used = done []
   listsAt c (suc n) used = do
@@ -114,7 +114,7 @@ module _ (b : List ℕ) where
     ls ← listsAt c n (used + length l)
     done (l ∷ ls)
 
-  -- "for ranks 2 to R−1", by the counts of ranks 1 to R - 1
+  -- The lists "for ranks 2 to R−1", by the counts of ranks 1 to R - 1.
   unfoldable pub lists : List ℕ → Reader (List (List (List ℕ)))
   lists [] = done []
   lists (c ∷ []) = done []
@@ -123,11 +123,11 @@ module _ (b : List ℕ) where
     more ← lists (d ∷ counts)
     done (ls ∷ more)
 
-  -- "bytes follow, or a filling bit is 1": 1
+  -- The end of the sheet. Refusal 1 comes where "bytes follow, or a filling bit is 1".
   unfoldable pub end : Reader (Unit {0})
   end i = judge CutSheet (ltb (8 * length b - i) 8 && eqb (field b i (8 * length b - i)) 0) i
 
-  -- "R, 3 bits; dimension D, 3; for each proper rank its count, 12. Then each vertex's D coordinates .. Then .. each element's list"
+  -- The whole sheet: "R, 3 bits; dimension D, 3; for each proper rank its count, 12. Then each vertex's D coordinates .. Then .. each element's list".
   unfoldable pub sheet : Reader Parsed
   sheet = do
     R ← rank

@@ -1,5 +1,5 @@
--- Statements about section 4: the numbers after any list of steps, what the start and each step do, what the types call gives out, and that refusal 15
--- never comes.
+-- Statements about section 4: the numbers after any list of steps, what the start and each step do, what the types call gives out, and that refusal 15 never
+-- comes.
 -- Assumes nothing.
 use mathlib.Core.Path.{_≡_}
 use mathlib.Core.Logic.{_≢_, _⊎_, _↔_}
@@ -24,40 +24,40 @@ use Rattle.spec.specs.Calls.{TypesOut, typesCall, SearchOut, searchCall,
 
 -- ---- numbers
 
--- how many types a rank's elements have
+-- How many types a rank's elements have.
 unfoldable pub inUse : State → ℕ → ℕ
 inUse S r = length (distinct eqb (typesAt S r))
 
--- "numbers go from 0 in each rank by first appearance"
+-- "numbers go from 0 in each rank by first appearance".
 pub record Numbered (s : Solid) (S : State) (r : ℕ) : Type 0 where
-  -- one type for each element
+  -- There is one type for each element.
   pub each : length (typesAt S r) ≡ size s r
   pub low : (e : ℕ) → e < size s r → typeOf S r e < inUse S r
-  -- the types by first appearance are 0, 1, 2 and so on
+  -- The types by first appearance are 0, 1, 2 and so on.
   pub first : distinct eqb (typesAt S r) ≡ range 0 (inUse S r)
 
 -- ---- the start, and one step
 
--- how many neighbours of type t the step x finds at e
+-- How many neighbours of type t the step x finds at e.
 unfoldable pub ofType : Solid → State → Step → ℕ → ℕ → ℕ
 ofType s S x t e = count eqb t (map (typeOf S (next x)) (neighbours s x e))
 
--- what the step x does to the state S
+-- What the step x does to the state S.
 pub record Stepped (s : Solid) (S : State) (x : Step) : Type 0 where
-  -- "two elements there still share a type exactly when they shared one and, for every type of rank r−1, have as many subs of it. Step down: the
-  -- same with sups and rank r+1"
+  -- "two elements there still share a type exactly when they shared one and, for every type of rank r−1, have as many subs of it. Step down: the same with
+  -- sups and rank r+1".
   pub share : (e f : ℕ) → e < size s (at x) → f < size s (at x)
       → (typeOf (step s S x) (at x) e ≡ typeOf (step s S x) (at x) f)
       ↔ ((typeOf S (at x) e ≡ typeOf S (at x) f) × ((t : ℕ) → In t (typesAt S (next x)) → ofType s S x t e ≡ ofType s S x t f))
-  -- "Other ranks keep theirs"
+  -- "Other ranks keep theirs".
   pub others : (r : ℕ) → r ≢ at x → typesAt (step s S x) r ≡ typesAt S r
 
 pub record StepLaws (s : Solid) (cls : Classes) : Type 0 where
-  -- "Start: elements of a proper rank share a type exactly when they share a distance class"
+  -- "Start: elements of a proper rank share a type exactly when they share a distance class".
   pub at-start : (r e f : ℕ) → Proper s r → e < size s r → f < size s r → (typeOf (start s cls) r e ≡ typeOf (start s cls) r f) ↔ (cls r e ≡ cls r f)
-  -- after any list of steps at proper ranks, one more at a proper rank
+  -- After any list of steps at proper ranks, one more step at a proper rank does what section 4 says.
   pub stepped : (xs : List Step) → AllProper s xs → (x : Step) → Proper s (at x) → Stepped s (play s (start s cls) xs) x
-  -- "ranks 0 and R have type 0 only"
+  -- "ranks 0 and R have type 0 only", and no list of steps changes that.
   pub improper : (xs : List Step) → AllProper s xs → (r e : ℕ) → (r ≡ 0) ⊎ (r ≡ top s) → e < size s r → typeOf (play s (start s cls) xs) r e ≡ 0
 
 abbrev pub EveryStepLaw : Type 0
@@ -65,7 +65,7 @@ EveryStepLaw = (s : Solid) (cls : Classes) → StepLaws s cls
 
 -- ---- what is given out
 
--- "for each type its example (lowest element) and count"
+-- The types call gives "for each type its example (lowest element) and count".
 pub record Described (s : Solid) (z : State) (r : ℕ) (k : ElementType) : Type 0 where
   pub rank : k .rank ≡ r
   pub there : k .example < size s r
@@ -73,32 +73,32 @@ pub record Described (s : Solid) (z : State) (r : ℕ) (k : ElementType) : Type 
   pub lowest : (e : ℕ) → e < k .example → typeOf z r e ≢ k .number
   pub counted : k .count ≡ count eqb (k .number) (typesAt z r)
 
--- the types given out of one rank
+-- What holds of the types that are given out for one rank.
 pub record RankLaws (s : Solid) (z : State) (r : ℕ) : Type 0 where
   pub numbered : Numbered s z r
-  -- exactly the types in use, in order
+  -- They are exactly the types in use, in order.
   pub numbers : map (λ k. k .number) (elementTypesAt z r) ≡ range 0 (inUse z r)
   pub described : (k : ElementType) → In k (elementTypesAt z r) → Described s z r k
-  -- "counts add up to the rank's size"
+  -- "counts add up to the rank's size".
   pub sums : sum (map (λ k. k .count) (elementTypesAt z r)) ≡ size s r
 
 pub record TypeLaws : Type 0 where
-  -- after any list of steps; and "at the start too", which is the empty list's
+  -- The numbers after any list of steps, and "at the start too", which is the case of the empty list.
   pub steps : (s : Solid) (cls : Classes) (xs : List Step) → AllProper s xs → (r : ℕ) → Numbered s (play s (start s cls) xs) r
-  -- of the result of any sheet's solid, at each rank
+  -- The types given out at each rank, where z is the result of any sheet's solid.
   pub ranks : (c : Concrete) (z : State) → typesOf c ≡ some z → (r : ℕ) → RankLaws (c .abs) z r
-  -- and over the proper ranks, rising: the rank and number of each type given out
+  -- The rank and number of each type given out, over the proper ranks, rising.
   pub listed : (c : Concrete) (z : State) → typesOf c ≡ some z
       → map {B = ℕ × ℕ} (λ k. (k .rank, k .number)) (elementTypes (c .abs) z) ≡ join (map (λ r. map (λ t. (r, t)) (range 0 (inUse z r))) (properRanks (c .abs)))
 
 -- ---- refusal 15
 
--- an answer that is not refusal 15
+-- The answer is not refusal 15.
 abbrev pub NotUnsettled : Answer → Type 0
 NotUnsettled a = (k : ℕ) → a ≢ Refused Unsettled k
 
--- Refusal 15, "E + 2 sweeps done, still changing", never comes. The sweeps of every solid whatever end in time, whatever its distance classes are. So both the solid
--- of a sheet and the solid that search makes of it by exchanging facets have types, and no call answers 15
+-- Refusal 15, "E + 2 sweeps done, still changing", never comes. The sweeps of every solid whatever end in time, whatever its distance classes are. So both
+-- the solid of a sheet and the solid that search makes of it by exchanging facets have types, and no call answers 15.
 pub record NeverUnsettled : Type 0 where
   pub settles : (s : Solid) (cls : Classes) → result s cls ≢ none
   pub types : (c : Concrete) → typesOf c ≢ none

@@ -5,7 +5,7 @@ use mathlib.Core.List.{List}
 use lib.Ieee.{Float}
 use Rattle.spec.specs.CallLaws.{SameLength}
 
--- "Workspace afterwards is free": a call may leave anything in the words and floats that it was lent, but both are as long as they were
+-- "Workspace afterwards is free": a call may leave anything in the words and floats that it was lent, but both are as long as they were.
 pub record Free (oldWords newWords : List ℕ) (oldFloats newFloats : List Float) : Type 0 where
   pub words : SameLength oldWords newWords
   pub floats : SameLength oldFloats newFloats
