@@ -1,4 +1,4 @@
--- The elements of a rank numbered by their keys, one after another.
+-- The elements of a rank, numbered by their keys one after another.
 -- Assumes nothing.
 use mathlib.Core.Path.{_≡_}
 use mathlib.Core.Bool.{true, false}
@@ -14,17 +14,17 @@ use Rattle.element_types.specs.Runs.{keyOf, keyAt, repKeys, Writable}
 
 -- ---- one element
 
--- which of the m keys is the key at word q; m if none is
+-- The number of the first of the m keys that is the key at word q, or m if none is.
 unfoldable pub numberOf : List ℕ → ℕ → ℕ → ℕ → ℕ
 numberOf v reps m q = place eqList (keyAt v q) (repKeys v reps m)
 
--- the number at word `cell`, and the place of a key that is new behind those of the others
+-- The words with that number at word `cell` and, where the key is new, with its place behind the places of the other keys.
 unfoldable pub noted : List ℕ → ℕ → ℕ → ℕ → ℕ → List ℕ
 noted v cell reps m q =
     let p = numberOf v reps m q in
     elim (ltb p m) [ true ↦ set v cell p | false ↦ set (set v cell p) (reps + m) q ]
 
--- the keys that are there lie below q, and there is room for the key, its number and its place
+-- The keys that are there lie below q, and there is room for the new key, its number and its place.
 pub record Open (w : List ℕ) (low i base at cell reps m q : ℕ) : Type 0 where
   pub key : Writable w low i base at q
   pub number : cell < reps
@@ -34,22 +34,22 @@ pub record Open (w : List ℕ) (low i base at cell reps m q : ℕ) : Type 0 wher
 
 -- ---- a rank
 
--- element e's list is at word lists + 4 * e, its type at word from + e
+-- The key of element e, whose list is at word lists + 4 * e and whose type is at word from + e.
 unfoldable pub keyIn : List ℕ → ℕ → ℕ → ℕ → ℕ → ℕ → List ℕ
 keyIn w low lists base from e = keyOf w low (lists + 4 * e) base (from + e)
 
--- the keys of the elements below e
+-- The keys of the elements below e.
 unfoldable pub keysTo : List ℕ → ℕ → ℕ → ℕ → ℕ → ℕ → List (List ℕ)
 keysTo w low lists base from zero = []
 keysTo w low lists base from (suc e) = keysTo w low lists base from e ++ keyIn w low lists base from e ∷ []
 
--- how many words they take, at most
+-- How many words those keys take at most.
 unfoldable pub spaceTo : List ℕ → ℕ → ℕ → ℕ
 spaceTo l lists zero = 0
 spaceTo l lists (suc e) = spaceTo l lists e + (2 + length (listAt l (lists + 4 * e)))
 
--- the n elements' lists are in the first `low` words and their neighbours' types, and their own, below `out`; there is room from there for n numbers, n places
--- and the keys
+-- The lists of the n elements are in the first `low` words, and the types of their neighbours and their own are below `out`. From there on there is room for
+-- n numbers, n places and the keys.
 pub record Ready (w : List ℕ) (low lists n base from out : ℕ) : Type 0 where
   pub lists-low : low ≤ out
   pub lie : (e : ℕ) → e < n → Lies (take low w) (lists + 4 * e)
@@ -58,7 +58,7 @@ pub record Ready (w : List ℕ) (low lists n base from out : ℕ) : Type 0 where
   pub room : out + n + n + spaceTo (take low w) lists n ≤ length w
   pub small : out + n + n + spaceTo (take low w) lists n < 2 ^ 32
 
--- nothing below `out` changed, and the numbers stand from there
+-- Nothing below `out` has changed, and the numbers stand from there on.
 pub record Numbered (w v : List ℕ) (low lists n base from out : ℕ) : Type 0 where
   pub long : length v ≡ length w
   pub kept : take out v ≡ take out w

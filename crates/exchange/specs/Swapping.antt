@@ -1,13 +1,13 @@
--- Words, and lists of subs, that change places.
+-- Words, and the lists of subs that they describe, that change places.
 -- Assumes nothing.
 use Prim.Native.Nat.{ℕ, _+_, _*_}
 use mathlib.Core.List.{List}
 use lib.ListN.{getD, set}
 
--- words i and j change places
+-- The words i and j change places.
 unfoldable pub swapped : List ℕ → ℕ → ℕ → List ℕ
 swapped w i j = set (set w i (getD w j 0)) j (getD w i 0)
 
--- starts and lengths of the subs of elements g and h change places
+-- The starts and lengths of the subs of elements g and h change places.
 unfoldable pub swappedLists : List ℕ → ℕ → ℕ → List ℕ
 swappedLists w g h = swapped (swapped w (4 * g) (4 * h)) (4 * g + 1) (4 * h + 1)

@@ -20,38 +20,38 @@ use Rattle.ranked.specs.declared.preflight.Ready.{Ready}
 use Rattle.ranked.specs.Store.{shapeOf, lowOf, Kept}
 use Rattle.ranked.specs.Bench.{solidAt, Bench}
 
--- the verdict by itself
+-- The verdict by itself.
 unfoldable pub verdictOf : Judged Concrete → Verdict
 verdictOf (refused why) = Refused why
 verdictOf (passed c) = Accepted
 
--- at a refusal no solid lies in the workspace, and the shape and low are zeros
+-- At a refusal no solid lies in the workspace, and the shape and low are zeros.
 abbrev pub unreadyOf : Refusal → Ready
 unreadyOf why = record { verdict = Refused why; shape = record { rank = 0; dimension = 0; first = replicate (maxRank + 2) 0 }; low = 0 }
 
--- the whole answer: of a solid that passes, its shape and how many words it takes
+-- The whole answer, which for a solid that passes gives its shape and how many words it takes.
 unfoldable pub readyOf : Judged Concrete → Ready
 readyOf (refused why) = unreadyOf why
 readyOf (passed c) = record { verdict = Accepted; shape = shapeOf c; low = lowOf (shapeOf c) (entries (c .abs)) }
 
--- 5, and then 6
+-- Refusal 5 is tested first, and then refusal 6.
 unfoldable pub checksOf : Solid → Verdict
 checksOf s = elim (bound s) [ true ↦ elim (diamond s) [ true ↦ Accepted | false ↦ Refused Mitre ] | false ↦ Refused Loose ]
 
--- the solid c lies in the workspace
+-- The solid c lies in the workspace.
 pub record Placed (c : Concrete) (sh : Shape) (low : ℕ) (ws : List ℕ) (fs : List Float) : Type 0 where
   pub bench : Bench sh low ws fs
   pub is : solidAt sh low ws fs ≡ c
 
--- the sheet p, for which there is room, is stored, and its solid judged
+-- The sheet p, for which there is room, has been stored, and its solid has been judged.
 pub record Settled (p : Parsed) (r : Ready) (ws : List ℕ) (fs : List Float) : Type 0 where
   pub unready : (why : Refusal) → checksOf (solidOf p) ≡ Refused why → r ≡ unreadyOf why
   pub verdict : r .verdict ≡ checksOf (solidOf p)
   pub kept : checksOf (solidOf p) ≡ Accepted → Kept p (r .shape) ws fs
   pub low : checksOf (solidOf p) ≡ Accepted → r .low ≡ lowOf (r .shape) (entries (solidOf p))
 
--- of the sheet b, in n words and m floats: the answer, and where it passes the solid is placed. Everything else that the words and floats hold is
--- free, and they keep their lengths
+-- What preflight gives for the sheet b in n words and m floats: the answer, and the solid's place where it passes. Everything else that the words and floats
+-- hold is free, and they keep their lengths.
 pub record Preflighted (b : List ℕ) (n m : ℕ) (r : Ready) (ws : List ℕ) (fs : List Float) : Type 0 where
   pub answer : r ≡ readyOf (preflight b n m)
   pub verdict : r .verdict ≡ verdictOf (preflight b n m)

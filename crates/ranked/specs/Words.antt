@@ -1,5 +1,5 @@
--- Section 2's solid as it stands in lent words: how the words are read, stated once, over their frozen low part w. "`Vec<Vec<_>>` and index newtypes:
--- lists at offsets in lent words."
+-- Section 2's solid as it stands in lent words: how the words are read, stated once, over their frozen low part w. "`Vec<Vec<_>>` and index newtypes: lists
+-- at offsets in lent words."
 -- Assumes nothing.
 use mathlib.Core.Path.{_≡_}
 use Prim.Native.Nat.{ℕ, suc, _+_, _-_, _*_, _≤_, _<_}
@@ -11,7 +11,7 @@ use Rattle.spec.specs.Types.{Solid, size, subs, sups}
 use Rattle.spec.specs.Demand.{Sound}
 use Rattle.ranked.specs.declared.Shape.{Shape}
 
--- how many elements lie below rank r; how many r has; and how many there are
+-- How many elements lie below rank r; then how many rank r has; and then how many there are in all.
 abbrev pub firstAt : Shape → ℕ → ℕ
 firstAt sh r = getD (sh .first) r 0
 
@@ -21,40 +21,40 @@ sizeAt sh r = firstAt sh (suc r) - firstAt sh r
 abbrev pub total : Shape → ℕ
 total sh = firstAt sh (suc (sh .rank))
 
--- the list whose start stands at word i, and its length at the word after
+-- The list whose start stands at word i and whose length stands at the word after.
 unfoldable pub listAt : List ℕ → ℕ → List ℕ
 listAt w i = take (getD w (suc i) 0) (drop (getD w i 0) w)
 
--- the subs and the sups of an element
+-- The subs of an element, and then its sups.
 unfoldable pub subsIn : Shape → List ℕ → ℕ → ℕ → List ℕ
 subsIn sh w r e = listAt w (4 * (firstAt sh r + e))
 
 unfoldable pub supsIn : Shape → List ℕ → ℕ → ℕ → List ℕ
 supsIn sh w r e = listAt w (4 * (firstAt sh r + e) + 2)
 
--- the solid that the words hold
+-- The solid that the words hold.
 unfoldable pub solidIn : Shape → List ℕ → Solid
 solidIn sh w = map (λ r. map (subsIn sh w r) (range 0 (sizeAt sh r))) (range 0 (suc (sh .rank)))
 
--- the list at word i lies within the words
+-- The list at word i lies within the words.
 abbrev pub Inside : List ℕ → ℕ → Type 0
 Inside w i = getD w i 0 + getD w (suc i) 0 ≤ length w
 
--- the words hold a solid as section 2 allows it, and its sups as they are derived
+-- The words hold a solid as section 2 allows it, with its sups as they are derived.
 pub record Held (sh : Shape) (w : List ℕ) : Type 0 where
   pub tall : sh .rank ≤ maxRank
   pub wide : sh .dimension ≤ maxDimension
   pub ranks : length (sh .first) ≡ maxRank + 2
-  -- no rank is empty, and none has more than the limit
+  -- No rank is empty, and none has more elements than the limit.
   pub start : firstAt sh 0 ≡ 0
   pub some : (r : ℕ) → r ≤ sh .rank → firstAt sh r < firstAt sh (suc r)
   pub few : (r : ℕ) → r ≤ sh .rank → sizeAt sh r ≤ maxCount
-  -- starts and lengths stand in the words, and so do the lists
+  -- The starts and lengths stand in the words, and so do the lists.
   pub room : 4 * total sh ≤ length w
   pub subs-inside : (g : ℕ) → g < total sh → Inside w (4 * g)
   pub sups-inside : (g : ℕ) → g < total sh → Inside w (4 * g + 2)
   pub sound : Sound (solidIn sh w)
-  -- every element but the least has a sub
+  -- Every element but the least has a sub.
   pub filled : (r e : ℕ) → e < size (solidIn sh w) (suc r) → 0 < length (subs (solidIn sh w) (suc r) e)
-  -- "Sups are derived, rising"
+  -- "Sups are derived, rising".
   pub derived : (r e : ℕ) → r ≤ sh .rank → e < sizeAt sh r → supsIn sh w r e ≡ sups (solidIn sh w) r e

@@ -21,20 +21,20 @@ use Rattle.symmetry.specs.declared.listing.Tried.the-variants.{Skipped, 
 use Rattle.symmetry.specs.declared.listing.Listing.{Listing}
 use Rattle.symmetry.specs.Tails.{wantedOf}
 
--- a member that is listed: any, or a rotation
+-- The member, if the call lists it: a search lists any member, and a rotations call only a rotation.
 unfoldable pub listedIf : Bool → Option Member → Option Member
 listedIf rot none = none
 listedIf rot (some x) = elim (not rot || isRotation x) [ true ↦ some x | false ↦ none ]
 
--- the member that a flag gives, if it is listed
+-- The member that a flag gives, if it is listed.
 unfoldable pub gives : Setting → Bool → Flag → Option Member
 gives w rot F = elim (sameTypes w F) [ true ↦ listedIf rot (tested w (candidate w F)) | false ↦ none ]
 
--- the members that some flags give
+-- The listed members that some flags give.
 unfoldable pub given : Setting → Bool → List Flag → List Member
 given w rot Fs = wantedOf rot (membersOf w Fs)
 
--- the cells of some members
+-- The cells that some members take: those of their matrices, and then those of their rows.
 unfoldable pub matrixCells : List Member → List Float
 matrixCells ms = join (map (λ x. join (x .matrix)) ms)
 
@@ -50,40 +50,41 @@ pub record Running (w : Setting) (rot : Bool) (m : Room) (d v : ℕ) (Fs rest : 
 
 -- ---- one flag
 
--- what trying a flag came to: it gives no listed member; its member was written; or there is no room for it
+-- What trying a flag comes to: it gives no listed member, its member is written, or there is no room for its member.
 unfoldable pub tried : Option Member → Bool → List Float → List ℕ → Tried × List Float × List ℕ
 tried none room ms rs = (Skipped, ms, rs)
 tried (some x) true ms rs = (Added, written (join (x .matrix)) ms, written (x .row) rs)
 tried (some x) false ms rs = (Short, ms, rs)
 
--- a member of d * d floats and v row entries fits what is left of the outputs, with k marks left
+-- Whether a member of d * d floats and v row entries fits into what is left of the outputs, with k marks left.
 unfoldable pub fits : ℕ → ℕ → ℕ → ℕ → ℕ → Bool
 fits d v floats entries k = leb (d * d) floats && leb v entries && ltb 0 k
 
--- trying a candidate or a flag that gives o came to t: in d dimensions with v vertices and k marks left, ms and rs were left of the outputs and are ms′ and rs′ now
+-- Trying a candidate or a flag that gives o came to t. In d dimensions with v vertices and k marks left, ms and rs were what was left of the outputs, which
+-- are ms′ and rs′ now.
 abbrev pub Came : ℕ → ℕ → ℕ → Option Member → Tried → List Float → List Float → List ℕ → List ℕ → Type 0
 Came d v k o t ms ms′ rs rs′ = _≡_ {A = Tried × List Float × List ℕ} (t, ms′, rs′) (tried o (fits d v (length ms) (length rs) k) ms rs)
 
 -- ---- all flags
 
--- the members that fit, and so are written out
+-- The members that fit, and so are written out.
 unfoldable pub keptIn : Setting → Bool → Room → List Flag → List Member
 keptIn w rot m Fs = fitting m (w .searched .dimension) (length (w .searched .points)) 0 (given w rot Fs)
 
--- the members of the flags Fs are listed: how many, whether one more had no room, and the outputs before and after
+-- The members of the flags Fs are listed. This says how many, whether one more had no room, and what the outputs are before and after.
 pub record Listed (w : Setting) (rot : Bool) (m : Room) (Fs : List Flag) (r : Listing) (ms ms′ : List Float) (rs rs′ : List ℕ) : Type 0 where
   pub count : r .count ≡ length (keptIn w rot m Fs)
   pub short : r .short ≡ ltb (length (keptIn w rot m Fs)) (length (given w rot Fs))
   pub matrices : ms′ ≡ written (matrixCells (keptIn w rot m Fs)) ms
   pub rows : rs′ ≡ written (rowCells (keptIn w rot m Fs)) rs
 
--- "then 12 or 13": by whether one more had no room, and by how many are listed
+-- "then 12 or 13" is decided by whether one more member had no room, and by how many are listed.
 unfoldable pub answerOf : Bool → ℕ → Answer
 answerOf true n = Refused ShortSheet n
 answerOf false zero = Refused Blank 0
 answerOf false (suc n) = Done (suc n)
 
--- the outputs with some members written
+-- The outputs with some members written to them.
 unfoldable pub outsOf : List Member → SearchOut → SearchOut
 outsOf ms old = record {
   matrices = written (matrixCells ms) (old .matrices);

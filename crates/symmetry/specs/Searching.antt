@@ -19,7 +19,7 @@ use Rattle.ranked.specs.Bench.{solidAt, Bench}
 use Rattle.element_types.specs.State.{Countable}
 use Rattle.vertex_sets.specs.Prints.{Ready}
 
--- neither 8 nor 9: there is an axis, and no vertex is near a later one
+-- Neither 8 nor 9 applies: there is an axis, and no vertex is near a later one.
 pub record Parted (d : Concrete) : Type 0 where
   pub axes : 1 ≤ d .dimension
   pub distinct : noRepeats near (d .points) ≡ true
@@ -31,6 +31,6 @@ pub record Searching (sh : Shape) (low : ℕ) (ws : List ℕ) (fs : List Float) 
   pub prints : Ready sh low ws at
   pub parted : Parted (solidAt sh low ws fs)
 
--- does the candidate m pass, in the solid d with the types z: every vertex image found, and the examples' images vertex sets
+-- Whether the candidate m passes in the solid d with the types z: every vertex's image is found, and the images of the examples are vertex sets.
 unfoldable pub passing : Concrete → State → Matrix → Bool
 passing d z m = every (λ v. ltb v (length (d .points))) (rowOf (d .points) m) && examplesGo (d .abs) z (rowOf (d .points) m)

@@ -1,4 +1,4 @@
--- What the line of members says, from the numbers alone; and counting what it says.
+-- The text of the members' line from its numbers alone, and how the rotations that it tells are counted.
 -- Assumes nothing.
 use mathlib.Core.Bool.{true, false}
 use mathlib.Core.List.{List, [], _∷_, _++_}
@@ -9,12 +9,12 @@ use Rattle.spec.specs.Float.{zeroF}
 use Rattle.spec.specs.Matrix.{Matrix, determinant}
 use Rattle.spec.specs.KitText.{decimal}
 
--- the line of n members, of which c are confirmed and k are rotations
+-- The line of n members, of which c are confirmed and k are rotations.
 unfoldable pub membersText : ℕ → ℕ → ℕ → List ℕ
 membersText n c k =
     ascii "members " ++ decimal n ++ ascii " confirmed " ++ decimal c ++ ascii " rotations " ++ decimal k ++ ascii "\n"
 
--- how many matrices are "of determinant above 0"
+-- How many matrices are "of determinant above 0".
 unfoldable pub rotationCount : List Matrix → ℕ
 rotationCount [] = 0
 rotationCount (m ∷ ms) = elim (lt zeroF (determinant m)) [ true ↦ suc (rotationCount ms) | false ↦ rotationCount ms ]

@@ -12,33 +12,33 @@ use Rattle.spec.specs.Search.{sorted}
 use Rattle.ranked.specs.declared.Shape.{Shape}
 use Rattle.ranked.specs.Words.{firstAt, sizeAt, total, solidIn, Held}
 
--- the print of a list: the sum of the squares
+-- The print of a list is the sum of its members' squares.
 unfoldable pub printOf : List ℕ → ℕ
 printOf [] = zero
 printOf (v ∷ l) = v * v + printOf l
 
--- of the solid that the words w hold, the prints of the elements of the proper ranks stand in `words` from `at` on: that of element g of all,
--- firstAt sh r + e, at word at + g
+-- The prints of the elements of the proper ranks, for the solid that the words w hold, stand in `words` from `at` on: the element with the number g over all
+-- ranks, which is firstAt sh r + e, has its print at word at + g.
 pub record Printed (sh : Shape) (w : List ℕ) (at : ℕ) (words : List ℕ) : Type 0 where
   pub room : at + total sh ≤ length words
   pub prints : (r e : ℕ) → 1 ≤ r → r < sh .rank → e < sizeAt sh r → getD words (at + firstAt sh r + e) 0 ≡ printOf (vertices (solidIn sh w) r e)
 
--- what a look at vertex sets needs: a solid in the first `low` words, and its prints behind
+-- What a look at vertex sets needs: a solid in the first `low` words, and its prints behind them.
 pub record Ready (sh : Shape) (low : ℕ) (words : List ℕ) (at : ℕ) : Type 0 where
   pub held : Held sh (take low words)
   pub behind : low ≤ at
   pub printed : Printed sh (take low words) at words
 
--- element e of the proper rank r
+-- The number e is that of an element of the proper rank r.
 pub record Element (sh : Shape) (r e : ℕ) : Type 0 where
   pub low : 1 ≤ r
   pub high : r < sh .rank
   pub inside : e < sizeAt sh r
 
--- the images of e's vertices are the vertices of some element of its rank
+-- Whether the images of e's vertices are the vertices of some element of its rank.
 unfoldable pub exampleGoes : Solid → List ℕ → ℕ → ℕ → Bool
 exampleGoes s row r e = holds eqList (sorted (map (λ v. getD row v 0) (vertices s r e))) (vertexSets s r)
 
--- and so for the example of each type of the rank
+-- Whether this is so for the example of each type of the rank.
 unfoldable pub rankGoes : Solid → State → List ℕ → ℕ → Bool
 rankGoes s z row r = every (λ k. exampleGoes s row r (k .example)) (elementTypesAt z r)
