@@ -1,4 +1,4 @@
-//! Times of the library and of the Rust on the same input, in turn, in one run. The outputs are not cleared between runs.
+//! Times the library and the Rust on the same input, in turn and in one run. The outputs are not cleared between runs.
 
 use crate::copyings::{flat, icosians, signed_orders};
 use crate::library::{self, Lent};
@@ -15,14 +15,15 @@ extern "C" {
     fn clock_gettime(clock: i32, time: *mut Timespec) -> i32;
 }
 
-/// Seconds of processor time that this process has had (Linux's CLOCK_PROCESS_CPUTIME_ID), which other work on the machine sways least.
+/// The seconds of processor time that this process has had (Linux's CLOCK_PROCESS_CPUTIME_ID), which other work on the machine disturbs least.
 fn now() -> f64 {
     let mut t = Timespec { seconds: 0, nanoseconds: 0 };
     assert_eq!(unsafe { clock_gettime(2, &mut t) }, 0);
     t.seconds as f64 + t.nanoseconds as f64 * 1e-9
 }
 
-/// Seconds a run takes: the best of seven rounds of at least 50 ms for each side, taken in turn; of fewer where they take more than 4 s in all.
+/// The seconds that a run takes: the best of seven rounds of at least 50 ms for each side, taken in turn, or of fewer rounds where they take more
+/// than 4 s in all.
 fn timed(mut ours: impl FnMut() -> usize, mut rust: impl FnMut() -> usize) -> (f64, f64) {
     let round = |f: &mut dyn FnMut() -> usize| {
         let (start, mut runs) = (now(), 0);
@@ -50,8 +51,8 @@ struct Line {
     times: (f64, f64),
 }
 
-/// One table of all times. Growth is said where a solid is larger than the one before it in its family: by how much its size has grown, our
-/// time and the Rust's.
+/// One table of all times. Where a solid is larger than the one before it in its family, the line also says by how much the size, our time and the
+/// Rust's time have grown.
 pub struct Table {
     last: Option<Line>,
 }
@@ -83,7 +84,7 @@ impl Table {
     }
 }
 
-/// The size of a copying: points times matrices.
+/// Times a copying, whose size is the number of points times the number of matrices.
 fn copying(table: &mut Table, input: &str, d: usize, points: &[f64], turns: &[f64]) {
     let rust = oracle::Copying::new(d, points, turns);
     let (n, count) = (rust.count(), turns.len() / (d * d));
@@ -100,7 +101,7 @@ pub fn all() {
     let mut random = Random::new(20261115);
     let mut table = Table::new();
     let orders = signed_orders(3);
-    // the identity and the mirror image through the origin: the first and the last of the eight that leave the axes in order
+    // The identity and the mirror image through the origin, which are the first and the last of the eight that leave the axes in order.
     let two = [orders[0].clone(), orders[7].clone()];
     let few = [(3, flat(&orders), vec![1, 10, 20, 40]), (4, flat(&icosians()), vec![1, 4, 16])];
     let many = (3, flat(&two), vec![125, 250, 500, 1000]);
@@ -122,7 +123,7 @@ mod on_solids {
     use crate::random::Random;
     use crate::solids::{bipyramid, compound, dihedron, dyad, polygon, product, pyramid, tetrahemihexahedron, Solid};
 
-    /// Ours has the sheet to read and judge besides; the Rust's solid is built before. A solid's size is the number of its elements.
+    /// Our call also reads and judges the sheet, while the Rust's solid is built before. A solid's size is the number of its elements.
     fn types(table: &mut Table, family: &str, name: &str, solid: &Solid) {
         let sheet = solid.pack();
         let rust = oracle::Solid::read(&sheet).unwrap();
@@ -137,7 +138,7 @@ mod on_solids {
         table.line(&format!("types, {}", family), name, elements, n, times);
     }
 
-    /// Marks are ours alone.
+    /// Only our search works out marks.
     fn search(table: &mut Table, family: &str, name: &str, solid: &Solid, only_rotations: bool) {
         let sheet = solid.pack();
         let mut rust = oracle::Solid::read(&sheet).unwrap();
@@ -160,7 +161,7 @@ mod on_solids {
         product(&regular(n, 1), &dyad(-1.0, 1.0))
     }
 
-    /// Regular ones in four dimensions, by name.
+    /// The regular solids in four dimensions, by name.
     pub fn polychora() -> Vec<(String, Solid)> {
         let side = dyad(-1.0, 1.0);
         let square = product(&side, &side);

@@ -1,4 +1,4 @@
-//! Random point lists and lists of matrices, most of them groups.
+//! Random lists of points and of matrices, most of which are groups.
 
 use crate::random::Random;
 use std::f64::consts::PI;
@@ -11,7 +11,7 @@ pub struct Given {
 
 type Rows = Vec<Vec<f64>>;
 
-/// The signed orders of d axes: in three dimensions the 48, in the table's order.
+/// The signed orders of d axes. In three dimensions these are the 48, in the table's order.
 pub fn signed_orders(d: usize) -> Vec<Rows> {
     let mut orders: Vec<Vec<usize>> = vec![vec![]];
     for _ in 0..d {
@@ -27,7 +27,7 @@ pub fn signed_orders(d: usize) -> Vec<Rows> {
     all
 }
 
-/// Multiplication from the left by each of the 120 unit icosians.
+/// The matrices that multiply from the left by each of the 120 unit icosians.
 pub fn icosians() -> Vec<Rows> {
     let golden = (1.0 + 5f64.sqrt()) / 2.0;
     let mut units: Vec<[f64; 4]> = Vec::new();
@@ -40,7 +40,7 @@ pub fn icosians() -> Vec<Rows> {
         units.push([0, 1, 2, 3].map(|i| 0.5 - (s >> i & 1) as f64));
     }
     for m in signed_orders(4) {
-        // the even orders of the axes, with a sign for each value but 0
+        // Only the even orders of the axes are taken, with a sign for each value except 0.
         let order: Vec<usize> = m.iter().map(|row| row.iter().position(|x| *x != 0.0).unwrap()).collect();
         let swaps = (0..4).flat_map(|i| (0..i).map(move |j| (j, i))).filter(|(j, i)| order[*j] > order[*i]).count();
         let sign = |i: usize| m[i][order[i]];
@@ -61,7 +61,7 @@ fn turn(k: usize, n: usize) -> [f64; 2] {
     [angle.cos(), angle.sin()]
 }
 
-/// The n turns of the first two axes, and of the last two `twice` as fast; with the mirrored ones, where asked for.
+/// The n turns of the first two axes, which turn the last two `twice` times as fast, and the mirrored ones as well where they are asked for.
 fn cyclic(d: usize, n: usize, twice: usize, mirrored: bool) -> Vec<Rows> {
     let mut all = Vec::new();
     for mirror in if mirrored { vec![1.0, -1.0] } else { vec![1.0] } {
@@ -112,7 +112,7 @@ fn some_group(random: &mut Random, d: usize) -> Vec<Rows> {
     group
 }
 
-/// Points and matrices. One in six lists is no group: a matrix is missing, or they are any.
+/// Random points and matrices. One list of matrices in six is no group, because one is missing or because all are arbitrary.
 pub fn some_copying(random: &mut Random) -> Given {
     let d = random.among(1, 4);
     let mut group = some_group(random, d);
@@ -130,7 +130,7 @@ pub fn some_copying(random: &mut Random) -> Given {
         points.extend(p);
     }
     if random.once_in(4) {
-        // a copy of the first point, a little off
+        // A copy of the first point is added, a little off.
         let off = [0.0, 1e-12, 5e-8, 3e-7][random.below(4)];
         let near: Vec<f64> = points[..d].iter().map(|x| x + off).collect();
         points.extend(near);

@@ -7,7 +7,8 @@ use crate::solids::Solid;
 
 type Points = Vec<Vec<f64>>;
 
-/// The convex solid with these facets, as lists of vertices. The facets of a face are its greatest meets with others of its rank.
+/// The convex solid with these facets, which are given as lists of vertices. The facets of a face are its greatest intersections with other faces of
+/// its rank.
 fn convex(points: Points, facets: Vec<Vec<usize>>) -> Solid {
     let mut lists = Vec::new();
     let mut faces = facets;
@@ -47,13 +48,13 @@ fn dot(a: &[f64], b: &[f64]) -> f64 {
     a.iter().zip(b).map(|(x, y)| x * y).sum()
 }
 
-/// The points furthest along the normal.
+/// The points that are furthest along the normal.
 fn furthest(points: &Points, normal: &[f64]) -> Vec<usize> {
     let most = points.iter().map(|p| dot(p, normal)).fold(f64::NEG_INFINITY, f64::max);
     (0..points.len()).filter(|i| dot(&points[*i], normal) > most - 1e-6).collect()
 }
 
-/// The convex hull of points in three dimensions, of which all are corners: a facet for every plane through three that has none beyond it.
+/// The convex hull of points in three dimensions that are all corners: every plane through three of them that has no point beyond it gives a facet.
 fn hull(points: Points) -> Solid {
     let mut facets: Vec<Vec<usize>> = Vec::new();
     for (i, a) in points.iter().enumerate() {
@@ -78,7 +79,7 @@ fn hull(points: Points) -> Solid {
     convex(points, facets)
 }
 
-/// Every image of the seeds under the matrices, once.
+/// Every image of the seeds under the matrices, each once.
 fn orbit(seeds: &[[f64; 3]], turns: &[Vec<Vec<f64>>]) -> Points {
     let mut all: Points = Vec::new();
     for seed in seeds {
@@ -97,7 +98,7 @@ fn determinant(m: &[Vec<f64>]) -> f64 {
     m[0][0] * minor(1, 2) - m[0][1] * minor(0, 2) + m[0][2] * minor(0, 1)
 }
 
-/// Turns of the icosahedron: the unit icosians q as the maps v to q v q*.
+/// The turns of the icosahedron: each unit icosian q gives the map from v to q v q*.
 fn icosahedral() -> Vec<Vec<Vec<f64>>> {
     icosians()
         .iter()
@@ -120,7 +121,7 @@ pub fn uniform() -> Vec<(&'static str, Solid)> {
     let of_tetrahedron: Vec<_> = all.iter().filter(|m| product(m) > 0.0).cloned().collect();
     let turns = icosahedral();
     let both: Vec<_> = turns.iter().flat_map(|m| vec![m.clone(), m.iter().map(|r| r.iter().map(|x| -x).collect()).collect()]).collect();
-    // the golden ratio, the root of 2, and for the snub dodecahedron the root of x^3 + 2 x^2 = g^2
+    // The golden ratio, the root of 2 and, for the snub dodecahedron, the root of x^3 + 2 x^2 = g^2.
     let (g, s, x) = ((1.0 + 5f64.sqrt()) / 2.0, 2f64.sqrt(), 0.943151259243881);
     let solid = |seed: [f64; 3], turns: &[Vec<Vec<f64>>]| hull(orbit(&[seed], turns));
     vec![
@@ -145,7 +146,7 @@ pub fn uniform() -> Vec<(&'static str, Solid)> {
     ]
 }
 
-/// A tetrahedron with three lengths of edges, opposite ones alike: members that are no symmetries are among its candidates.
+/// A tetrahedron with three lengths of edges, of which opposite ones are alike. Some of its members are no symmetries.
 pub fn disphenoid() -> Solid {
     hull([[1.0, 1.0, 1.0], [1.0, -1.0, -1.0], [-1.0, 1.0, -1.0], [-1.0, -1.0, 1.0]].iter().map(|p| vec![p[0], 2.0 * p[1], 3.0 * p[2]]).collect())
 }
@@ -158,7 +159,7 @@ pub fn antiprism(n: usize) -> Solid {
     hull((0..2 * n).map(corner).collect())
 }
 
-/// A star: the pentagons that the neighbours of each corner of an icosahedron make.
+/// A star, whose faces are the pentagons that the neighbours of each corner of an icosahedron make.
 pub fn great_dodecahedron() -> Solid {
     let (_, icosahedron) = uniform().into_iter().find(|(name, _)| *name == "icosahedron").unwrap();
     let edges = icosahedron.lists[0].clone();
@@ -198,12 +199,12 @@ pub fn cell_24() -> Solid {
     convex(points, facets)
 }
 
-/// The unit icosians, the 120 vertices of the 600-cell.
+/// The unit icosians, which are the 120 vertices of the 600-cell.
 fn icosian_points() -> Points {
     icosians().iter().map(|left| left.iter().map(|row| row[0]).collect()).collect()
 }
 
-/// Its 600 cells: four icosians at a time, each next to the three others.
+/// The 600 cells of the 600-cell, each of which consists of four icosians that are next to each other.
 fn tetrahedra(points: &Points) -> Vec<Vec<usize>> {
     let next = |i: usize, j: usize| (dot(&points[i], &points[j]) - (1.0 + 5f64.sqrt()) / 4.0).abs() < 1e-9;
     let mut sets: Vec<Vec<usize>> = (0..points.len()).map(|i| vec![i]).collect();
@@ -222,7 +223,7 @@ pub fn cell_600() -> Solid {
     convex(points, facets)
 }
 
-/// Its vertices are the middles of the 600-cell's cells.
+/// The 120-cell, whose vertices are the middles of the 600-cell's cells.
 pub fn cell_120() -> Solid {
     let normals = icosian_points();
     let middle = |cell: &Vec<usize>| (0..4).map(|k| cell.iter().map(|i| normals[*i][k]).sum()).collect::<Vec<f64>>();

@@ -1,6 +1,6 @@
-//! The calls of libjidwaleb.a (crates/jidwaleb). Nothing checks these declarations against the Rattle source: keep them beside each other.
-//! A slice goes as a pointer and a length. Every lent buffer, the input too, stands between guard cells, which are looked at after the call. What
-//! a call only reads is lent so that it could be changed as well, and looked at afterwards.
+//! The calls of libjidwaleb.a (crates/jidwaleb). Nothing checks these declarations against the Rattle source, so the two have to be kept alike by
+//! hand. A slice is passed as a pointer and a length. Every lent buffer, the input too, stands between guard cells, which are looked at after the
+//! call. What a call only reads is lent in a way that it could be changed as well, and is looked at afterwards.
 
 extern "C" {
     fn jidwaleb_copy(
@@ -56,7 +56,7 @@ extern "C" {
     ) -> u64;
 }
 
-/// The refusal's number, or 0 where the call gave its result; and the count.
+/// The refusal's number, or 0 where the call gave its result, and the count.
 #[derive(Clone, Copy, Debug, PartialEq, Eq)]
 pub struct Answer {
     pub refusal: u64,
@@ -69,7 +69,7 @@ impl Answer {
     }
 }
 
-/// A cell, with what a cell that no call has written holds at its place.
+/// A cell of a buffer, with the value that it holds at its place as long as no call has written it.
 pub trait Cell: Copy {
     fn unwritten(place: usize) -> Self;
     fn same(self, other: Self) -> bool;
@@ -100,7 +100,7 @@ whole!(u8, u16, u32);
 
 const GUARD: usize = 64;
 
-/// A buffer to lend, between guard cells.
+/// A buffer to lend, which stands between guard cells.
 pub struct Lent<T> {
     cells: Vec<T>,
 }
@@ -129,13 +129,13 @@ impl<T: Cell> Lent<T> {
         &mut self.cells[GUARD..end]
     }
 
-    /// Do the cells from `from` on, and the guard cells on both sides, hold what they held?
+    /// Whether the cells from `from` on, and the guard cells on both sides, hold what they held.
     pub fn untouched_from(&self, from: usize) -> bool {
         let written = GUARD..GUARD + from;
         self.cells.iter().enumerate().all(|(i, x)| written.contains(&i) || x.same(T::unwritten(i)))
     }
 
-    /// Are the first cells these, and all others untouched?
+    /// Whether the first cells are these values, and all others are untouched.
     pub fn is(&self, values: &[T]) -> bool {
         values.len() <= self.len() && self.cells().iter().zip(values).all(|(a, b)| a.same(*b)) && self.untouched_from(values.len())
     }

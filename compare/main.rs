@@ -1,9 +1,9 @@
-//! Holds the static library against the Rust (../oracle), and times both. tools/compare.sh and tools/bench.sh build and run it.
+//! Compares the static library with the Rust (../oracle), and times both. tools/compare.sh and tools/bench.sh build and run it.
 //!
-//!     compare N SEED   random solids until types, search and rotations of N clean ones were compared, a random copying beside each; what was
-//!                      compared, and what differed; exit status 1 where something did
-//!     compare bench    times and their ratios
-//!     compare sheet X  the sheet of a regular polychoron (5-cell, 16-cell, tesseract, 24-cell, 600-cell, 120-cell) on standard output
+//!     compare N SEED   Compares types, search and rotations of random solids until N clean ones are done, and a random copying beside each.
+//!                      It prints what was compared and what differed, and its exit status is 1 where something did.
+//!     compare bench    Prints the times and their ratios.
+//!     compare sheet X  Writes the sheet of a regular polychoron (5-cell, 16-cell, tesseract, 24-cell, 600-cell, 120-cell) to standard output.
 
 mod bench;
 mod clean;

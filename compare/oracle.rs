@@ -1,7 +1,7 @@
 
 // ---------------------------------------------------------------------------
-// Public functions over the oracle, for the comparison. compare/build.sh appends this file to oracle/src/main.rs and builds both as a
-// library, so that the oracle's own text stays as it is.
+// Public functions over the oracle, for the comparison. compare/build.sh appends this file to oracle/src/main.rs and builds both as a library, so
+// that the oracle's own text stays as it is.
 
 /// Points and matrices, ready to be copied.
 pub struct Copying {
@@ -18,13 +18,13 @@ impl Copying {
         }
     }
 
-    /// How many copies there are: for timing.
+    /// How many copies there are, for timing.
     pub fn count(&self) -> usize {
         self.points.copy_by_symmetry(self.group.clone()).0 .0.len()
     }
 
-    /// The copies, and the table row by row, or none where the Rust meets an image that is not among the copies (its `unreachable!`). An error
-    /// where it panics for any other reason.
+    /// The copies, and the table row by row, or `None` where the Rust meets an image that is not among the copies (its `unreachable!`). It is an
+    /// error where the Rust panics for any other reason.
     pub fn copied(&self) -> Result<(Vec<f64>, Option<Vec<usize>>), String> {
         let table = match run(|| self.points.copy_by_symmetry(self.group.clone()).1) {
             Ok(rows) => Some(rows.concat()),
@@ -36,13 +36,13 @@ impl Copying {
     }
 }
 
-/// Types: four numbers a type (rank, type, example, count), and the type of each proper element.
+/// The types: four numbers for each type (rank, type, example, count), and the type of each proper element.
 pub struct Types {
     pub table: Vec<usize>,
     pub of: Vec<usize>,
 }
 
-/// Members: matrices row by row, rows, and whether each is a rotation.
+/// The members: matrices row by row, rows, and whether each is a rotation.
 pub struct Members {
     pub matrices: Vec<f64>,
     pub rows: Vec<usize>,
@@ -53,7 +53,7 @@ pub struct Members {
 pub struct Solid(Concrete);
 
 impl Solid {
-    /// None where the sheet can't be read. Limits, loose elements and the diamond are not tested.
+    /// Reads a sheet, and gives `None` where it can't be read. Limits, loose elements and the diamond are not tested.
     pub fn read(sheet: &[u8]) -> Option<Self> {
         read_sheet(sheet).map(Solid)
     }
@@ -68,7 +68,7 @@ impl Solid {
         Ok(Types { table, of: proper.flat_map(|r| of_element[r].iter().copied().collect::<Vec<_>>()).collect() })
     }
 
-    /// None where the Rust says that all facets pass through the origin.
+    /// The members, or `None` where the Rust says that all facets pass through the origin.
     pub fn members(&mut self, only_rotations: bool) -> Result<Option<Members>, String> {
         let found = run(|| if only_rotations { self.0.get_rotation_group() } else { self.0.get_symmetry_group() })?;
         Ok(found.map(|(group, rows)| {
@@ -83,7 +83,7 @@ impl Solid {
         }))
     }
 
-    /// For timing.
+    /// How many types there are, for timing.
     pub fn type_count(&self) -> usize {
         self.0.element_types_common().0.iter().map(Vec::len).sum()
     }

@@ -14,22 +14,22 @@ impl Random {
         self.0.wrapping_mul(0x2545_f491_4f6c_dd1d)
     }
 
-    /// A number below `n`.
+    /// A random number below `n`.
     pub fn below(&mut self, n: usize) -> usize {
         ((self.next() >> 11) % n as u64) as usize
     }
 
-    /// One of `low` to `high`.
+    /// A random number from `low` to `high`.
     pub fn among(&mut self, low: usize, high: usize) -> usize {
         low + self.below(high - low + 1)
     }
 
-    /// Between -1 and 1.
+    /// A random number between -1 and 1.
     pub fn unit(&mut self) -> f64 {
         (self.next() >> 11) as f64 / (1u64 << 53) as f64 * 2.0 - 1.0
     }
 
-    /// True once in `n` times.
+    /// True once in `n` times on average.
     pub fn once_in(&mut self, n: usize) -> bool {
         self.below(n) == 0
     }
@@ -42,7 +42,7 @@ impl Random {
         order
     }
 
-    /// An orthogonal matrix, as rows.
+    /// A random orthogonal matrix, as rows.
     pub fn turn(&mut self, d: usize) -> Vec<Vec<f64>> {
         let mut rows: Vec<Vec<f64>> = Vec::new();
         while rows.len() < d {

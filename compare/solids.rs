@@ -1,11 +1,11 @@
-//! Random solids and their sheets (document 01, section 2). Built from polygons by products, cones and suspensions, then put together, moved and
-//! renumbered, so that the symmetries, the hulls and the exchange of facets are all met often.
+//! Random solids and their sheets (document 01, section 2). They are built from polygons by products, cones and suspensions, and then put together,
+//! moved and renumbered, so that the symmetries, the hulls and the exchange of facets are all met often.
 
 use crate::model;
 use crate::random::Random;
 use std::f64::consts::PI;
 
-/// A solid of rank R = lists.len() + 2: lists[i] holds the subs of the elements of rank i + 2.
+/// A solid of rank R = lists.len() + 2, in which lists[i] holds the subs of the elements of rank i + 2.
 #[derive(Clone)]
 pub struct Solid {
     pub dimension: usize,
@@ -18,7 +18,7 @@ impl Solid {
         self.lists.len() + 2
     }
 
-    /// How many elements of rank r there are, the least and the top included.
+    /// How many elements of rank r there are, where the least element and the top count too.
     pub fn count(&self, r: usize) -> usize {
         match r {
             0 => 1,
@@ -48,7 +48,7 @@ impl Solid {
         all
     }
 
-    /// From the subs of each element at each rank from 2 on.
+    /// The solid with these subs of each element at each rank from 2 on.
     pub fn new(points: Vec<Vec<f64>>, mut lists: Vec<Vec<Vec<usize>>>) -> Solid {
         lists.iter_mut().flatten().for_each(|l| l.sort_unstable());
         Solid { dimension: points[0].len(), points, lists }
@@ -67,18 +67,18 @@ impl Solid {
         bits.bytes
     }
 
-    /// Within the limits on counts and entries?
+    /// Whether the solid keeps to the limits on counts and entries.
     pub fn within_limits(&self) -> bool {
         (1..self.rank()).all(|r| self.count(r) <= 2048) && self.lists.iter().all(|l| l.iter().map(Vec::len).sum::<usize>() <= 8192)
     }
 
-    /// Proper elements and stored entries.
+    /// How many proper elements and how many stored entries there are.
     pub fn size(&self) -> (usize, usize) {
         ((1..self.rank()).map(|r| self.count(r)).sum(), self.lists.iter().flatten().map(Vec::len).sum())
     }
 }
 
-/// Bits, most significant first.
+/// Bits, the most significant first.
 #[derive(Default)]
 struct Bits {
     bytes: Vec<u8>,
@@ -103,7 +103,7 @@ pub fn dyad(a: f64, b: f64) -> Solid {
     Solid::new(vec![vec![a], vec![b]], vec![])
 }
 
-/// The vertices in turn at these distances, each `step` of so many turns further.
+/// The polygon whose vertices lie at these distances, each turned from the one before by `step` of the n parts of a full turn.
 pub fn polygon(radii: &[f64], step: usize) -> Solid {
     let n = radii.len();
     let points = (0..n).map(|k| {
@@ -113,7 +113,7 @@ pub fn polygon(radii: &[f64], step: usize) -> Solid {
     Solid::new(points.collect(), vec![(0..n).map(|k| vec![k, (k + 1) % n]).collect()])
 }
 
-/// The product: an element of rank i and one of rank j give one of rank i + j - 1.
+/// The product, in which an element of rank i and one of rank j give one of rank i + j - 1.
 pub fn product(p: &Solid, q: &Solid) -> Solid {
     let (m, n) = (p.rank(), q.rank());
     let place = |i: usize, e: usize, j: usize, f: usize| {
@@ -144,13 +144,13 @@ pub fn product(p: &Solid, q: &Solid) -> Solid {
     Solid::new(points, lists)
 }
 
-/// The solid's elements below rank `below`, and over every element the cone to each apex. One apex and the top included is a pyramid, two and the
-/// top left out a bipyramid.
+/// The solid's elements below rank `below`, and the cone from each apex over every element. With one apex and the top included this is a pyramid, and
+/// with two apexes and the top left out it is a bipyramid.
 fn cones(p: &Solid, below: usize, base: f64, apexes: &[f64]) -> Solid {
     let d = p.dimension;
     let mut points: Vec<Vec<f64>> = p.points.iter().map(|a| [&a[..], &[base]].concat()).collect();
     points.extend(apexes.iter().map(|h| [vec![0.0; d], vec![*h]].concat()));
-    // the element itself, and the cone from apex a over it, one rank higher
+    // These two give how many elements of rank r are kept themselves, and the number of the cone from apex a over an element, one rank higher.
     let kept = |r: usize| if r < below { p.count(r) } else { 0 };
     let cone = |r: usize, i: usize, a: usize| kept(r + 1) + a * p.count(r) + i;
     let mut lists = Vec::new();
@@ -176,7 +176,7 @@ pub fn bipyramid(p: &Solid, up: f64, down: f64) -> Solid {
     cones(p, p.rank(), 0.0, &[up, down])
 }
 
-/// Four triangles and three squares through the centre, on the vertices of an octahedron.
+/// A solid of four triangles and three squares through the centre, on the vertices of an octahedron.
 pub fn tetrahemihexahedron() -> Solid {
     let points: Vec<Vec<f64>> = (0..6).map(|v| (0..3).map(|i| if v / 2 == i { 1.0 - 2.0 * (v % 2) as f64 } else { 0.0 }).collect()).collect();
     let mut edges = Vec::new();
@@ -192,7 +192,7 @@ pub fn tetrahemihexahedron() -> Solid {
     Solid::new(points, vec![edges.clone(), faces])
 }
 
-/// Twice the same facet: a polygon and its back.
+/// A solid with the same facet twice: a polygon and its back.
 pub fn dihedron(p: &Solid, height: f64) -> Solid {
     let points = p.points.iter().map(|a| [&a[..], &[height]].concat()).collect();
     let mut lists = p.lists.clone();
@@ -200,7 +200,7 @@ pub fn dihedron(p: &Solid, height: f64) -> Solid {
     Solid::new(points, lists)
 }
 
-/// Both side by side.
+/// Both solids side by side.
 pub fn compound(p: &Solid, q: &Solid) -> Solid {
     let mut all = p.clone();
     all.points.extend(q.points.iter().cloned());
@@ -232,7 +232,7 @@ impl Solid {
         self
     }
 
-    /// Moved so that the hull of this facet goes through the origin.
+    /// The solid moved so that the hull of this facet goes through the origin.
     pub fn sunk(self, facet: usize) -> Solid {
         let on = self.vertices(self.rank() - 1, facet);
         let offset = self.points[on[0]].clone();
@@ -257,7 +257,7 @@ impl Solid {
         self.moved(|p| p.iter().zip(&foot).map(|(x, y)| x - y).collect())
     }
 
-    /// Element i of rank r becomes element order[i].
+    /// The solid in which element i of rank r has become element order[i].
     pub fn renumbered(mut self, r: usize, order: &[usize]) -> Solid {
         if r == 1 {
             let old = self.points.clone();
@@ -283,7 +283,7 @@ impl Solid {
         self
     }
 
-    /// This facet becomes facet 0.
+    /// The solid in which this facet has become facet 0.
     pub fn facet_first(self, facet: usize) -> Solid {
         let r = self.rank() - 1;
         let mut order: Vec<usize> = (0..self.count(r)).collect();
@@ -294,7 +294,7 @@ impl Solid {
 
 // ---- choosing
 
-/// One in four has columns that are singular, or whose inverse is not finite.
+/// A random dyad. One in four has columns that are singular, or whose inverse is not finite.
 fn some_dyad(random: &mut Random) -> Solid {
     match random.below(8) {
         0 => dyad(0.0, 1.0),
@@ -348,7 +348,7 @@ fn some_polychoron(random: &mut Random) -> Solid {
     }
 }
 
-/// A quadrangle whose first two columns are nearly parallel: mostly no flag passes, that of the identity neither.
+/// A quadrangle whose first two columns are nearly parallel. Mostly no flag passes in it, not even that of the identity.
 fn sliver(random: &mut Random) -> Solid {
     let mut solid = polygon(&[1.0; 4], 1);
     let x = 900.001 + 1e-3 * random.unit();
@@ -356,7 +356,7 @@ fn sliver(random: &mut Random) -> Solid {
     solid
 }
 
-/// A solid of any rank from 2 to 5, mostly 4 and 5. Half of those above rank 2 have a facet through the origin as facet 0.
+/// A solid of any rank from 2 to 5, mostly of rank 4 or 5. Half of those above rank 2 have a facet through the origin as facet 0.
 pub fn some_solid(random: &mut Random) -> Solid {
     if random.once_in(80) {
         return sliver(random);
@@ -412,13 +412,13 @@ pub fn some_solid(random: &mut Random) -> Solid {
     solid
 }
 
-/// A facet whose hull goes through the origin.
+/// A facet whose hull goes through the origin, if there is one.
 pub fn centred_facet(solid: &Solid) -> Option<usize> {
     let r = solid.rank() - 1;
     (0..solid.count(r)).find(|f| model::distance(solid, r, *f) <= model::EPS)
 }
 
-/// A solid with an element too few or too many, or with a list that is another's or lacks an entry: loose or mitred, mostly.
+/// A solid with an element too few or too many, or with a list that is another's or lacks an entry. Mostly it is loose or mitred.
 pub fn broken(random: &mut Random, mut solid: Solid) -> Solid {
     let r = random.among(1, solid.rank() - 1);
     let facets = r + 1 == solid.rank();
@@ -450,7 +450,7 @@ pub fn low_sheet(random: &mut Random) -> Vec<u8> {
     bits.bytes
 }
 
-/// A sheet with some of its bits turned, or bytes taken out or put in.
+/// The sheet with some of its bits flipped, or with bytes taken out or put in.
 pub fn damaged(random: &mut Random, mut sheet: Vec<u8>) -> Vec<u8> {
     for _ in 0..random.among(1, 3) {
         let n = sheet.len();

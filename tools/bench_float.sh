@@ -1,6 +1,6 @@
 #!/bin/sh
-# bench_float.sh: nanoseconds of processor time an operation of crate `float` takes, and the machine's own square root beside it. Needs
-# `rt`, gcc and python3.
+# bench_float.sh: prints the nanoseconds of processor time that each operation of crate `float` takes, and those of the machine's own square
+# root beside them. It needs `rt`, gcc and python3.
 set -e
 cd "$(dirname "$0")/.."
 rt check float_bench > /dev/null

@@ -1,6 +1,6 @@
 #!/bin/sh
-# compare.sh [N [SEED]]: the static library against the Rust of oracle/ (compare/) on random solids, until types, search and rotations of N
-# clean ones were compared, and on as many copyings or more. Needs rt and rustc. The last line counts the differences.
+# compare.sh [N [SEED]]: compares the static library with the Rust of oracle/ (compare/) on random solids, until types, search and rotations
+# of N clean ones are done, and on as many copyings or more. It needs rt and rustc. The last line counts the differences.
 set -e
 cd "$(dirname "$0")/.."
 sh compare/build.sh

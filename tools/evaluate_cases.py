@@ -4,9 +4,9 @@
     python3 tools/evaluate_cases.py FOLDER [NAME ...]
 
 FOLDER has NAME.sheet with the answers NAME.kit, NAME.types, NAME.search and NAME.rotations, and NAME.copytext with NAME.copy. Each
-answer becomes a closed example, `call sheet .. ≡ answer` by `refl`, in a temporary repository beside a copy of crate `spec`. Printed
-for each answer: `agrees`, `DIFFERS`, or `too long` (antt stops one evaluation at 50 million steps; or 300 seconds). The exit status is 0
-where every answer agrees, 1 where one differs, and 2 where none differs and one was too long.
+answer becomes a closed example, `call sheet .. ≡ answer` by `refl`, in a temporary repository beside a copy of crate `spec`. For each
+answer the tool prints `agrees`, `DIFFERS`, or `too long`, which means that antt stopped the evaluation at 50 million steps or that it took
+300 seconds. The exit status is 0 where every answer agrees, 1 where one differs, and 2 where none differs and one was too long.
 """
 import os
 import re
@@ -113,7 +113,7 @@ def copy(folder, name):
     copies = ["0x" + h for l in answer if l.startswith("copy ") for h in l.split()[1:]]
     table = [c for l in answer if l.startswith("row ") for c in l.split()[1:]]
     n = len(copies) // int(d) if int(d) else 0
-    # "ample" outputs are lent as a few cells more than the answer fills
+    # Outputs that are more than ample are lent as a few cells more than the answer fills, which keeps the evaluation short.
     floats = min(int(floats), len(copies) + 4)
     cells = min(int(cells), len(table) + 4)
     call = f"copied (copyCall {d} (vec {lst(points)}) (vec {lst(turns)}) (replicate {floats} (ofBits binary64 0)) (replicate {cells} 7))"
@@ -151,7 +151,7 @@ def main():
         try:
             r = subprocess.run(["rt", "check", "one"], cwd=work, capture_output=True, text=True, timeout=300)
             text = r.stdout + r.stderr
-            # only the evaluation's own limit counts as too long; any other refusal is a difference
+            # Only the evaluation's own limit counts as too long. Any other refusal is a difference.
             verdict = "agrees" if r.returncode == 0 else "too long" if "stopped at the step limit" in text else "DIFFERS"
             if verdict == "DIFFERS":
                 bad += 1

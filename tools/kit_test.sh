@@ -1,11 +1,11 @@
 #!/bin/sh
-# kit_test.sh: holds what the built program `kit` prints for each sample sheet to the sample's .kit file; then for no bytes at all, and for a sheet
-# with bytes after it. The samples dihedron-8192, dihedron-8193 and polygon-420 are whole sheets of 8,192 bytes, of 8,193 and of more. The last
-# line counts.
+# kit_test.sh: compares what the built program `kit` prints for each sample sheet with the sample's .kit file, and then tests it on no bytes at all
+# and on a sheet with bytes after it. The samples dihedron-8192, dihedron-8193 and polygon-420 are whole sheets of 8,192 bytes, of 8,193 and of
+# more. The last line counts how many were as expected.
 set -u
 cd "$(dirname "$0")/.." || exit 1
 alike=0 failed=0
-# hold NAME EXPECTED: what `kit` prints for standard input is what the file EXPECTED holds
+# hold NAME EXPECTED: tests that what `kit` prints for standard input is what the file EXPECTED holds.
 hold() {
     if target/bin/kit | diff "$2" - > target/kit.diff; then
         alike=$((alike + 1))

@@ -1,6 +1,6 @@
 #!/usr/bin/env python3
 """Makes the stored copyings that program copy_replay answers to: crates/copy_replay/stdin and stdout, in the form that its source says.
-Run once; the files are kept.
+It is run once, and the files are kept.
 
     python3 tools/make_copies.py ORACLE         ORACLE is the built oracle's program (oracle/bin/oracle)
 
@@ -8,13 +8,14 @@ Where the input is clean (document 01, section 6) and passes, copies and rows ar
 each leaves in the two outputs, and the copyings that are not clean are answered by the model in this file, written from 01's section 7
 and table alone, in another language and another shape than the program. On clean input the two are held to agree.
 
-The copyings: the 48 on seeds of every kind of place and on several at once; cyclic and dihedral groups in two dimensions; one dimension;
+The copyings are the 48 on seeds of every kind of place and on several at once; cyclic and dihedral groups in two dimensions; one dimension;
 four dimensions with the 120 unit icosians, the 192 rotations of a tesseract and double turns; points at, just within and just past EPS of
 another; every refusal at its boundary and each before the next; both outputs one short, exactly full, empty and with cells to spare; 2,048
-copies and more; random seeds (Python's random, seed 20261115). For the guesses of crate `lookup`: points of which some have a twin further off
-than EPS by little, under a matrix whose images are near both; counts of copies about those where its ways part; many seeds under the identity.
+copies and more; and random seeds (Python's random, seed 20261115). Three kinds are there for the guesses of crate `lookup`: points of which
+some have a twin a little further off than EPS, under a matrix whose images are near both; numbers of copies about the one at which it goes
+from comparing one by one to guessing; and many seeds under the identity.
 
-After them the program hands out its table of 48; here it is made by the rule, order by dictionary rank and signs by bits.
+After them the program hands out its table of 48. Here it is made by the rule, with the orders by dictionary rank and the signs by bits.
 """
 import itertools
 import math
@@ -36,7 +37,7 @@ OPEN = 65535
 # ---- the model
 
 def image(matrix, point):
-    """A product starts with the first product and adds the others by rising index."""
+    """The image of a point, by dots that start with the first product and add the others by rising index."""
     result = []
     for row in matrix:
         total = row[0] * point[0]
@@ -71,7 +72,7 @@ def copying(points, matrices):
 
 
 def refused_early(d, points, turns):
-    """2, 1, 3, 12, in that order, or 0."""
+    """The first of the refusals 2, 1, 3 and 12, which are tested in that order, or 0."""
     if not 1 <= d <= 4:
         return 2
     if len(points) % d or len(turns) % (d * d):
@@ -84,7 +85,7 @@ def refused_early(d, points, turns):
 
 
 def answer(d, points, turns, copies_out, table_out, rust):
-    """The refusal's number or 0, the count, and the two outputs afterwards, of what they held before."""
+    """The refusal's number or 0, the count, and the two outputs afterwards, where copies_out and table_out are what they held before."""
     early = refused_early(d, points, turns)
     if early:
         return early, 0, copies_out, table_out
@@ -168,8 +169,9 @@ def identity(d):
 
 
 def twins(rng, d, n, pairs, axis, other):
-    """n points, some of them twins 1.5e-7 apart on an axis; and a matrix that moves all by 9e-8 along it, where the other axis is at 1, or back, at -1.
-    So the image of a lower twin, or of an upper one, is near both. Which of two has the lower number is left to chance."""
+    """n points, of which some are twins that are 1.5e-7 apart on an axis, and a matrix that moves all points along it by 9e-8: forwards where the
+    other axis is at 1, and back where it is at -1. So the image of a lower twin, or of an upper one, is near both. Which of two twins has the lower
+    number is left to chance."""
     points = []
     for k in range(n - pairs):
         p = [rng.uniform(-9, 9) for _ in range(d)]
@@ -183,7 +185,7 @@ def twins(rng, d, n, pairs, axis, other):
 
 
 def diagonal_twins(rng, n, pairs):
-    """The same about points of equal coordinates, in two dimensions: so that one axis can pass for the other."""
+    """The same for points of equal coordinates in two dimensions, so that a mistake of one axis for the other is seen."""
     points = [[t, t] for t in (70 + 50 * (k + rng.random() / 2) / n for k in range(n - pairs))]
     points += [[x, y + 1.5e-7] for x, y in points[:pairs]]
     rng.shuffle(points)
@@ -195,7 +197,7 @@ def flat(lists):
 
 
 def cases():
-    """Dimension, points, turns, and how long the outputs are; None stands for what the answer takes, and 3 and 5 cells more."""
+    """The dimension, the points, the turns, and how long the outputs are. None stands for what the answer takes, with 3 and 5 cells to spare."""
     rng = random.Random(20261115)
     all48 = flat(signed_orders(3))
     ample = (None, None)
@@ -204,7 +206,7 @@ def cases():
     def one_of(limit):
         return round(rng.uniform(-limit, limit), rng.randrange(7))
 
-    # the 48
+    # The 48 of the constant table.
     for seed in ((1, 0, 0), (1, 1, 1), (1, 2, 3), (0, 0, 0), (1, 1, 0), (2, 1, 0), (1, 1, 2), (-0.0, 0.0, -5.0), (0.1, 0.2, 0.3), (1048576.0, 0.5, -3.0)):
         yield 3, [float(x) for x in seed], all48, *ample
     yield 3, [1.0, 0.0, 0.0, 1.0, 1.0, 1.0], all48, *ample
@@ -213,19 +215,19 @@ def cases():
     for n in (1, 2, 3):
         yield 3, [one_of(10) for _ in range(3 * n)], all48, *ample
     yield 3, [one_of(10) for _ in range(9)], flat([m for m in signed_orders(3) if determinant(m, 3) > 0]), *ample
-    # two dimensions
+    # Two dimensions.
     for n in range(1, 13):
         yield 2, [1.0, 0.0], flat(cyclic(n)), *ample
     for n in (3, 5, 8):
         yield 2, [one_of(5) for _ in range(4)], flat(cyclic(n)), *ample
         yield 2, [one_of(5), one_of(5), 1.0, 0.0], flat(dihedral(n)), *ample
-    # one dimension; signs of zero
+    # One dimension, and the signs of zero.
     yield 1, [3.0], [1.0, -1.0], *ample
     yield 1, [0.0], [-1.0], *ample
     yield 1, [-0.0, 5.0, 0.0], [-1.0, 1.0], *ample
     yield 1, [5e-324, 2.0], [1.0, -1.0], *ample
     yield 1, [2.0], [0.0, 1.0], *ample
-    # four dimensions
+    # Four dimensions.
     yield 4, [1.0, 0.0, 0.0, 0.0], flat(icosians()), *ample
     yield 4, [0.5, 0.25, 0.0, -1.0], flat(icosians()), *ample
     rotations = flat([m for m in signed_orders(4) if determinant(m, 4) > 0])
@@ -233,7 +235,7 @@ def cases():
         yield 4, [float(x) for x in seed], rotations, *ample
     for j, k, n in ((1, 1, 5), (1, 2, 5), (1, 3, 8)):
         yield 4, [one_of(3) for _ in range(8)], flat(double_turn(i * j, i * k, n) for i in range(n)), *ample
-    # near points
+    # Points that are near each other.
     for gap in (0.5e-7, EPS, above):
         yield 1, [0.0, gap], [1.0], *ample
         yield 2, [0.0, 1.0, gap, 1.0, 0.0, 1.0 + gap], [1.0, 0.0, 0.0, 1.0], *ample
@@ -241,7 +243,7 @@ def cases():
     yield 1, [1e-7], [1.0, -1.0, 0.0], *ample
     yield 2, [0.0, 5.0, 8e-8, 0.0], [1.0, 0.0, 0.0, 1.0, 1.0, -1e-8, 0.0, 1.0], *ample
     yield 1, [0.0, 2e-7, 1e-7], [1.0], *ample
-    # twins that are apart, yet not lone; images near both
+    # Twins that are further apart than EPS and yet too close to count as lone, with images that are near both.
     for d, n, pairs, axis, other in ((2, 40, 8, 1, 0), (2, 40, 16, 0, 1), (3, 40, 12, 2, 0), (4, 33, 10, 1, 3), (2, 300, 60, 1, 0)):
         points, moved = twins(rng, d, n, pairs, axis, other)
         yield d, points, identity(d), *ample
@@ -249,28 +251,28 @@ def cases():
     points, moved = diagonal_twins(rng, 40, 16)
     yield 2, points, identity(2), *ample
     yield 2, points, identity(2) + moved, *ample
-    # as many copies as are compared one by one, one more, and two
+    # Fewer than 32 copies are compared one by one, so these are the counts just below that limit, at it and just above it.
     for n in (31, 32, 33):
         yield 2, [1.0, 0.0], flat(cyclic(n)), *ample
         yield 3, [rng.uniform(-9, 9) for _ in range(3 * n)], identity(3), *ample
-    # 256 and 2,048 copies, and one more with the origin
+    # 256 and 2,048 copies, and one more, which is the origin.
     for seeds in (32, MOST // 8):
         points = [rng.uniform(-9, 9) for _ in range(2 * seeds)]
         yield 2, points, flat(cyclic(8)), 16 * seeds, 64 * seeds
         yield 2, points + [0.0, 0.0], flat(cyclic(8)), 16 * seeds + 2, 64 * seeds + 8
-    # many seeds under the identity, some of them twice
+    # Many seeds under the identity, some of them twice.
     for d, n in ((1, 700), (2, 1000), (3, 257), (4, 256), (4, 800)):
         points = [rng.uniform(-1000, 1000) for _ in range(d * n)]
         yield d, points + points[:4 * d], identity(d), *ample
-    # 2, also before 1
+    # Refusal 2, also where 1 would come next.
     for d in (0, 5, 6, 8, 1 << 32, (1 << 64) - 1):
         yield d, [1.0] * 8, [1.0] * 64, 9, 9
         yield d, [1.0] * 7, [math.nan] * 3, 9, 9
-    # 1, also before 3 and 12
+    # Refusal 1, also where 3 or 12 would come next.
     for d, p, t in ((2, 3, 4), (2, 2, 5), (2, 2, 3), (3, 3, 8), (3, 4, 9), (4, 4, 15), (4, 5, 16), (2, 0, 1), (2, 1, 0)):
         yield d, [1.0] * p, [1.0] * t, 9, 9
     yield 2, [math.nan, 1.0, 1.0], [1.0] * 4, 9, 9
-    # 3, also before 12; at the limit not
+    # Refusal 3, also where 12 would come next. At the limit itself it does not come.
     for x in (math.nan, math.inf, -math.inf, math.nextafter(LIMIT, 2e6), -math.nextafter(LIMIT, 2e6)):
         yield 2, [0.0, x], [1.0, 0.0, 0.0, 1.0], 9, 9
         yield 2, [0.0, 1.0], [1.0, 0.0, 0.0, x], 9, 9
@@ -278,10 +280,10 @@ def cases():
         yield 1, [], [x], 9, 9
     yield 2, [LIMIT, -LIMIT], [1.0, 0.0, 0.0, 1.0, -1.0, 0.0, 0.0, -1.0], *ample
     yield 1, [LIMIT], [LIMIT], 9, 9
-    # 12
+    # Refusal 12.
     for p, t in (([], []), ([1.0] * 3, []), ([], [1.0] * 9)):
         yield 3, p, t, 9, 9
-    # 13 and what is just enough
+    # Refusal 13, and outputs that are just long enough.
     for floats in (0, 1, 2, 3, 17, 18, 19, 20, 21):
         yield 3, [1.0, 0.0, 0.0], all48, floats, 288
     for cells in (0, 1, 287, 288, 289):
@@ -295,7 +297,7 @@ def cases():
     yield 1, [k + 0.5 for k in range(MOST // 2 + 1)], [1.0, -1.0], MOST + 2, 2 * MOST + 4
     yield 1, [k + 0.5 for k in range(MOST // 2)], [1.0, -1.0], MOST - 1, 2 * MOST
     yield 1, [k + 0.5 for k in range(MOST // 2)], [1.0, -1.0], MOST, 2 * MOST - 1
-    # 14, and 13 before it
+    # Refusal 14, and 13 where both would come.
     quarter = [0.0, -1.0, 1.0, 0.0]
     for floats, cells in ((9, 9), (2, 1), (2, 0), (1, 1)):
         yield 2, [1.0, 0.0], quarter, floats, cells

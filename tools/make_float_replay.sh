@@ -1,6 +1,7 @@
 #!/bin/sh
-# make_float_replay.sh ORACLE: makes crates/float_replay/stdin and stdout anew. Needs rustc and python3. ORACLE is the folder of the
-# oracle (the Rust over stand-ins for its crates), whose stand-in for nalgebra answers for the matrices; the roots are the machine's own (make_roots.py). Run once; the files are kept.
+# make_float_replay.sh ORACLE: makes crates/float_replay/stdin and stdout anew. It needs rustc and python3. ORACLE is the folder of the
+# oracle (the Rust over stand-ins for its crates), whose stand-in for nalgebra answers for the matrices; the roots are the machine's own
+# (make_roots.py). It is run once, and the files are kept.
 set -e
 oracle=$(cd "$1" && pwd -P)
 top=$(cd "$(dirname "$0")/.." && pwd -P)

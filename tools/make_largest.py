@@ -4,18 +4,20 @@
     python3 tools/make_largest.py            writes crates/sheet_bench/stdin (the sheet `full`)
     python3 tools/make_largest.py FOLDER     writes all of them there, as NAME.sheet
 
-Accepted. A face (rank 3) lies in exactly two facets, so that of list entries there are at most 4,096 at rank 2, 8,192 at rank 3 and 4,096 at
-rank 4.
-- full: 512 times four squares on the same four edges, each two neighbours a facet: 2,048 elements at each proper rank, and every entry.
-- cubes: 11 by 2 by 31 cubes that close up in all three directions: 682 vertices and facets, 2,046 edges and faces.
-- cells: 21 times the boundary of the 24-cell: 504 vertices and facets, 2,016 edges and faces.
-- wide: four polygons of 2,048 sides on the same edges: the longest lists.
-- split: three polygons of 682 sides, six faces of two of them each, four facets of three faces: the most entries looked through in vain.
-- squares, pentagons: a cycle of 4 or 5 edges, each edge twice; a face for each choice of one edge of each pair, as often as there is room:
-  the most faces on an edge.
-Refused.
-- ridges (6): two polygons of 2,048 sides on the same edges, both in each of 2,048 facets.
-- longest (6): 2,048 elements and 8,192 entries at every rank: the longest sheet there is.
+These are accepted. A face (rank 3) lies in exactly two facets, so that there are at most 4,096 list entries at rank 2, 8,192 at rank 3 and
+4,096 at rank 4.
+- full: 512 times four squares on the same four edges, where each two neighbours make a facet. It has 2,048 elements at each proper rank, and
+  every entry.
+- cubes: 11 by 2 by 31 cubes that close up in all three directions. They have 682 vertices and facets, and 2,046 edges and faces.
+- cells: 21 times the boundary of the 24-cell, with 504 vertices and facets, and 2,016 edges and faces.
+- wide: four polygons of 2,048 sides on the same edges, which have the longest lists.
+- split: three polygons of 682 sides, six faces of two of them each, and four facets of three faces. Here the most entries are looked through
+  in vain.
+- squares, pentagons: a cycle of 4 or 5 edges with each edge twice, and a face for each choice of one edge of each pair, as often as there is
+  room. They have the most faces on an edge.
+These are refused.
+- ridges (6): two polygons of 2,048 sides on the same edges, both of which are in each of 2,048 facets.
+- longest (6): 2,048 elements and 8,192 entries at every rank, which make the longest sheet there is.
 """
 import itertools
 import os
@@ -27,7 +29,7 @@ from pack_sheet import pack
 
 
 def together(parts):
-    """Solids side by side."""
+    """One solid of several that stand side by side."""
     points, lists = [], [[], [], []]
     for p, ls in parts:
         below = len(points)
@@ -40,7 +42,7 @@ def together(parts):
 
 
 def fan(n, m, at):
-    """m polygons of n sides on the same edges."""
+    """A solid of m polygons of n sides on the same edges."""
     corner = ((1.0, 1.0), (-1.0, 1.0), (-1.0, -1.0), (1.0, -1.0))
     points = [(corner[k % 4][0] * (1 + k // 4), corner[k % 4][1], float(at % 32), float(at // 32)) for k in range(n)]
     edges = [sorted((k, (k + 1) % n)) for k in range(n)]
@@ -48,7 +50,7 @@ def fan(n, m, at):
 
 
 def split(n):
-    """A face for each two of four facets. Each polygon is in the faces of all but one pairing of the facets."""
+    """A solid with a face for each two of four facets. Each polygon is in the faces of all but one pairing of the facets."""
     points, lists = together(([(0.0, 0.0, float(a), float(k)) for k in range(n)], [[sorted((k, (k + 1) % n)) for k in range(n)], [], []]) for a in range(3))
     faces = list(itertools.combinations(range(4), 2))
     pairings = [{(0, 1), (2, 3)}, {(0, 2), (1, 3)}, {(0, 3), (1, 2)}]
@@ -58,7 +60,8 @@ def split(n):
 
 
 def choices(n, m):
-    """Around a cycle of n edges, each twice: m faces for each choice of one edge of each pair, each two neighbours of equal ones a facet."""
+    """A solid around a cycle of n edges, each of which is there twice. Each choice of one edge of each pair gives m equal faces, and each two neighbours
+    of these make a facet."""
     points = [(float(k), float(k % 2), 0.0, 0.0) for k in range(n)]
     edges = [sorted((k, (k + 1) % n)) for k in range(n) for _ in range(2)]
     faces = [[2 * k + b for k, b in enumerate(bits)] for bits in itertools.product((0, 1), repeat=n) for _ in range(m)]
@@ -77,7 +80,7 @@ def longest(n):
 
 
 def cubes(sizes):
-    """Cubes that close up: an element is a place and the axes along which it extends."""
+    """Cubes that close up. An element is given by a place and the axes along which it extends."""
     places = list(itertools.product(*map(range, sizes)))
     axes = [[s for s in itertools.product((0, 1), repeat=3) if sum(s) == k] for k in range(4)]
     number = [{e: i for i, e in enumerate(itertools.product(axes[k], places))} for k in range(4)]
@@ -94,7 +97,8 @@ def cubes(sizes):
 
 
 def cell24(at):
-    """Vertices with two coordinates of ±1; a facet is the octahedron of those that reach furthest in one of 24 directions."""
+    """The boundary of the 24-cell. The vertices have two coordinates of ±1, and a facet is the octahedron of those that are furthest in one of 24
+    directions."""
     points = [p for p in itertools.product((-1, 0, 1), repeat=4) if sum(map(abs, p)) == 2]
     directions = [p for p in itertools.product((-1, 0, 1), repeat=4) if sum(map(abs, p)) in (1, 4)]
     octahedra = [frozenset(v for v in range(24) if sum(a * b for a, b in zip(points[v], u)) * (2 if sum(map(abs, u)) == 1 else 1) == 2) for u in directions]

@@ -1,10 +1,10 @@
 #!/usr/bin/env python3
-"""Makes the stored roots that program float_replay answers to, at the start of crates/float_replay/stdin and stdout: for each argument
-a 0 and its bit pattern, and the root's pattern, as numbers of eight bytes, highest byte first. The answers are the machine's own square
-root. tools/make_float_replay.sh runs it.
+"""Makes the stored roots that program float_replay answers to, at the start of crates/float_replay/stdin and stdout. For each argument
+stdin has a 0 and its bit pattern, and stdout has the root's pattern, as numbers of eight bytes with the highest byte first. The answers are
+the machine's own square roots. tools/make_float_replay.sh runs it.
 
-Arguments: zeros, infinities, NaN, negatives; the smallest and largest subnormals and normals; every power of two; squares of whole
-numbers and of random 26-bit and 53-bit values with their two neighbours; 1,000 random patterns with the sign clear and 100 random
+The arguments are zeros, infinities, NaN and negatives; the smallest and largest subnormals and normals; every power of two; squares of whole
+numbers and of random 26-bit and 53-bit values with their two neighbours; and 1,000 random patterns with the sign clear and 100 random
 subnormals (Python's random, seed 20261115).
 """
 import math

@@ -1,16 +1,17 @@
 #!/usr/bin/env python3
-"""Makes the stored sheets that program sheet_replay answers to: crates/sheet_replay/stdin, for each sheet its length in four bytes, highest
-first, and its bytes; and stdout, for each the number of its refusal among 1 to 7, or 0, a line each. The answers come from the judge in
-this file, which was written from document 01's section 2 and table alone, in another language and another shape than the program. Run
-once; the files are kept.
+"""Makes the stored sheets that program sheet_replay answers to. For each sheet crates/sheet_replay/stdin has its length in four bytes,
+highest first, and its bytes; and stdout has a line with the number of its refusal among 1 to 7, or 0. The answers come from the judge in
+this file, which was written from document 01's section 2 and table alone, in another language and another shape than the program. It is run
+once, and the files are kept.
 
     python3 tools/make_sheets.py
 
-The sheets, each once: those of samples/ of up to 1,000 bytes; small solids cut at every byte, with bytes after them, with each filling bit
-set; every limit broken by one and just kept, entries also where the sheet is then cut or has a bad sub; lists empty, not rising, repeating,
-with a sub equal to its count; coordinates NaN of every kind, infinite, at the limit and one above; loose and mitred solids, both at once, at
-every rank up to R = 5, and with too little workspace; both edges of the workspace, words' and floats'; 400 random damages of samples
-(Python's random, seed 20261115).
+Each of these sheets is there once: those of samples/ of up to 1,000 bytes; small solids that are cut at every byte, that have bytes after them
+and that have each filling bit set; every limit, broken by one and just kept, and for entries also where the sheet is then cut or has a bad sub;
+lists that are empty, that do not rise, that repeat a sub or that have a sub equal to its count; coordinates that are NaN of every kind,
+infinite, at the limit and just above it; solids that are loose, mitred or both at once, at every rank up to R = 5, and with too little
+workspace; both edges of the workspace, that of the words and that of the floats; and 400 random damages of samples (Python's random, seed
+20261115).
 """
 import itertools
 import os
@@ -30,7 +31,7 @@ class Refused(Exception):
 
 
 def judge(data, words=WORDS, floats=FLOATS):
-    """The refusal's number, or 0: fields as they come, the end, 7, 5, 6."""
+    """The refusal's number, or 0. The fields are judged as they come, then the end, 7, 5 and 6."""
     bits = "".join(f"{b:08b}" for b in data)
     at = 0
 
@@ -117,7 +118,7 @@ def made():
     square = pack(3, 2, [(1, 1), (-1, 1), (-1, -1), (1, -1)], [[[0, 1], [1, 2], [2, 3], [0, 3]]])
     tetra = pack(4, 0, [()] * 4, [[[0, 1], [0, 2], [0, 3], [1, 2], [1, 3], [2, 3]], [[0, 1, 3], [0, 2, 4], [1, 2, 5], [3, 4, 5]]])
     pair = pack(2, 1, [(-1.0,), (1.0,)], [])
-    # the only one here that fills its last byte
+    # This is the only one here that fills its last byte.
     pentagon = pack(3, 0, [()] * 5, [[[0, 1], [1, 2], [2, 3], [3, 4], [0, 4]]])
     for whole in (square, tetra, pair, pentagon, bytes([0]), bytes([0x20]), b""):
         yield from (whole[:n] for n in range(len(whole) + 1))
@@ -150,13 +151,13 @@ def made():
     yield pack(3, 0, [()] * 2048, [[full, full, full, full[:2047], []]])
     yield pack(3, 0, [()] * 2048, [[full, full, full, full, []]])
     yield pack(3, 0, [()] * 2048, [[full, full, full, full, [0]]])
-    # entry 8,193, and then the sheet is cut, or a sub repeats
+    # Entry 8,193 is there, and then the sheet is cut, or a sub repeats.
     over = head(3, 0, [2048, 4]) + "".join(f"{2048:012b}" + "".join(f"{x:011b}" for x in full) for _ in range(3)) + f"{2049:012b}"
     yield packed(over)
     yield packed(over + f"{0:011b}" * 2049)
-    # as many as a rank may have, and more in the next rank
+    # One rank has as many entries as it may have, and the next rank has some too.
     yield pack(4, 0, [()] * 2048, [[full] * 4, [[0, 1, 2, 3]]])
-    # 1,023 just fit the words; 2,048 elements just fit the floats, where the solid is loose
+    # Polygons of 1,023 sides just fit the words. 2,048 elements just fit the floats, and there the solid is loose.
     for n in (200, 1023, 1024, 1025):
         yield pack(3, 0, [()] * n, [[[i, i + 1] for i in range(n - 1)] + [[0, n - 1]]])
     for n in (2046, 2047):
@@ -164,7 +165,7 @@ def made():
 
 
 def cells():
-    """The boundary of the 4-simplex, R = 5; with an element in no list at each rank, and with one sub more or less at each rank."""
+    """The boundary of the 4-simplex, R = 5, and its variants with an element in no list and with one sub more or less, at each rank."""
     of = [list(itertools.combinations(range(5), k)) for k in range(1, 5)]
     lists = [[[at.index(s) for s in itertools.combinations(e, len(e) - 1)] for e in up] for at, up in zip(of, of[1:])]
     lists = [[sorted(l) for l in ls] for ls in lists]
@@ -176,7 +177,7 @@ def cells():
         more = lists[:r] + [[sorted({*lists[r][0], lists[r][-1][-1]})] + lists[r][1:]] + lists[r + 1:]
         yield from (pack(5, 0, [()] * 5, ls) for ls in (spare, less, more))
     yield pack(5, 0, [()] * 5, lists[:2] + [lists[2][:-1]])
-    # two triangles on the same edges: both in each of so many facets
+    # Two triangles on the same edges, both of which are in each of n facets.
     for n in (1, 2, 3):
         yield pack(5, 0, [()] * 3, [[[0, 1], [1, 2], [0, 2]], [[0, 1, 2]] * 2, [[0, 1]] * n])
 

@@ -1,6 +1,6 @@
 #!/usr/bin/env python3
 """Makes the stored sheets that program types_replay answers to: crates/types_replay/stdin and stdout, in the form that its source says.
-Run once; the files are kept.
+It is run once, and the files are kept.
 
     python3 tools/make_types.py ORACLE         ORACLE is the built oracle's program (oracle/bin/oracle)
 
@@ -9,15 +9,15 @@ table are the oracle's, which is the Rust itself. The refusals, the solids of ra
 the model in this file, written from 01's sections 3 and 4 and its table alone, in another language and another shape than the program. On
 clean solids the two are held to agree.
 
-The lists are made in four ways, and each element's subs are sorted: polygons have their vertices in turn; a product has an element of rank
-i + j - 1 for each pair of elements of ranks i and j (prisms, duoprisms, the cube, the tesseract); a pyramid has the base's elements and
-the cone over each, a bipyramid two cones and no base (the octahedron, the 16-cell, the 4-simplex); all else is the convex hull of its
-vertices (antiprisms, the Platonic solids, the 24-cell): facets by trying planes, and below them the sets that facets have in common.
-Compounds stand side by side. Then a solid is scaled, turned, shaken by 1e-10 or by 0.01 and relabelled, by Python's random (seed
-20261116).
+The lists are made in four ways, and each element's subs are sorted. Polygons have their vertices in turn. A product has an element of rank
+i + j - 1 for each pair of elements of ranks i and j (prisms, duoprisms, the cube, the tesseract). A pyramid has the base's elements and the
+cone over each, and a bipyramid has two cones and no base (the octahedron, the 16-cell, the 4-simplex). All else is the convex hull of its
+vertices (antiprisms, the Platonic solids, the 24-cell): its facets are found by trying planes, and the elements below them are the sets that
+facets have in common. The parts of a compound stand side by side. Then some solids are scaled, turned, shaken by 1e-10 or by 0.01 and
+relabelled, by Python's random (seed 20261116).
 
-Every solid has outputs of just its size or with cells to spare; some are asked again with each output one cell short (13), and with each
-half of the workspace one short (7). No sheet is refused 15: crate `spec` proves that none is.
+Every solid has outputs of just its size or with cells to spare. Some are asked again with each output one cell short (13), and with each
+half of the workspace one cell short (7). No sheet is refused 15: crate `spec` proves that none is.
 """
 import itertools
 import math
@@ -35,7 +35,7 @@ EPS = 1e-7
 
 
 class Solid:
-    """The vertices' coordinates, and for each rank from 2 on each element's subs."""
+    """A solid by its vertices' coordinates and, for each rank from 2 on, each element's subs."""
 
     def __init__(self, points, lists, rank=None):
         self.points = [[float(x) for x in p] for p in points]
@@ -52,7 +52,7 @@ class Solid:
         return range(1, self.rank)
 
     def size(self):
-        """Proper elements, and stored entries."""
+        """How many proper elements and how many stored entries there are."""
         return sum(self.count(r) for r in self.proper()), sum(len(l) for ls in self.lists for l in ls)
 
     def pack(self):
@@ -62,7 +62,7 @@ class Solid:
 # ---- the model
 
 def dot(a, b):
-    """Starts with the first product and adds the others by rising index."""
+    """The dot product, which starts with the first product and adds the others by rising index."""
     total = a[0] * b[0] if a else 0.0
     for x, y in zip(a[1:], b[1:]):
         total += x * y
@@ -74,7 +74,7 @@ def minus(a, b):
 
 
 def distance(points):
-    """From the origin to the hull of these points."""
+    """The distance from the origin to the hull of these points."""
     offset, basis = points[0], []
 
     def project(p):
@@ -97,7 +97,7 @@ def distance(points):
 
 
 def classes(s):
-    """Each proper element's distance class by rank, and whether the solid is clean."""
+    """The distance class of each proper element by rank, and whether the solid is clean."""
     listed, distances, all_classes, below = [], [], {}, {}
     for r in s.proper():
         below[r] = [{i} if r == 1 else set().union(*(below[r - 1][e] for e in s.subs(r, i))) for i in range(s.count(r))]
@@ -174,7 +174,7 @@ def dyad(a, b):
 
 
 def polygon(n, radii=None, step=1):
-    """Vertices in turn at these distances, each so many steps further."""
+    """The polygon whose vertices lie at these distances, each `step` of the n parts of a full turn further than the one before."""
     radii = radii or [1.0] * n
     angles = [2 * math.pi * k * step / n for k in range(n)]
     return Solid([[r * math.cos(a), r * math.sin(a)] for r, a in zip(radii, angles)], [[[k, (k + 1) % n] for k in range(n)]])
@@ -219,7 +219,7 @@ def bipyramid(p, up, down):
 
 
 def independent(vectors):
-    """How many of them are, by elimination."""
+    """How many of the vectors are linearly independent, by elimination."""
     rows, found = [list(v) for v in vectors], 0
     for c in range(len(rows[0]) if rows else 0):
         best = max(range(found, len(rows)), key=lambda k: abs(rows[k][c]), default=None)
@@ -234,7 +234,7 @@ def independent(vectors):
 
 
 def normal(vectors):
-    """Across d - 1 vectors of d coordinates: the minors with their signs."""
+    """A vector that is normal to d - 1 vectors of d coordinates, which is made of their minors with signs."""
     def minor(rows):
         return sum((-1) ** k * rows[0][k] * minor([r[:k] + r[k + 1:] for r in rows[1:]]) for k in range(len(rows))) if rows else 1.0
 
@@ -295,7 +295,7 @@ def scaled(s, by):
 
 
 def turned(s, rng):
-    """By a random orthogonal matrix."""
+    """The solid turned by a random orthogonal matrix."""
     d, rows = len(s.points[0]), []
     while len(rows) < d:
         v = [rng.gauss(0, 1) for _ in range(d)]
@@ -311,7 +311,7 @@ def shaken(s, rng, by):
 
 
 def relabelled(s, rng):
-    """Each rank's elements in another order."""
+    """The solid with the elements of each rank in another order."""
     places = [list(range(s.count(r))) for r in s.proper()]
     for p in places:
         rng.shuffle(p)
@@ -377,7 +377,7 @@ def plain():
 
 
 def unclean():
-    """A distance between two listed values that it is near to."""
+    """Solids that are not clean, because a distance lies between two listed values that are both near to it."""
     for points in ((0, 1.2e-7, 0.6e-7), (0, 0.6e-7, 1.2e-7)):
         yield Solid([[x] for x in points], polygon(3).lists)
     for s in (polygon(30), product(polygon(12), dyad(-1, 1)), antiprism(10, 0.5)):
@@ -385,7 +385,7 @@ def unclean():
 
 
 def improper():
-    """Rank 0 and rank 1."""
+    """Solids of rank 0 and of rank 1."""
     yield Solid([], [], 0)
     yield Solid([[]], [], 1)
     yield Solid([[1, 2]], [], 1)

@@ -3,7 +3,8 @@
 
     python3 tools/pack_sheet.py R D 'x y .. ; x y .. ; ..' ['0 1 ; 1 2 ; .. | ..']
 
-Coordinates of the vertices between semicolons; then for ranks 2 to R−1, parted by |, each element's subs between semicolons.
+The first text has the coordinates of each vertex between semicolons. The second has, for ranks 2 to R−1 and parted by |, the subs of each
+element between semicolons.
 """
 import struct
 import sys

@@ -1,15 +1,15 @@
-// Replays stored copyings: reads records and writes each answer with every cell of the two outputs. All numbers are whole, eight bytes
-// each and two for a table's cell, highest byte first; a float goes as its bit pattern. A record is the dimension, how many floats there are of points, how many of
-// turns, how long the two outputs are, and then those floats. Its answer is the refusal's number, or 0; the count; the output of copies;
-// the table. Both outputs are filled with numbers of the place beforehand, so that a cell that is to stay is seen to stay.
-// After the last answer comes the table of 48. tools/make_copies.py made stdin and stdout.
+// Replays stored copyings: reads records and writes each answer with every cell of the two outputs. All numbers are whole, with the highest byte
+// first: they have eight bytes each, and two for a table's cell. A float is written as its bit pattern. A record gives the dimension, how many floats
+// there are of points and how many of turns, how long the two outputs are, and then those floats. Its answer gives the refusal's number, or 0, then
+// the count, the output of copies and the table. Beforehand both outputs are filled with numbers that depend on the place, so that a cell that has to
+// stay is seen to stay. After the last answer comes the table of 48. tools/make_copies.py made stdin and stdout.
 ghost use Prim.Native.Nat.{_<_, _≤_, _^_};
 ghost use lib.ListN.{length};
 use copying::axes;
 use float::bits;
 use spec::Answer;
 
-// The most floats of points, of turns and of copies, and the most cells of a table, that a record may ask for.
+// The greatest number of floats of points, of turns and of copies, and of cells of a table, that a record may ask for.
 const POINTS: usize = 4096;
 
 const TURNS: usize = 4096;
@@ -18,7 +18,7 @@ const COPIES: usize = 8192;
 
 const CELLS: usize = 32768;
 
-// What stands at the end of the input: no record may ask for so much.
+// The number that stands for the end of the input. No record may ask for so much.
 const END: u64 = 0xffff_ffff_ffff_fffe;
 
 fn wide(x: u8) -> u64
@@ -57,7 +57,7 @@ fn write(n: u64) -> bool {
     io::write_all(1, &b)
 }
 
-// A table's cell: two bytes.
+// Writes a cell of the table as two bytes.
 fn write_cell(n: u16) -> bool {
     let b = [(n / 256 % 256) as u8, (n % 256) as u8];
     io::write_all(1, &b)
@@ -71,7 +71,7 @@ fn read_floats(out: &mut [f64]) {
     }
 }
 
-// Floats that no copy is, another in each cell.
+// Fills every cell with a different float, none of which is a coordinate of a copy.
 fn fill_floats(out: &mut [f64]) {
     let mut i: usize = 0;
     while i < out.len() {
@@ -80,7 +80,7 @@ fn fill_floats(out: &mut [f64]) {
     }
 }
 
-// Numbers that no copy has, and not 65,535.
+// Fills the cells with numbers that no copy has and that are not 65,535.
 fn fill_cells(out: &mut [u16]) {
     let mut i: usize = 0;
     while i < out.len() {
@@ -118,7 +118,7 @@ fn write_answer(answer: Answer) -> bool {
     }
 }
 
-// Reads points and turns that just fill their slices, and copies.
+// Reads points and turns that just fill their slices, and copies them.
 fn replay(
     dimension: usize,
     points: &mut [f64],
@@ -134,7 +134,7 @@ fn replay(
     write_answer(answer) && write_floats(copies) && write_cells(table)
 }
 
-// A length that the input asks for, of at most the limit given; or one above it.
+// A length that the input asks for, or one above the limit where it asks for more than that.
 fn next_length(limit: usize) -> usize
     requires { ⌜ limit < 2 ^ 32 ⌝ }
 {
@@ -145,7 +145,7 @@ fn next_length(limit: usize) -> usize
     limit + 1
 }
 
-// One record; whether there may be more.
+// Replays one record, and says whether there may be more.
 fn replay_one(
     points: &mut [f64],
     turns: &mut [f64],
@@ -178,7 +178,7 @@ fn replay_one(
     )
 }
 
-// The table of 48, row by row.
+// Writes the table of 48, row by row.
 fn write_table() {
     let table = axes::axis_orders();
     let turns = axes::axis_turns(&table);

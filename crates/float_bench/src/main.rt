@@ -1,11 +1,11 @@
-// Does one operation of crate `float` again and again, each on what the one before gave, and prints the last pattern. The first
-// argument names it: r root, i inverse, d determinant, p product; the second, a digit n, says how often: 8^n times.
+// Does one operation of crate `float` again and again, each time on what the time before gave, and prints the last pattern. The first argument names
+// the operation: r is root, i inverse, d determinant and p product. The second is a digit n and says how often it is done, which is 8^n times.
 // tools/bench_float.sh times it. In the gate it runs a few times only.
 use float::DIMENSION;
 use float::bits;
 use float::matrix;
 
-// The arguments wander over the numbers from 0 to 1, so that no digit of a root can be foretold.
+// The arguments wander over the numbers from 0 to 1, so that the processor cannot foretell any digit of a root.
 fn repeat_root(times: u64) -> f64 {
     let mut x = 0.3;
     let mut left = times;
@@ -48,7 +48,7 @@ fn repeat_determinant(times: u64) -> f64 {
     x
 }
 
-// Each product is of the one before with itself, so that every entry counts.
+// Each product multiplies the one before by itself, so that every entry counts.
 fn repeat_product(times: u64) -> f64 {
     let mut m = [
         [0.0, 1.0, 0.0, 0.0],

@@ -1,14 +1,14 @@
-// Replays stored arithmetic: reads records of eight-byte numbers, highest byte first, and writes the answers in the same form. A record
-// is a 0 and a float's bit pattern, answered by its root's; or a dimension from 1 to 4 and a matrix's patterns row by row, answered by 1
-// and its inverse (or by 0 where it is singular), its determinant, its product with its rows in falling order, and the image of its first row.
-// tools/make_float_replay.sh made stdin and stdout.
+// Replays stored arithmetic: reads records of eight-byte numbers, highest byte first, and writes the answers in the same form. A record may be a 0
+// and the bit pattern of a float, and is then answered by that of its root. Or it is a dimension from 1 to 4 and the patterns of a matrix row by row,
+// and is then answered by 1 and the inverse (or by 0 where the matrix is singular), the determinant, the product with the matrix of its rows in
+// falling order, and the image of its first row. tools/make_float_replay.sh made stdin and stdout.
 ghost use Prim.Native.Nat.{_<_, _≤_, _^_};
 ghost use Rattle.spec.specs.Limits.{maxDimension};
 use float::DIMENSION;
 use float::bits;
 use float::matrix;
 
-// What stands at the end of the input in place of a dimension.
+// The number that stands for the end of the input, where a dimension would come.
 const END: u64 = DIMENSION as u64 + 1;
 
 fn wide(x: u8) -> u64
@@ -112,7 +112,7 @@ fn write_inverse(m: [[f64; DIMENSION]; DIMENSION], d: usize) -> bool
     write(0)
 }
 
-// The rows in falling order.
+// The matrix with its rows in falling order.
 fn turned(m: [[f64; DIMENSION]; DIMENSION], d: usize) -> [[f64; DIMENSION]; DIMENSION]
     requires { ⌜ d ≤ maxDimension ⌝ }
 {
@@ -135,7 +135,7 @@ fn replay_matrix(d: usize) -> bool
         && write_row(matrix::image(m, m[0], d), d)
 }
 
-// One record; whether there may be more.
+// Replays one record, and says whether there may be more.
 fn replay_one() -> bool {
     let tag = next();
     if tag == 0 {
