@@ -113,7 +113,7 @@ def copy(folder, name):
     copies = ["0x" + h for l in answer if l.startswith("copy ") for h in l.split()[1:]]
     table = [c for l in answer if l.startswith("row ") for c in l.split()[1:]]
     n = len(copies) // int(d) if int(d) else 0
-    # Outputs that are more than ample are lent as a few cells more than the answer fills, which keeps the evaluation short.
+    # Ample outputs are lent as only a few cells more than the answer fills, so that the evaluation stays short.
     floats = min(int(floats), len(copies) + 4)
     cells = min(int(cells), len(table) + 4)
     call = f"copied (copyCall {d} (vec {lst(points)}) (vec {lst(turns)}) (replicate {floats} (ofBits binary64 0)) (replicate {cells} 7))"
