@@ -83,7 +83,7 @@ pub record IsMaximal (s : Solid) (C : List Element) : Type 0 where
   pub chain : IsChain s C
   pub largest : (D : List Element) → IsChain s D → Within C D → Within D C
 
--- C and D stand for the same set
+-- C and D stand for the same set.
 abbrev pub SameSet : List Element → List Element → Type 0
 SameSet C D = Within C D × Within D C
 
@@ -96,7 +96,7 @@ NoneTwice (F ∷ C) = (¬ In F C) × NoneTwice C
 unfoldable pub elementsOf : Flag → List Element
 elementsOf F = map (λ r. element r (elementAt F r)) (range 0 (length F))
 
--- the book's flags are the maximal chains, and those are the flags of section 5
+-- The flags of the book are the maximal chains, and those are the flags of section 5.
 pub record MaximalChains (s : Solid) : Type 0 where
   -- A chain is maximal exactly when every element that is comparable with all of its members is a member.
   pub saturated : (C : List Element) → IsMaximal s C
@@ -106,7 +106,7 @@ pub record MaximalChains (s : Solid) : Type 0 where
   -- The maximal chains are exactly the sets of elements of flags, and so of the listed flags.
   pub exact : (C : List Element) → IsMaximal s C ↔ ((F : Flag) × IsFlag s F × SameSet C (elementsOf F))
   pub listed : (C : List Element) → IsMaximal s C ↔ ((F : Flag) × In F (flags s) × SameSet C (elementsOf F))
-  -- no two flags have the same elements, so each maximal chain belongs to one flag
+  -- No two flags have the same elements, so each maximal chain belongs to one flag.
   pub only : (F G : Flag) → IsFlag s F → IsFlag s G → SameSet (elementsOf F) (elementsOf G) → F ≡ G
   -- P2: every maximal chain has as many elements as there are ranks, exactly one of each.
   pub one-each : (C : List Element) → IsMaximal s C → (r : ℕ) → r ≤ top s → (e : ℕ) × In (element r e) C × ((f : ℕ) → In (element r f) C → f ≡ e)
@@ -140,14 +140,14 @@ Filled s = (r e : ℕ) → e < size s (suc r) → 0 < length (subs s (suc r) e)
 abbrev pub EveryOrder : Type 0
 EveryOrder = (s : Solid) → Sound s → Filled s → bound s ≡ true → Ordered s
 
--- the test behind refusal 5 passes exactly when every element is at most the top
+-- The test behind refusal 5 passes exactly when every element is at most the top.
 abbrev pub EveryBound : Type 0
 EveryBound = (s : Solid) → Sound s → Filled s → (bound s ≡ true) ↔ ((F : Element) → IsElement s F → AtMost s F (topElement s))
 
 abbrev pub EveryMaximalChain : Type 0
 EveryMaximalChain = (s : Solid) → Sound s → Filled s → bound s ≡ true → MaximalChains s
 
--- the test behind refusal 6 passes exactly when the solid has P4
+-- The test behind refusal 6 passes exactly when the solid has P4.
 abbrev pub EveryDiamond : Type 0
 EveryDiamond = (s : Solid) → Sound s → (diamond s ≡ true) ↔ Diamonds s
 
