@@ -31,7 +31,7 @@ floatsAt b i n = map (ofBits binary64) (fieldsAt b i 64 n)
 
 -- ---- the lists of a sheet
 
--- "each element's list: length, 12 bits; subs, 11 each". This is the list that stands at bit i, and below it the bit after the list.
+-- The list that stands at bit i, and then the bit after the list: "each element's list: length, 12 bits; subs, 11 each".
 unfoldable pub rawList : List ℕ → ℕ → List ℕ
 rawList b i = fieldsAt b (i + 12) 11 (field b i 12)
 

@@ -112,8 +112,8 @@ pub unequal-text : kitText unequal ≡ ascii "types 1\n1 0 0 2\nmembers 1 confir
 unfolding evaluate
 unequal-text = refl
 
--- "whose hull is further than EPS from the origin" is asked of the hull's own distance. By its listed value neither facet would be further, and the search
--- would be refused 10.
+-- The question "whose hull is further than EPS from the origin" is asked of the hull's own distance. By its listed value neither facet would be further, and
+-- the search would be refused 10.
 pub listed-nearer-members : searchCall listedNearer 96 80 (searchOld 2 4 2) .0 ≡ Done 1
 unfolding evaluate
 listed-nearer-members = refl
@@ -263,7 +263,7 @@ pub entries-none : list (0 ∷ 0 ∷ 0 ∷ []) 1 8192 0 ≡ refused BadList
 unfolding evaluate
 entries-none = refl
 
--- "sorted with repeats kept": the face 0 1 2 3 goes to 0 0 1 2, which is not the face 0 1 2.
+-- The images are "sorted with repeats kept": the face 0 1 2 3 goes to 0 0 1 2, which is not the face 0 1 2.
 pub repeats-kept : examplesGo (
     ([] ∷ []) ∷ replicate 4 (0 ∷ []) ∷ ((0 ∷ 1 ∷ 2 ∷ 3 ∷ []) ∷ (0 ∷ 1 ∷ 2 ∷ []) ∷ []) ∷ ((0 ∷ 1 ∷ []) ∷ []) ∷ []) ((0 ∷ []) ∷ replicate 4 0 ∷ replicate 2 0 ∷ (0 ∷ []) ∷ []) (0 ∷ 0 ∷ 1 ∷ 2 ∷ []) ≡ false
 unfolding evaluate

@@ -111,13 +111,13 @@ pub record CallLaws : Type 0 where
 
 -- ---- solids without proper ranks
 
--- "R = 1: no types; search 8". The outputs are as they were, whatever they are.
+-- What the calls answer for a solid without proper ranks: "R = 1: no types; search 8". The outputs stay as they were, whatever they hold.
 pub record NoProperRank (b : List ℕ) (words floats : ℕ) : Type 0 where
   pub types : (old : TypesOut) → typesCall b words floats old ≡ (Done 0, old)
   pub search : (old : SearchOut) → searchCall b words floats old ≡ (Refused NotFull 0, old)
   pub rotations : (old : SearchOut) → rotationsCall b words floats old ≡ (Refused NotFull 0, old)
 
--- Every accepted sheet of rank 0 or 1, on any workspace that 7 does not refuse: E and I are 0, so that 64 words and 64 floats are enough.
+-- This holds of every accepted sheet of rank 0 or 1, on any workspace that 7 does not refuse: E and I are 0, so that 64 words and 64 floats are enough.
 abbrev pub EveryLowSheet : Type 0
 EveryLowSheet = (b : List ℕ) (p : Parsed) → readSheet b ≡ passed p → p .rank < 2 → (words floats : ℕ) → 64 ≤ words → 64 ≤ floats → NoProperRank b words floats
 

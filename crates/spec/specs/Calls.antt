@@ -27,7 +27,8 @@ pub record Given : Type 0 where
 unfoldable pub typeCells : ElementType → List ℕ
 typeCells k = k .rank ∷ k .number ∷ k .example ∷ k .count ∷ []
 
--- "the types call goes on with 15, 13". The numbers n and m say how many cells are lent for elements and for types; a type takes four cells.
+-- What a types call gives out, or its refusal: "the types call goes on with 15, 13". The numbers n and m say how many cells are lent for elements and for
+-- types; a type takes four cells.
 unfoldable pub typesGiven : List ℕ → ℕ → ℕ → ℕ → ℕ → Judged Given
 typesGiven b words floats n m = do
   c ← preflight b words floats
@@ -63,7 +64,7 @@ pub record Room : Type 0 where
 unfoldable pub haveRoom : Room → ℕ → ℕ → ℕ → Bool
 haveRoom m D vs n = leb (n * (D * D)) (m .floats) && leb (n * vs) (m .entries) && leb n (m .marks)
 
--- "what fitted in search (whole members only)", where n members have been taken before.
+-- The members that are kept, "what fitted in search (whole members only)", where n members have been taken before.
 unfoldable pub fitting : Room → ℕ → ℕ → ℕ → List Member → List Member
 fitting m D vs n [] = []
 fitting m D vs n (x ∷ xs) = elim (haveRoom m D vs (suc n)) [ true ↦ x ∷ fitting m D vs (suc n) xs | false ↦ [] ]

@@ -27,7 +27,7 @@ use Rattle.spec.specs.Search.{Setting, candidate, sameTypes, allFinite, 
 unfoldable pub withinEps : Float → Float → Bool
 withinEps x y = near (x ∷ []) (y ∷ [])
 
--- ".. is transitive among" the values xs: where x and y differ by at most EPS, and y and z do, so do x and z.
+-- Whether the relation "is transitive among" the values xs: where x and y differ by at most EPS, and y and z do, so do x and z.
 unfoldable pub transitive : List Float → Bool
 transitive xs =
     every (λ x. every (λ y. elim (withinEps x y) [ true ↦ every (λ z. elim (withinEps y z) [ true ↦ withinEps x z | false ↦ true ]) xs | false ↦ true ]) xs) xs

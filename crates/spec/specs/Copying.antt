@@ -45,7 +45,7 @@ unfoldable pub copiesFrom : List Matrix → List Vector → List Vector → List
 copiesFrom ms [] cs = cs
 copiesFrom ms (p ∷ ps) cs = elim (found cs p) [ true ↦ copiesFrom ms ps cs | false ↦ copiesFrom ms ps (spread ms p cs) ]
 
--- The copies of all points, where there are none to begin with.
+-- The copies of all points, starting with none.
 unfoldable pub copies : List Matrix → List Vector → List Vector
 copies ms ps = copiesFrom ms ps []
 
@@ -53,7 +53,7 @@ copies ms ps = copiesFrom ms ps []
 unfoldable pub copyRow : List Vector → Matrix → List ℕ
 copyRow cs m = map (λ c. find cs (mulVec m c)) cs
 
--- "a table row per matrix gives each copy's image", and the rows are stored one after another.
+-- The whole table: "a table row per matrix gives each copy's image". The rows are stored one after another.
 unfoldable pub copyTable : List Matrix → List Vector → List ℕ
 copyTable ms cs = join (map (copyRow cs) ms)
 
@@ -93,7 +93,7 @@ matrices d l = map (parts d d) (parts (length l / (d * d)) (d * d) l)
 unfoldable pub written : {A : Type 0} → List A → List A → List A
 written new old = new ++ drop (length new) old
 
--- "copying goes 2, 1, 3, 12, 13, 14". These are the first four, which look at the input alone.
+-- The refusals of copying that look at the input alone. They are the first four of "copying goes 2, 1, 3, 12, 13, 14".
 unfoldable pub judgeCopy : ℕ → List Float → List Float → Judged (Unit {0})
 judgeCopy d ps ts = do
   judge Format (leb 1 d && leb d maxDimension)

@@ -18,7 +18,7 @@ pub record FlagsOf (s : Solid) : Type 0 where
   -- `first_flag` is a flag, and it is the first that the iterator gives.
   pub first : IsFlag s (firstFlag s)
   pub starts : getD (flags s) 0 [] ≡ firstFlag s
-  -- "A change at r gives the other of the two elements between its neighbours".
+  -- Changing a flag does what section 5 says: "A change at r gives the other of the two elements between its neighbours".
   pub changed : (r : ℕ) → Proper s r → (F : Flag) → IsFlag s F → Changed s r F
 
 -- The flags of the solid as read, and of the one that search walks, where facet f has changed places with facet 0.

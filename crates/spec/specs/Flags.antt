@@ -27,7 +27,7 @@ firstTo s (suc r) e = firstTo s r (getD (subs s (suc r) e) 0 0) ++ (e ∷ [])
 unfoldable pub firstFlag : Solid → Flag
 firstFlag s = firstTo s (top s) 0
 
--- "every flag once, the sub at rank 1 moving fastest". These are the parts of flags that go down from the element e of rank r.
+-- The list of flags gives "every flag once, the sub at rank 1 moving fastest". These are the parts of flags that go down from the element e of rank r.
 unfoldable pub flagsTo : Solid → ℕ → ℕ → List Flag
 flagsTo s zero e = (e ∷ []) ∷ []
 flagsTo s (suc r) e = join (map (λ f. map (λ F. F ++ (e ∷ [])) (flagsTo s r f)) (subs s (suc r) e))

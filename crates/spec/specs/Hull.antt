@@ -34,7 +34,7 @@ pub data Joined : Type 0 where
 unfoldable pub rest : Hull → Vector → Vector
 rest h p = zip minus p (project h p)
 
--- "length = norm of v; above EPS, v divided by length joins the basis; otherwise nothing joins".
+-- What adding p answers: "length = norm of v; above EPS, v divided by length joins the basis; otherwise nothing joins".
 unfoldable pub joins : Hull → Vector → Joined
 joins h p = let l = norm (rest h p) in elim (lt eps l) [ true ↦ joined l | false ↦ nothing ]
 

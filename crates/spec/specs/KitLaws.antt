@@ -10,7 +10,7 @@ use Rattle.spec.specs.Ascii.{ascii}
 use Rattle.spec.specs.KitText.{longest, kitText}
 
 pub record KitLaws : Type 0 where
-  -- "input past 8,192 bytes is refused 1", whatever it holds.
+  -- Any "input past 8,192 bytes is refused 1", whatever it holds.
   pub long : (b : List ℕ) → longest < length b → kitText b ≡ ascii "refused 1\n"
   -- A solid without proper ranks has no types, and a search refuses it with 8.
   pub low : (b : List ℕ) (p : Parsed) → readSheet b ≡ passed p → p .rank < 2 → kitText b ≡ ascii "types 0\nrefused 8\n"

@@ -55,11 +55,11 @@ elementCells = 256
 abbrev pub typeRecords : ℕ
 typeRecords = 4 * 256
 
--- It lends "1,024 matrix floats, 8,192 row entries, 512 marks".
+-- `kit` lends "1,024 matrix floats, 8,192 row entries, 512 marks".
 abbrev pub lent : Room
 lent = record { floats = 1024; entries = 8192; marks = 512 }
 
--- It lends "a workspace of 4,096 words and 2,048 floats".
+-- `kit` lends "a workspace of 4,096 words and 2,048 floats".
 abbrev pub workWords : ℕ
 workWords = 4096
 

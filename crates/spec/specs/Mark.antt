@@ -41,15 +41,17 @@ image s row r e = inOrder (size s 1) (map (λ v. getD row v 0) (vertices s r e))
 unfoldable pub goes : Solid → List ℕ → ℕ → ℕ → ℕ
 goes s row r e = elim (isProper s r) [ true ↦ place eqList (image s row r e) (vertexSets s r) | false ↦ e ]
 
--- "every proper element goes to an element of its rank and distance class .., and its subs go exactly onto that element's subs".
+-- One element's part of the rule: "every proper element goes to an element of its rank and distance class .., and its subs go exactly onto that element's
+-- subs".
 unfoldable pub carriesElement : Solid → Classes → List ℕ → ℕ → ℕ → Bool
 carriesElement s cls row r e =
     ltb (goes s row r e) (size s r)
     && eqb (cls r (goes s row r e)) (cls r e)
     && eqList (subs s r (goes s row r e)) (inOrder (size s (pred r)) (map (goes s row (pred r)) (subs s r e)))
 
--- "confirmed, 1, exactly when ..: no two elements of a rank have one vertex set, the row repeats no vertex", and every proper element goes as the rule says.
--- A row has an entry for each vertex, and its entries are vertices, where a search makes it: both are asked here so that the rule is one of any row.
+-- The row is "confirmed, 1, exactly when ..: no two elements of a rank have one vertex set, the row repeats no vertex", and every proper element goes as the
+-- rule says. A row that a search makes has an entry for each vertex, and its entries are vertices. Both are asked here as well, so that the rule is one of
+-- any row.
 unfoldable pub marked : Solid → Classes → List ℕ → Bool
 marked s cls row =
     setsApart s

@@ -49,7 +49,8 @@ pub record Work : Type 0 where
   pub pivots : List Float
   pub swaps : ℕ
 
--- "scanning down from row c, a later row is taken only if strictly larger". Here p is the row taken so far, and rs are the rows that are left.
+-- The row that the pivot is taken from: "scanning down from row c, a later row is taken only if strictly larger". Here p is the row taken so far, and rs are
+-- the rows that are left.
 unfoldable pub scan : Matrix → ℕ → ℕ → List ℕ → ℕ
 scan a c p [] = p
 scan a c p (r ∷ rs) = elim (lt (absF (entry a p c)) (absF (entry a r c))) [ true ↦ scan a c r rs | false ↦ scan a c p rs ]
@@ -62,11 +63,11 @@ pivotRow a c = scan a c c (range (suc c) (length a - suc c))
 unfoldable pub swapRows : Matrix → ℕ → ℕ → Matrix
 swapRows a p c = set (set a p (row a c)) c (row a p)
 
--- "divide the whole pivot row by the pivot".
+-- The pivot row after the step "divide the whole pivot row by the pivot".
 unfoldable pub divided : Vector → Float → Vector
 divided v x = map (λ y. over y x) v
 
--- One of the other rows, after one has to "subtract its entry in c times the pivot row, product and difference each rounded".
+-- Another row after the step "subtract its entry in c times the pivot row, product and difference each rounded".
 unfoldable pub cleared : ℕ → Vector → Vector → Vector
 cleared c pivot v = let x = getD v c zeroF in zip (λ y z. minus y (times x z)) v pivot
 
@@ -109,7 +110,7 @@ unfoldable pub product : List Float → Float
 product [] = oneF
 product (x ∷ xs) = timesOn x xs
 
--- "the product of those pivots in order, negated if swaps were odd; singular gives 0".
+-- The determinant is "the product of those pivots in order, negated if swaps were odd; singular gives 0".
 unfoldable pub determinant : Matrix → Float
 determinant a = elim (gaussJordan a) [
   | none ↦ zeroF

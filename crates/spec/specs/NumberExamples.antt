@@ -171,7 +171,7 @@ pub hull-0 : distance 0 (hullOf 0 ([] ∷ [])) ≡ zeroF
 unfolding all
 hull-0 = refl
 
--- "above EPS": a length of EPS itself does not join, and the next value does.
+-- A length has to be "above EPS" to join: EPS itself does not, and the next value does.
 pub joins-at-eps : map (λ p. joins (record { offset = vec (0 ∷ []); basis = [] }) (vec (p ∷ []))) (0x3e7a_d7f2_9abc_af48 ∷ 0x3e7a_d7f2_9abc_af49 ∷ []) ≡ nothing ∷ joined (ofBits binary64 0x3e7a_d7f2_9abc_af49) ∷ []
 unfolding all
 joins-at-eps = refl

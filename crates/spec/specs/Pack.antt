@@ -1,4 +1,4 @@
--- Section 2's sheet the other way round: the bytes that say what a sheet says. "The sheet (added) is bit-packed, most significant first". The file also says
+-- Section 2's sheet the other way round, from what a sheet says to its bytes: "The sheet (added) is bit-packed, most significant first". The file also says
 -- what may be packed, and what is proved of packing and reading.
 -- Assumes nothing.
 use mathlib.Core.Path.{_≡_, refl}
@@ -21,19 +21,20 @@ unfoldable pub bitsOf : ℕ → ℕ → List ℕ
 bitsOf zero n = []
 bitsOf (suc w) n = bitsOf w (n / 2) ++ (n % 2 ∷ [])
 
--- "each vertex's D coordinates, 64 bits each (binary64)".
+-- The bits of a vertex's point: "each vertex's D coordinates, 64 bits each (binary64)".
 unfoldable pub pointBits : List Float → List ℕ
 pointBits v = join (map (λ x. bitsOf 64 (toBits binary64 x)) v)
 
--- "each element's list: length, 12 bits; subs, 11 each".
+-- The bits of "each element's list: length, 12 bits; subs, 11 each".
 unfoldable pub listBits : List ℕ → List ℕ
 listBits l = bitsOf 12 (length l) ++ join (map (bitsOf 11) l)
 
--- The lists of a rank's elements.
+-- The bits of the lists of a rank's elements.
 unfoldable pub rankBits : List (List ℕ) → List ℕ
 rankBits ls = join (map listBits ls)
 
--- "R, 3 bits; dimension D, 3; for each proper rank its count, 12. Then each vertex's D coordinates .. Then, for ranks 2 to R−1, each element's list".
+-- The bits of a whole sheet: "R, 3 bits; dimension D, 3; for each proper rank its count, 12. Then each vertex's D coordinates .. Then, for ranks 2 to R−1,
+-- each element's list".
 unfoldable pub packBits : Parsed → List ℕ
 packBits p =
     bitsOf 3 (p .rank)
@@ -65,7 +66,7 @@ pack p = bytesOf (packBits p)
 abbrev pub Bytes : List ℕ → Type 0
 Bytes b = (x : ℕ) → In x b → x < 256
 
--- ---- what may be packed: section 2's limits, and refusals 3 and 4 not met
+-- ---- what may be packed: whatever keeps to section 2's limits and is not refused 3 or 4
 
 -- A coordinate has to be a binary64 that is in range.
 pub record AllowedCoordinate (x : Float) : Type 0 where
@@ -90,16 +91,16 @@ pub record AllowedRank (c n : ℕ) (ls : List (List ℕ)) : Type 0 where
   pub entries : sum (map length ls) ≤ maxEntries
 
 pub record Allowed (p : Parsed) : Type 0 where
-  -- "R 0 to 5, D 0 to 4".
+  -- R and D are within their limits: "R 0 to 5, D 0 to 4".
   pub tall : p .rank ≤ maxRank
   pub wide : p .dimension ≤ maxDimension
-  -- "for each proper rank its count", and "counts 1 to 2,048".
+  -- The counts are "for each proper rank its count", with the limit "counts 1 to 2,048".
   pub counted : length (p .counts) ≡ p .rank - 1
   pub counts : (n : ℕ) → In n (p .counts) → (0 < n) × (n ≤ maxCount)
-  -- "each vertex's D coordinates".
+  -- The points are "each vertex's D coordinates".
   pub pointed : length (p .points) ≡ vertexCount (p .rank) (p .counts)
   pub points : (v : List Float) → In v (p .points) → AllowedPoint (p .dimension) v
-  -- "for ranks 2 to R−1, each element's list": rank 2 is the first of `lists`, and the second of `counts`.
+  -- The lists are "for ranks 2 to R−1, each element's list". Rank 2 is the first of `lists`, and the second of `counts`.
   pub listed : length (p .lists) ≡ length (p .counts) - 1
   pub lists : (r : ℕ) → suc r < length (p .counts) → AllowedRank (getD (p .counts) r 0) (getD (p .counts) (suc r) 0) (getD (p .lists) r [])
 

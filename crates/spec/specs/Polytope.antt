@@ -1,8 +1,8 @@
 -- Solids in the terms of McMullen and Schulte (Abstract Regular Polytopes, section 2A), who decide what flags and the diamond are: the order of a solid's
--- elements, its maximal chains, and the two elements between any two whose ranks differ by two. Each is said here as the book says it, and
--- the theorems below tie it to the list or to the test that the calls go by.
--- The book counts ranks from -1, the least element's; here they count from 0. Its property P3, that a polytope is strongly connected, is not asked by 01,
--- so compounds pass and no statement here speaks of it.
+-- elements, its maximal chains, and the two elements between any two whose ranks differ by two. Each is said here as the book says it, and the theorems below
+-- tie it to the list or to the test that the calls go by.
+-- The book counts ranks from -1, which is the rank of the least element; here they count from 0. Document 01 does not ask for the book's property P3, that a
+-- polytope is strongly connected, so compounds pass and no statement here speaks of it.
 -- Assumes nothing.
 use mathlib.Core.Path.{_≡_}
 use mathlib.Core.Logic.{_≢_, _⊎_, _↔_}
@@ -69,7 +69,8 @@ pub record Ordered (s : Solid) : Type 0 where
 
 -- ---- chains
 
--- "a chain" is a set of elements of which any two are comparable. A list stands for the set of its members, so neither their order nor repeats matter.
+-- By "a chain" the book means a set of elements of which any two are comparable. A list stands for the set of its members, so neither their order nor repeats
+-- matter.
 pub record IsChain (s : Solid) (C : List Element) : Type 0 where
   pub elements : (F : Element) → In F C → IsElement s F
   pub comparable : (F G : Element) → In F C → In G C → Comparable s F G
@@ -78,7 +79,7 @@ pub record IsChain (s : Solid) (C : List Element) : Type 0 where
 abbrev pub Within : List Element → List Element → Type 0
 Within C D = (F : Element) → In F C → In F D
 
--- "a maximal chain" is one that is contained in no larger chain.
+-- By "a maximal chain" the book means one that is contained in no larger chain.
 pub record IsMaximal (s : Solid) (C : List Element) : Type 0 where
   pub chain : IsChain s C
   pub largest : (D : List Element) → IsChain s D → Within C D → Within D C

@@ -44,7 +44,7 @@ unfoldable pub changes : Solid → List ℕ → Flag → Flag
 changes s [] F = F
 changes s (r ∷ rs) F = changes s rs (change s r F)
 
--- "its vertex; then .. change ranks 1 to R−1 in turn and take the vertex", until there are n vertices.
+-- The vertices of a flag's columns, of which n are taken: "its vertex; then .. change ranks 1 to R−1 in turn and take the vertex".
 unfoldable pub walk : Solid → ℕ → Flag → List ℕ
 walk s zero F = []
 walk s (suc n) F = elementAt F 1 ∷ walk s n (changes s (properRanks s) F)
@@ -86,12 +86,12 @@ unfoldable pub sorted : List ℕ → List ℕ
 sorted [] = []
 sorted (x ∷ l) = insert x (sorted l)
 
--- "the images of the vertices of each type's example at ranks 2 to R−1 .. are the vertices of some element of that rank".
+-- Whether "the images of the vertices of each type's example at ranks 2 to R−1 .. are the vertices of some element of that rank".
 unfoldable pub examplesGo : Solid → State → List ℕ → Bool
 examplesGo s z row =
     every (λ r. every (λ k. holds eqList (sorted (map (λ v. getD row v 0) (vertices s r (k .example)))) (vertexSets s r)) (elementTypesAt z r)) (range 2 (top s - 2))
 
--- A member has a matrix and a row, "Members come in flag order with matrix and row", and its mark.
+-- A member as a search lists it: "Members come in flag order with matrix and row", and with the mark.
 pub record Member : Type 0 where
   pub matrix : Matrix
   pub row : List ℕ

@@ -22,7 +22,7 @@ pub record Parsed : Type 0 where
   pub points : List (List Float)
   pub lists : List (List (List ℕ))
 
--- ---- reading: at a bit of the sheet, a refusal, or a value and the bit at which the next field starts
+-- ---- reading: a reader goes from a bit of the sheet to a refusal, or to a value and the bit at which the next field starts
 
 abbrev pub Reader : Type 0 → Type 0
 Reader A = ℕ → Judged (A × ℕ)
@@ -89,7 +89,7 @@ module _ (b : List ℕ) where
     judge OffTheBoard (inRange (ofBits binary64 n))
     done (ofBits binary64 n)
 
-  -- "subs, 11 each": there are n of them, all below c, the first at least `low` and each more than the one before. Otherwise refusal 4 comes.
+  -- The fields "subs, 11 each". There are n of them, all below c, the first at least `low` and each more than the one before. Otherwise refusal 4 comes.
   unfoldable pub subList : ℕ → ℕ → ℕ → Reader (List ℕ)
   subList c zero low = done []
   subList c (suc n) low = do
@@ -98,7 +98,8 @@ module _ (b : List ℕ) where
     l ← subList c n (suc x)
     done (x ∷ l)
 
-  -- "each element's list: length, 12 bits; subs", with "at most 8,192 list entries a rank", of which `used` came before. The count of the rank below is c.
+  -- The fields of "each element's list: length, 12 bits; subs", with "at most 8,192 list entries a rank", of which `used` came before. The count of the rank
+  -- below is c.
   unfoldable pub list : ℕ → ℕ → Reader (List ℕ)
   list c used = do
     n ← bits 12

@@ -33,7 +33,7 @@ entries s = sum (map (λ r. sum (map length (getD s r []))) (range 2 (top s - 2)
 unfoldable pub roomy : Solid → ℕ → ℕ → Bool
 roomy s words floats = leb (16 * (elements s + entries s + 4)) words && leb (8 * (elements s + 8)) floats
 
--- Whether every such element is in a list. Refusal 5, "a proper element below rank R−1 is in no list", is the contrary.
+-- Whether every proper element below rank R−1 is in a list. Refusal 5, "a proper element below rank R−1 is in no list", is the contrary.
 unfoldable pub bound : Solid → Bool
 bound s = every (λ r. every (λ e. ltb 0 (length (sups s r e))) (range 0 (size s r))) (range 1 (top s - 2))
 
@@ -41,8 +41,8 @@ bound s = every (λ r. every (λ e. ltb 0 (length (sups s r e))) (range 0 (size 
 unfoldable pub between : Solid → ℕ → ℕ → ℕ → List ℕ
 between s r g h = keep (λ f. holds eqb h (subs s r f)) (subs s (suc r) g)
 
--- Whether there are always two. Refusal 6, "not exactly two elements between an element and a sub of its sub", is the contrary; the top and the least element
--- are included.
+-- Whether there are always two elements between. Refusal 6, "not exactly two elements between an element and a sub of its sub", is the contrary; the top and
+-- the least element are included.
 unfoldable pub diamond : Solid → Bool
 diamond s = every (λ r. every (λ g. every (λ f. every (λ h. eqb (length (between s r g h)) 2) (subs s r f)) (subs s (suc r) g)) (range 0 (size s (suc r)))) (properRanks s)
 

@@ -28,7 +28,7 @@ use Rattle.spec.specs.Calls.{TypesOut, typesCall, SearchOut, searchCall,
 unfoldable pub inUse : State → ℕ → ℕ
 inUse S r = length (distinct eqb (typesAt S r))
 
--- "numbers go from 0 in each rank by first appearance".
+-- The types of the rank r are numbered as section 4 says: "numbers go from 0 in each rank by first appearance".
 pub record Numbered (s : Solid) (S : State) (r : ℕ) : Type 0 where
   -- There is one type for each element.
   pub each : length (typesAt S r) ≡ size s r
@@ -44,8 +44,8 @@ ofType s S x t e = count eqb t (map (typeOf S (next x)) (neighbours s x e))
 
 -- What the step x does to the state S.
 pub record Stepped (s : Solid) (S : State) (x : Step) : Type 0 where
-  -- "two elements there still share a type exactly when they shared one and, for every type of rank r−1, have as many subs of it. Step down: the same with
-  -- sups and rank r+1".
+  -- The step tells apart exactly what section 4 says: "two elements there still share a type exactly when they shared one and, for every type of rank r−1,
+  -- have as many subs of it. Step down: the same with sups and rank r+1".
   pub share : (e f : ℕ) → e < size s (at x) → f < size s (at x)
       → (typeOf (step s S x) (at x) e ≡ typeOf (step s S x) (at x) f)
       ↔ ((typeOf S (at x) e ≡ typeOf S (at x) f) × ((t : ℕ) → In t (typesAt S (next x)) → ofType s S x t e ≡ ofType s S x t f))
@@ -57,7 +57,7 @@ pub record StepLaws (s : Solid) (cls : Classes) : Type 0 where
   pub at-start : (r e f : ℕ) → Proper s r → e < size s r → f < size s r → (typeOf (start s cls) r e ≡ typeOf (start s cls) r f) ↔ (cls r e ≡ cls r f)
   -- After any list of steps at proper ranks, one more step at a proper rank does what section 4 says.
   pub stepped : (xs : List Step) → AllProper s xs → (x : Step) → Proper s (at x) → Stepped s (play s (start s cls) xs) x
-  -- "ranks 0 and R have type 0 only", and no list of steps changes that.
+  -- It stays true that "ranks 0 and R have type 0 only".
   pub improper : (xs : List Step) → AllProper s xs → (r e : ℕ) → (r ≡ 0) ⊎ (r ≡ top s) → e < size s r → typeOf (play s (start s cls) xs) r e ≡ 0
 
 abbrev pub EveryStepLaw : Type 0
@@ -79,13 +79,13 @@ pub record RankLaws (s : Solid) (z : State) (r : ℕ) : Type 0 where
   -- They are exactly the types in use, in order.
   pub numbers : map (λ k. k .number) (elementTypesAt z r) ≡ range 0 (inUse z r)
   pub described : (k : ElementType) → In k (elementTypesAt z r) → Described s z r k
-  -- "counts add up to the rank's size".
+  -- The "counts add up to the rank's size".
   pub sums : sum (map (λ k. k .count) (elementTypesAt z r)) ≡ size s r
 
 pub record TypeLaws : Type 0 where
   -- The numbers after any list of steps, and "at the start too", which is the case of the empty list.
   pub steps : (s : Solid) (cls : Classes) (xs : List Step) → AllProper s xs → (r : ℕ) → Numbered s (play s (start s cls) xs) r
-  -- The types given out at each rank, where z is the result of any sheet's solid.
+  -- The types given out at each rank, where z is the result of any solid.
   pub ranks : (c : Concrete) (z : State) → typesOf c ≡ some z → (r : ℕ) → RankLaws (c .abs) z r
   -- The rank and number of each type given out, over the proper ranks, rising.
   pub listed : (c : Concrete) (z : State) → typesOf c ≡ some z
@@ -97,8 +97,8 @@ pub record TypeLaws : Type 0 where
 abbrev pub NotUnsettled : Answer → Type 0
 NotUnsettled a = (k : ℕ) → a ≢ Refused Unsettled k
 
--- Refusal 15, "E + 2 sweeps done, still changing", never comes. The sweeps of every solid whatever end in time, whatever its distance classes are. So both
--- the solid of a sheet and the solid that search makes of it by exchanging facets have types, and no call answers 15.
+-- Refusal 15, "E + 2 sweeps done, still changing", never comes. The sweeps of every solid end in time, whatever its distance classes are. So both the solid
+-- of a sheet and the solid that search makes of it by exchanging facets have types, and no call answers 15.
 pub record NeverUnsettled : Type 0 where
   pub settles : (s : Solid) (cls : Classes) → result s cls ≢ none
   pub types : (c : Concrete) → typesOf c ≢ none

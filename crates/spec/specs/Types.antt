@@ -54,7 +54,8 @@ typesAt S r = getD S r []
 abbrev pub typeOf : State → ℕ → ℕ → ℕ
 typeOf S r e = getD (typesAt S r) e 0
 
--- "the number of types" over the proper ranks. Ranks 0 and R always have one type each, so they change nothing.
+-- How many types there are over the proper ranks, which is "the number of types" that sweeps compare. Ranks 0 and R always have one type each, so they need
+-- not be counted.
 unfoldable pub typeCount : Solid → State → ℕ
 typeCount s S = sum (map (λ r. length (distinct eqb (typesAt S r))) (properRanks s))
 
@@ -125,7 +126,7 @@ settle s (suc n) S =
     let S′ = sweep s S in
     elim (eqb (typeCount s S′) (typeCount s S)) [ true ↦ some S′ | false ↦ settle s n S′ ]
 
--- ".. the first never", so the first sweep is not compared. `none` is refusal 15, "E + 2 sweeps done, still changing".
+-- The first sweep is done before any is compared, because "the first never" ends them. `none` is refusal 15, "E + 2 sweeps done, still changing".
 unfoldable pub result : Solid → Classes → Option State
 result s cls = settle s (elements s + 1) (sweep s (start s cls))
 

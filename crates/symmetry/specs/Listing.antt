@@ -78,7 +78,7 @@ pub record Listed (w : Setting) (rot : Bool) (m : Room) (Fs : List Flag) (r : Li
   pub matrices : ms′ ≡ written (matrixCells (keptIn w rot m Fs)) ms
   pub rows : rs′ ≡ written (rowCells (keptIn w rot m Fs)) rs
 
--- "then 12 or 13" is decided by whether one more member had no room, and by how many are listed.
+-- The answer "then 12 or 13" is decided by whether one more member had no room, and by how many are listed.
 unfoldable pub answerOf : Bool → ℕ → Answer
 answerOf true n = Refused ShortSheet n
 answerOf false zero = Refused Blank 0
