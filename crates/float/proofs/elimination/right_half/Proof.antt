@@ -4,10 +4,11 @@ use mathlib.Core.Path.{_≡_, sym, ap, _∙_}
 use mathlib.Core.List.{map-id}
 use Prim.Native.Nat.{_≤_, _-_}
 use native.Mathlib.Omega.{arith}
-use lib.ListN.{getD, take, drop, length, length-drop}
+use lib.ListN.{getD, take, drop, length, length-drop, replicate}
 use lib.Seq.{getD-drop}
 use lib.Ieee.{nan, ofBits}
 use borrow.Author.Needs.{needs}
+use Rattle.spec.specs.Limits.{maxDimension}
 use Rattle.spec.specs.Float.{zeroF}
 use Rattle.float.specs.Reading.{width, padded}
 use Rattle.float.proofs.Written.{Written, none, next, table-map}
@@ -17,10 +18,14 @@ use Rattle.float.proofs.elimination.right_half.Statement.{statement}
 use Rattle.float.proofs.elimination.right_half.Tie as tie
 
 abbrev Inv-loop : tie.InvT-loop
-Inv-loop d v r₀ j₀ r j = (j ≤ d) × Written (λ x. x) (λ k. getD (drop d v) k nan) r₀ r j
+Inv-loop d v r₀ j₀ r j = (j ≤ d) × Written (λ x. x) (λ k. getD (drop d v) k nan) (replicate maxDimension zeroF) r j
 
 abbrev μ-loop : tie.MeasureT-loop
 μ-loop d v r₀ j₀ r j = d - j
+
+loop-holds : tie.Need-loop-holds Inv-loop μ-loop
+unfolding ofBits zeroF
+loop-holds c = (search needs, none)
 
 loop-again : tie.Need-loop-again Inv-loop μ-loop
 loop-again c =
@@ -29,7 +34,6 @@ loop-again c =
     (search needs, next _ (omega arith) (sym (getD-drop (a .d) (a .t1) (l .j) nan)) (l .inv .1))
 
 returns : tie.Need-returns Inv-loop μ-loop
-unfolding ofBits zeroF
 returns c =
     let a = c .before .before .args in
     let v = drop (a .d) (a .t1) in
@@ -46,7 +50,7 @@ right-half-spec =
     (tie.spec
     Inv-loop
     μ-loop
-    (λ c. (search needs, none))
+    loop-holds
     (λ c. search needs)
     (λ c. search needs)
     (λ c. search needs)
