@@ -1,7 +1,6 @@
 -- A rank's elements, and the ranks one after another: what the cells hold says where elements go, as long as all are carried.
 -- Assumes nothing.
 use mathlib.Core.Path.{_≡_, refl, sym, _∙_, ap, ap₂}
-use mathlib.Core.Logic.{inl, inr}
 use mathlib.Core.Bool.{Bool, true, false}
 use mathlib.Core.List.{List}
 use Prim.Native.Nat.{ℕ, zero, suc, _+_, _-_, _*_, _≤_, _<_}
@@ -22,6 +21,8 @@ use Rattle.spec.proofs.Distinct.{Once}
 use Rattle.spec.proofs.Counts.{lists}
 use Rattle.spec.proofs.Result.{proper-rank}
 use Rattle.spec.proofs.Marked.{every-in, no-repeats, Permutes}
+use Rattle.float.specs.declared.points.Found.{Found}
+use Rattle.float.specs.declared.points.Found.the-variants.{At, Nothing}
 use Rattle.ranked.specs.declared.Shape.{Shape}
 use Rattle.ranked.specs.Words.{firstAt, sizeAt, total, solidIn, Held}
 use Rattle.ranked.proofs.Solids.{top-is, size-is, size-past, number-in}
@@ -49,17 +50,14 @@ module _ {sh : Shape} {w row : List ℕ} (a : Row sh w row) where
   is-proper : (r : ℕ) → 1 ≤ r → r < sh .rank → Proper (solidIn sh w) r
   is-proper r l k = (omega arith, omega (arith, top-is sh w))
 
-  module _ {cells : List ℕ} {r n : ℕ} (b : Rank sh w row cells r n) (e : ℕ) (h : e < n) where
-    pub in-rank : e < sizeAt sh r
-    in-rank = omega (arith, b .many)
-
+  module _ {cells : List ℕ} {r : ℕ} (b : Rank sh w row cells r) (e : ℕ) (h : e < sizeAt sh r) where
     in-solid : e < size (solidIn sh w) r
-    in-solid = rw (size-is sh w r (omega (arith, b .high))) in-rank
+    in-solid = rw (size-is sh w r (omega (arith, b .high))) h
 
     pub row-cell : r ≡ 1 → e < length row
     row-cell q = let k : e < size (solidIn sh w) 1 = rw q at in-solid in omega (arith, a .full)
 
-    pub vertex-lands : r ≡ 1 → (x : ℕ) → x ≡ getD row e 0 → (cls : Classes) → Reached (solidIn sh w) cls row r e x
+    pub vertex-lands : r ≡ 1 → (x : ℕ) → x ≡ getD row e 0 → (cls : Classes) → Reached (solidIn sh w) cls row r e (At x)
     vertex-lands q x z cls =
         let s = solidIn sh w in
         let p : Proper s 1 = is-proper 1 (omega arith) (omega (arith, b .high)) in
@@ -69,11 +67,11 @@ module _ {sh : Shape} {w row : List ℕ} (a : Row sh w row) where
     pub cells-low : 2 ≤ r → (f : ℕ) → f < sizeAt sh (r - 1) → getD cells (firstAt sh (r - 1) + f) 0 < sizeAt sh (r - 1)
     cells-low two f k = let i = b .below two f k in rw (i .0) (i .1)
 
-  higher : (cells : List ℕ) (r n : ℕ) → Rank sh w row cells r n → 2 ≤ r → (e : ℕ) → e < n → (cls : Classes)
+  higher : (cells : List ℕ) (r : ℕ) → Rank sh w row cells r → 2 ≤ r → (e : ℕ) → e < sizeAt sh r → (cls : Classes)
       → Reached (solidIn sh w) cls row r e (risesTo (solidIn sh w) (λ f. getD cells (firstAt sh (r - 1) + f) 0) (r - 1) e)
-  higher cells zero n b two e h cls = absurd (omega arith)
-  higher cells (suc zero) n b two e h cls = absurd (omega arith)
-  higher cells (suc (suc q)) n b two e h cls =
+  higher cells zero b two e h cls = absurd (omega arith)
+  higher cells (suc zero) b two e h cls = absurd (omega arith)
+  higher cells (suc (suc q)) b two e h cls =
       let s = solidIn sh w in
       let z : suc (suc q) - 1 ≡ suc q = omega arith in
       let p = is-proper (suc q) (omega arith) (omega (arith, b .high)) in
@@ -83,9 +81,9 @@ module _ {sh : Shape} {w row : List ℕ} (a : Row sh w row) where
       rw z (reached s (a .held .sound) (a .held .filled) cls row rows q p (λ f k. rw n₁ (i f (rw n₁ at k) .1)) p′ (sets (suc q) p) (sets (suc (suc q)) p′)
       (λ f. getD cells (firstAt sh (suc q) + f) 0) (λ f k. i f (rw n₁ at k) .0) e (in-solid b e h))
 
-  pub element-lands : {cells : List ℕ} {r n : ℕ} → Rank sh w row cells r n → 2 ≤ r → (e : ℕ) → e < n
-      → (x : ℕ) → x ≡ risesTo (solidIn sh w) (λ f. getD cells (firstAt sh (r - 1) + f) 0) (r - 1) e → (cls : Classes) → Reached (solidIn sh w) cls row r e x
-  element-lands {cells} {r} {n} b two e h x z cls = rw z (higher cells r n b two e h cls)
+  pub element-lands : {cells : List ℕ} {r : ℕ} → Rank sh w row cells r → 2 ≤ r → (e : ℕ) → e < sizeAt sh r
+      → (x : Found) → x ≡ risesTo (solidIn sh w) (λ f. getD cells (firstAt sh (r - 1) + f) 0) (r - 1) e → (cls : Classes) → Reached (solidIn sh w) cls row r e x
+  element-lands {cells} {r} b two e h x z cls = rw z (higher cells r b two e h cls)
 
 -- ---- classes
 
@@ -121,33 +119,18 @@ class-in sh w fs h c v v-is r e low high he =
     let o₃ = h .some r (omega arith) in
     rw v-is (omega (arith, c .room))
 
--- ---- an element
+-- ---- an element that goes to x, and whether it shares x's class
 
-module _ (sh : Shape) (w row : List ℕ) (cls : Classes) (r e n x : ℕ) (many : n ≡ sizeAt sh r) (high : r < sh .rank) (a : Reached (solidIn sh w) cls row r e x) where
-  size-of : size (solidIn sh w) r ≡ n
-  size-of = size-is sh w r (omega arith) ∙ sym many
+module _ (sh : Shape) (w row : List ℕ) (cls : Classes) (r e x : ℕ) (a : Reached (solidIn sh w) cls row r e (At x)) where
+  pub lies-in : r < sh .rank → x < sizeAt sh r
+  lies-in high = rw (size-is sh w r (omega arith)) at (a .1)
 
-  pub nowhere : n ≤ x → Landed (solidIn sh w) cls row r e n
-  nowhere h = go a
-    where
-      go : Reached (solidIn sh w) cls row r e x → Landed (solidIn sh w) cls row r e n
-      go (inl (p, q, z)) = absurd (omega (arith, size-of))
-      go (inr (p, z)) = inr (omega (arith, size-of), z)
+  module _ (b : Bool) (is : b ≡ eqb (cls r x) (cls r e)) where
+    pub other-class : b ≡ false → Landed (solidIn sh w) cls row r e Nothing
+    other-class f = a .2 ∙ sym is ∙ f
 
-  module _ (h : x < n) (b : Bool) (is : b ≡ eqb (cls r x) (cls r e)) where
-    pub other-class : b ≡ false → Landed (solidIn sh w) cls row r e n
-    other-class f = go a
-      where
-        go : Reached (solidIn sh w) cls row r e x → Landed (solidIn sh w) cls row r e n
-        go (inl (p, q, z)) = inr (omega (arith, size-of), z ∙ sym is ∙ f)
-        go (inr (p, z)) = inr (omega (arith, size-of), z)
-
-    pub its-class : b ≡ true → Landed (solidIn sh w) cls row r e x
-    its-class t = go a
-      where
-        go : Reached (solidIn sh w) cls row r e x → Landed (solidIn sh w) cls row r e x
-        go (inl (p, q, z)) = inl (p, q, z ∙ sym is ∙ t)
-        go (inr (p, z)) = absurd (omega (arith, size-of))
+    pub its-class : b ≡ true → Landed (solidIn sh w) cls row r e (At x)
+    its-class t = (a .0, a .1, a .2 ∙ sym is ∙ t)
 
 -- ---- a rank's elements
 
@@ -156,16 +139,18 @@ pub record Turn (sh : Shape) (w row : List ℕ) (cls : Classes) (cells₀ : List
   pub base-is : base ≡ firstAt sh r
   pub bound : e ≤ n
   pub long : length cells ≡ length cells₀
-  pub rank : Rank sh w row cells r n
+  pub rank : Rank sh w row cells r
+  pub many : n ≡ sizeAt sh r
   pub done : (f : ℕ) → f < e → (getD cells (firstAt sh r + f) 0 ≡ goes (solidIn sh w) row r f) × (goes (solidIn sh w) row r f < sizeAt sh r)
   pub rest : Every (carriesElement (solidIn sh w) cls row r) (range 0 (size (solidIn sh w) r)) e
 
-pub first-turn : (sh : Shape) (w row : List ℕ) (cls : Classes) (cells : List ℕ) (r n : ℕ) → Rank sh w row cells r n → Turn sh w row cls cells r n (firstAt sh r) cells 0
-first-turn sh w row cls cells r n b = record {
+pub first-turn : (sh : Shape) (w row : List ℕ) (cls : Classes) (cells : List ℕ) (r n : ℕ) → Rank sh w row cells r → n ≡ sizeAt sh r → Turn sh w row cls cells r n (firstAt sh r) cells 0
+first-turn sh w row cls cells r n b m = record {
   base-is = refl;
   bound = omega arith;
   long = refl;
   rank = b;
+  many = m;
   done = λ f h. absurd (omega arith);
   rest = refl;
 }
@@ -173,23 +158,31 @@ first-turn sh w row cls cells r n b = record {
 module _ {sh : Shape} {w row : List ℕ} {cls : Classes} {cells₀ : List ℕ} {r n base : ℕ} {cells : List ℕ} {e : ℕ}
     (t : Turn sh w row cls cells₀ r n base cells e) (h : Held sh w) where
   many-in : n ≡ size (solidIn sh w) r
-  many-in = t .rank .many ∙ sym (size-is sh w r (omega (arith, t .rank .high)))
+  many-in = t .many ∙ sym (size-is sh w r (omega (arith, t .rank .high)))
+
+  -- an element of the rank, by the code's number of them
+  pub turn-in : {x : ℕ} → x < size (solidIn sh w) r → x < n
+  turn-in h = omega (arith, many-in)
 
   module _ (more : e < n) where
     pub cell-in : base + e < length cells
-    cell-in = omega (arith, t .base-is, t .rank .room, number-in sh w h r e (omega (arith, t .rank .high)) (omega (arith, t .rank .many)))
+    cell-in = omega (arith, t .base-is, t .rank .room, number-in sh w h r e (omega (arith, t .rank .high)) (omega (arith, t .many)))
 
-    pub turn-stop : (x : ℕ) → Landed (solidIn sh w) cls row r e x → n ≤ x → false ≡ every (carriesElement (solidIn sh w) cls row r) (range 0 (size (solidIn sh w) r))
-    turn-stop x l k = go l
-      where
-        go : Landed (solidIn sh w) cls row r e x → false ≡ every (carriesElement (solidIn sh w) cls row r) (range 0 (size (solidIn sh w) r))
-        go (inl (p, q, z)) = absurd (omega (arith, many-in))
-        go (inr (p, z)) = range-no (carriesElement (solidIn sh w) cls row r) 0 (size (solidIn sh w) r) e e (omega arith) (omega (arith, many-in)) (t .rest) z
+    pub turn-stop : Landed (solidIn sh w) cls row r e Nothing → false ≡ every (carriesElement (solidIn sh w) cls row r) (range 0 (size (solidIn sh w) r))
+    turn-stop z = range-no (carriesElement (solidIn sh w) cls row r) 0 (size (solidIn sh w) r) e e (omega arith) (omega (arith, many-in)) (t .rest) z
 
-    pub turn-next : (x : ℕ) → Landed (solidIn sh w) cls row r e x → x < n → Turn sh w row cls cells₀ r n base (set cells (base + e) x) (e + 1)
-    turn-next x l k = go l
+    pub turn-next : (x : ℕ) → Landed (solidIn sh w) cls row r e (At x) → Turn sh w row cls cells₀ r n base (set cells (base + e) x) (e + 1)
+    turn-next x l = record {
+      base-is = t .base-is;
+      bound = omega arith;
+      long = length-set cells (base + e) x ∙ t .long;
+      rank = record { low = b .low; high = b .high; room = rw length-set (b .room); below = below };
+      many = t .many;
+      done = λ f m. done f m (ℕ-discrete f e);
+      rest = range-yes (carriesElement (solidIn sh w) cls row r) 0 (size (solidIn sh w) r) e e (omega arith) (omega (arith, many-in)) (t .rest) (l .2);
+    }
       where
-        b : Rank sh w row cells r n
+        b : Rank sh w row cells r
         b = t .rank
 
         -- the rank below stands before
@@ -200,29 +193,18 @@ module _ {sh : Shape} {w row : List ℕ} {cls : Classes} {cells₀ : List ℕ} {
             let i = b .below two f m in
             (getD-set-other cells (base + e) (firstAt sh (r - 1) + f) x 0 (λ (d : firstAt sh (r - 1) + f ≡ base + e). omega (arith, t .base-is)) ∙ i .0, i .1)
 
-        go : Landed (solidIn sh w) cls row r e x → Turn sh w row cls cells₀ r n base (set cells (base + e) x) (e + 1)
-        go (inr (p, z)) = absurd (omega (arith, many-in))
-        go (inl (p, q, z)) = record {
-          base-is = t .base-is;
-          bound = omega arith;
-          long = length-set cells (base + e) x ∙ t .long;
-          rank = record { low = b .low; high = b .high; many = b .many; room = rw length-set (b .room); below = below };
-          done = λ f m. done f m (ℕ-discrete f e);
-          rest = range-yes (carriesElement (solidIn sh w) cls row r) 0 (size (solidIn sh w) r) e e (omega arith) (omega (arith, many-in)) (t .rest) z;
-        }
-          where
-            done : (f : ℕ) → f < e + 1 → Dec (f ≡ e) → (getD (set cells (base + e) x) (firstAt sh r + f) 0 ≡ goes (solidIn sh w) row r f) × (goes (solidIn sh w) row r f < sizeAt sh r)
-            done f m (yes y) =
-                let i : firstAt sh r + e ≡ base + e = omega (arith, t .base-is) in
-                rw (y, i) (getD-set-same cells (base + e) x 0 cell-in ∙ p, omega (arith, p, b .many))
-            done f m (no y) =
-                let i = t .done f (omega arith) in
-                (getD-set-other cells (base + e) (firstAt sh r + f) x 0 (λ (d : firstAt sh r + f ≡ base + e). y (omega (arith, t .base-is))) ∙ i .0, i .1)
+        done : (f : ℕ) → f < e + 1 → Dec (f ≡ e) → (getD (set cells (base + e) x) (firstAt sh r + f) 0 ≡ goes (solidIn sh w) row r f) × (goes (solidIn sh w) row r f < sizeAt sh r)
+        done f m (yes y) =
+            let i : firstAt sh r + e ≡ base + e = omega (arith, t .base-is) in
+            rw (y, i) (getD-set-same cells (base + e) x 0 cell-in ∙ l .0, omega (arith, l .0, l .1, many-in, t .many))
+        done f m (no y) =
+            let i = t .done f (omega arith) in
+            (getD-set-other cells (base + e) (firstAt sh r + f) x 0 (λ (d : firstAt sh r + f ≡ base + e). y (omega (arith, t .base-is))) ∙ i .0, i .1)
 
   pub turn-end : n ≤ e → (true ≡ every (carriesElement (solidIn sh w) cls row r) (range 0 (size (solidIn sh w) r))) × Images sh w row cells r
   turn-end k = (
     range-end (carriesElement (solidIn sh w) cls row r) 0 (size (solidIn sh w) r) e (omega (arith, many-in)) (t .rest),
-    λ f m. t .done f (omega (arith, t .rank .many)),
+    λ f m. t .done f (omega (arith, t .many)),
   )
 
 -- ---- the ranks
@@ -240,8 +222,8 @@ first-round sh w row cls cells h = record { low = omega arith; long = refl; room
 
 module _ {sh : Shape} {w row : List ℕ} {cls : Classes} {cells₀ cells : List ℕ} {r : ℕ} (t : Round sh w row cls cells₀ cells r) where
   module _ (more : r < sh .rank) where
-    pub rank-now : (n : ℕ) → n ≡ firstAt sh (r + 1) - firstAt sh r → Rank sh w row cells r n
-    rank-now n e = record { low = t .low; high = more; many = rw (add-one r) at e; room = t .room; below = t .below }
+    pub rank-now : (n : ℕ) → n ≡ firstAt sh (r + 1) - firstAt sh r → Rank sh w row cells r × (n ≡ sizeAt sh r)
+    rank-now n e = (record { low = t .low; high = more; room = t .room; below = t .below }, rw (add-one r) at e)
 
     pub round-stop : false ≡ every (carriesElement (solidIn sh w) cls row r) (range 0 (size (solidIn sh w) r))
         → false ≡ every (λ q. every (carriesElement (solidIn sh w) cls row q) (range 0 (size (solidIn sh w) q))) (properRanks (solidIn sh w))

@@ -13,6 +13,9 @@ use borrow.Author.Tests.{eq-eqb, ne-eqb}
 use Rattle.spec.specs.Lists.{In, holds, keep, every}
 use Rattle.spec.specs.Types.{subs, sups}
 use Rattle.spec.proofs.Lists.{in-getD}
+use Rattle.float.specs.declared.points.Found.{Found}
+use Rattle.float.specs.declared.points.Found.the-variants.{At, Nothing}
+use Rattle.float.specs.Finding.{firstOf}
 use Rattle.ranked.specs.declared.Shape.{Shape}
 use Rattle.ranked.specs.Words.{firstAt, sizeAt, total, listAt, solidIn, Held}
 use Rattle.ranked.specs.Reading.{Lies, subsWord, supsWord, Each}
@@ -33,27 +36,27 @@ module _ (to : ℕ → ℕ) (es gs : List ℕ) where
 
 -- ---- the first that passes
 
-module _ (p : ℕ → Bool) (d : ℕ) where
-  kept-no : (x : ℕ) (l : List ℕ) → p x ≡ false → getD (keep p (x ∷ l)) 0 d ≡ getD (keep p l) 0 d
+module _ (p : ℕ → Bool) where
+  kept-no : (x : ℕ) (l : List ℕ) → p x ≡ false → firstOf (keep p (x ∷ l)) ≡ firstOf (keep p l)
   unfolding keep
   kept-no x l e = rw (e, keep)
 
-  kept-yes : (x : ℕ) (l : List ℕ) → p x ≡ true → getD (keep p (x ∷ l)) 0 d ≡ x
+  kept-yes : (x : ℕ) (l : List ℕ) → p x ≡ true → firstOf (keep p (x ∷ l)) ≡ At x
   unfolding keep
   kept-yes x l e = rw (e, keep)
 
-  -- k elements in, what is left gives what the whole gives
+  -- after k elements, what is left gives what the whole gives
   abbrev pub First : List ℕ → ℕ → Type 0
-  First l k = getD (keep p (drop k l)) 0 d ≡ getD (keep p l) 0 d
+  First l k = firstOf (keep p (drop k l)) ≡ firstOf (keep p l)
 
   module _ (l : List ℕ) (k : ℕ) (more : k < length l) (inv : First l k) where
     pub first-no : p (getD l k 0) ≡ false → First l (k + 1)
-    first-no e = rw add-one (sym (ap (λ (m : List ℕ). getD (keep p m) 0 d) (drop-cons l k 0 more) ∙ kept-no _ _ e) ∙ inv)
+    first-no e = rw add-one (sym (ap (λ (m : List ℕ). firstOf (keep p m)) (drop-cons l k 0 more) ∙ kept-no _ _ e) ∙ inv)
 
-    pub first-yes : p (getD l k 0) ≡ true → getD l k 0 ≡ getD (keep p l) 0 d
-    first-yes e = sym (ap (λ (m : List ℕ). getD (keep p m) 0 d) (drop-cons l k 0 more) ∙ kept-yes _ _ e) ∙ inv
+    pub first-yes : p (getD l k 0) ≡ true → At (getD l k 0) ≡ firstOf (keep p l)
+    first-yes e = sym (ap (λ (m : List ℕ). firstOf (keep p m)) (drop-cons l k 0 more) ∙ kept-yes _ _ e) ∙ inv
 
-  pub first-end : (l : List ℕ) (k : ℕ) → length l ≤ k → First l k → d ≡ getD (keep p l) 0 d
+  pub first-end : (l : List ℕ) (k : ℕ) → length l ≤ k → First l k → Nothing ≡ firstOf (keep p l)
   unfolding keep
   first-end l k h inv = rw (drop-of-length-le l h) at inv
 
@@ -92,8 +95,8 @@ module _ (sh : Shape) (w : List ℕ) (h : Held sh w) (cells : List ℕ) (r e : �
         let q : 4 * firstAt sh (suc r) + 4 * g ≡ subsWord (firstAt sh (suc r)) g = omega arith in
         rw q (subs-lie sh w h (suc r) g high (over-low g m))
 
-    pub rises : (x : ℕ) → x ≡ getD (keep (λ g. onto (λ k. getD cells (firstAt sh r + k) 0) (listAt w (subsWord (firstAt sh (suc r)) e)) (listAt w (4 * firstAt sh (suc r) + 4 * g)))
-        (listAt w (supsWord (firstAt sh r) y))) 0 (sizeAt sh (suc r)) → x ≡ risesTo (solidIn sh w) (λ k. getD cells (firstAt sh r + k) 0) r e
+    pub rises : (x : Found) → x ≡ firstOf (keep (λ g. onto (λ k. getD cells (firstAt sh r + k) 0) (listAt w (subsWord (firstAt sh (suc r)) e)) (listAt w (4 * firstAt sh (suc r) + 4 * g)))
+        (listAt w (supsWord (firstAt sh r) y))) → x ≡ risesTo (solidIn sh w) (λ k. getD cells (firstAt sh r + k) 0) r e
     unfolding risesTo
     rises x q =
         let s = solidIn sh w in
@@ -104,5 +107,4 @@ module _ (sh : Shape) (w : List ℕ) (h : Held sh w) (cells : List ℕ) (r e : �
         let z : 4 * firstAt sh (suc r) + 4 * g ≡ subsWord (firstAt sh (suc r)) g = omega arith in
         rw (list-is, z, subs-listed sh w h (suc r) g high (over-low g m))) in
         let first : y ≡ to (getD es 0 0) = y-is ∙ ap to (f-is ∙ ap (λ (l : List ℕ). getD l 0 0) list-is) in
-        q ∙ ap (λ (l : List ℕ). getD l 0 (sizeAt sh (suc r))) (tests ∙ ap (keep (λ g. onto to es (subs s (suc r) g))) (over-is ∙ ap (sups s r) first))
-        ∙ ap (getD (keep (λ g. onto to es (subs s (suc r) g)) (sups s r (to (getD es 0 0)))) 0) (sym (size-is sh w (suc r) high))
+        q ∙ ap firstOf (tests ∙ ap (keep (λ g. onto to es (subs s (suc r) g))) (over-is ∙ ap (sups s r) first))

@@ -20,6 +20,8 @@ use Rattle.spec.proofs.Counts.{lists, keep-in, in-keep}
 use Rattle.spec.proofs.Carry.{rising-once}
 use Rattle.spec.proofs.FlagList.{join-in, in-join}
 use Rattle.spec.proofs.Marked.{in-order, of-order, order-same, goes-proper, goes-improper, goes-vertices, set-place, Permutes, row-low, goes-apart, fit-of}
+use Rattle.float.specs.declared.points.Found.the-variants.{At}
+use Rattle.float.specs.Finding.{firstOf}
 use Rattle.ranked.proofs.Between.{sup-means, means-sup}
 use Rattle.marks.specs.Rises.{onto, risesTo, Reached}
 use Rattle.marks.proofs.Sets.{not-passed, order-self, Same, sets-same, onto-same, same-onto}
@@ -94,14 +96,14 @@ module _ (s : Solid) (ok : Sound s) (filled : (r e : ℕ) → e < size s (suc r)
       go (x ∷ []) n r b = let z : x ≡ 0 = omega (arith, b x (inl refl)) in rw z
       go (x ∷ (y ∷ l)) n r b = absurd (omega (arith, b y (inr (inl refl)), r .0))
 
-  pub vertex-reached : Proper s 1 → Once (vertexSets s 1) → (v : ℕ) → v < size s 1 → Reached s cls row 1 v (getD row v 0)
+  pub vertex-reached : Proper s 1 → Once (vertexSets s 1) → (v : ℕ) → v < size s 1 → Reached s cls row 1 v (At (getD row v 0))
   vertex-reached p o v h =
       let g = vertex-goes p o v h in
       let k = row-low s row a v h in
       let z : goes s row 0 0 ≡ 0 = goes-improper s row 0 0 (λ n. not-suc-le-zero (n .0)) in
       let l : subs s 1 (getD row v 0) ≡ inOrder (size s 0) (map (goes s row 0) (subs s 1 v)) =
       rw (least-only (getD row v 0) k, least-only v h, z) (sym (order-self (size s 0) (0 ∷ []) tt low)) in
-      inl (sym g, k, class-left 0 v (getD row v 0) k g l)
+      (sym g, k, class-left 0 v (getD row v 0) k g l)
     where
       low : (x : ℕ) → In x (0 ∷ []) → x < size s 0
       low x (inl q) = let one : size s 0 ≡ 1 = ap length (ok .least) in omega arith
@@ -142,14 +144,14 @@ module _ (s : Solid) (ok : Sound s) (filled : (r e : ℕ) → e < size s (suc r)
           (λ x y i j z. let hx = ok .below (suc q) e x i in goes-apart s row a (suc q) x y p o hx (ok .below (suc q) e y j) (low x hx) z)
           (rising-once (subs s (suc (suc q)) e) (ok .rising (suc (suc q)) e)))
 
-      found : (g : ℕ) → g < size s (suc (suc q)) → onto to (subs s (suc (suc q)) e) (subs s (suc (suc q)) g) ≡ true → Reached s cls row (suc (suc q)) e g
+      found : (g : ℕ) → g < size s (suc (suc q)) → onto to (subs s (suc (suc q)) e) (subs s (suc (suc q)) g) ≡ true → Reached s cls row (suc (suc q)) e (At g)
       found g k t =
           let h : Same (subs s (suc (suc q)) g) (map (goes s row (suc q)) (subs s (suc (suc q)) e)) = rw images at (onto-same to (subs s (suc (suc q)) e) (subs s (suc (suc q)) g) once t) in
           let z : goes s row (suc (suc q)) e ≡ g = goes-proper s row (suc (suc q)) e p′ ∙ ap (λ (l : List ℕ). place eqList l (vertexSets s (suc (suc q)))) (sym (up e g h)) ∙ set-place s (suc (suc q)) o′ g k in
           let l : subs s (suc (suc q)) g ≡ inOrder (size s (suc q)) (map (goes s row (suc q)) (subs s (suc (suc q)) e)) =
           sym (order-self (size s (suc q)) (subs s (suc (suc q)) g) (ok .rising (suc (suc q)) g) (λ x m. ok .below (suc q) g x m))
           ∙ order-same (size s (suc q)) (subs s (suc (suc q)) g) (map (goes s row (suc q)) (subs s (suc (suc q)) e)) (λ v b m. h v .0 m) (λ v b m. h v .1 m) in
-          inl (sym z, k, class-left (suc q) e g k z l)
+          (sym z, k, class-left (suc q) e g k z l)
 
       -- what a carried element goes to passes the test
       passes : carriesElement s cls row (suc (suc q)) e ≡ true → (g : ℕ) × (g < size s (suc (suc q))) × Same (subs s (suc (suc q)) g) (map to (subs s (suc (suc q)) e))
@@ -185,8 +187,8 @@ module _ (s : Solid) (ok : Sound s) (filled : (r e : ℕ) → e < size s (suc r)
               let t : test (g .0) ≡ true = same-onto to (subs s (suc (suc q)) e) (subs s (suc (suc q)) (g .0)) once (rising-once (subs s (suc (suc q)) (g .0)) (ok .rising (suc (suc q)) (g .0))) (g .2) in
               subst (λ (l : List ℕ). In (g .0) l) z (keep-in test (g .0) ups above t)
 
-          go : (l : List ℕ) → keep test ups ≡ l → Reached s cls row (suc (suc q)) e (getD (keep test ups) 0 (size s (suc (suc q))))
-          go [] z = rw z (inr (omega arith, not-passed _ (missed z)))
+          go : (l : List ℕ) → keep test ups ≡ l → Reached s cls row (suc (suc q)) e (firstOf (keep test ups))
+          go [] z = rw z (not-passed _ (missed z))
           go (g ∷ l) z =
               let m = in-keep test g ups (subst (λ (k : List ℕ). In g k) (sym z) (inl refl)) in
               rw z (found g (sup-means s (suc q) g (to (getD (subs s (suc (suc q)) e) 0 0)) (m .0) .0) (m .1))

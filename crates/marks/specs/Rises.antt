@@ -1,8 +1,7 @@
 -- Where an element goes, found from where its subs go and from no vertex set.
 -- Assumes nothing.
 use mathlib.Core.Path.{_≡_}
-use mathlib.Core.Logic.{_⊎_}
-use Prim.Native.Nat.{ℕ, suc, _≤_, _<_}
+use Prim.Native.Nat.{ℕ, suc, _<_}
 use mathlib.Core.Bool.{Bool, true, false, _&&_}
 use mathlib.Core.List.{List}
 use lib.ListN.{length, getD}
@@ -10,24 +9,25 @@ use lib.Dec.{eqb}
 use Rattle.spec.specs.Lists.{holds, keep, every}
 use Rattle.spec.specs.Types.{Solid, size, subs, sups, Classes}
 use Rattle.spec.specs.Mark.{goes, carriesElement}
+use Rattle.float.specs.declared.points.Found.{Found}
+use Rattle.float.specs.declared.points.Found.the-variants.{At, Nothing}
+use Rattle.float.specs.Finding.{firstOf}
 
 -- the numbers es, which rise and go to different ones, go exactly onto the numbers gs, which rise: there are as many, and each lands among them
 unfoldable pub onto : (ℕ → ℕ) → List ℕ → List ℕ → Bool
 onto to es gs = eqb (length es) (length gs) && every (λ f. holds eqb (to f) gs) es
 
--- where element e of rank r + 1 goes, by where rank r goes: of the elements over its first sub's image the first whose subs are the images of
--- its own; the rank's size, if there is none
-unfoldable pub risesTo : Solid → (ℕ → ℕ) → ℕ → ℕ → ℕ
-risesTo s to r e = getD (keep (λ g. onto to (subs s (suc r) e) (subs s (suc r) g)) (sups s r (to (getD (subs s (suc r) e) 0 0)))) 0 (size s (suc r))
+-- where element e of rank r + 1 goes, by where rank r goes: of the elements over its first sub's image, the first whose subs are the images of
+-- its own
+unfoldable pub risesTo : Solid → (ℕ → ℕ) → ℕ → ℕ → Found
+risesTo s to r e = firstOf (keep (λ g. onto to (subs s (suc r) e) (subs s (suc r) g)) (sups s r (to (getD (subs s (suc r) e) 0 0))))
 
--- x is where e goes, and its class decides whether e is carried; or x is no element, and e is not carried
-abbrev pub Reached : Solid → Classes → List ℕ → ℕ → ℕ → ℕ → Type 0
-Reached s cls row r e x =
-    ((x ≡ goes s row r e) × (x < size s r) × (carriesElement s cls row r e ≡ eqb (cls r x) (cls r e)))
-    ⊎ ((size s r ≤ x) × (carriesElement s cls row r e ≡ false))
+-- what an answer says of where e goes: to x, whose class decides whether e is carried; or nowhere, and e is not carried
+abbrev pub Reached : Solid → Classes → List ℕ → ℕ → ℕ → Found → Type 0
+Reached s cls row r e (At x) = (x ≡ goes s row r e) × (x < size s r) × (carriesElement s cls row r e ≡ eqb (cls r x) (cls r e))
+Reached s cls row r e Nothing = carriesElement s cls row r e ≡ false
 
--- x is where e goes, and e is carried; or neither
-abbrev pub Landed : Solid → Classes → List ℕ → ℕ → ℕ → ℕ → Type 0
-Landed s cls row r e x =
-    ((x ≡ goes s row r e) × (x < size s r) × (carriesElement s cls row r e ≡ true))
-    ⊎ ((size s r ≤ x) × (carriesElement s cls row r e ≡ false))
+-- what an answer says of e where the class has been asked: that e is carried to x; or that e is not carried
+abbrev pub Landed : Solid → Classes → List ℕ → ℕ → ℕ → Found → Type 0
+Landed s cls row r e (At x) = (x ≡ goes s row r e) × (x < size s r) × (carriesElement s cls row r e ≡ true)
+Landed s cls row r e Nothing = carriesElement s cls row r e ≡ false

@@ -44,10 +44,9 @@ pub record Row (sh : Shape) (w row : List ℕ) : Type 0 where
 abbrev pub Images : Shape → List ℕ → List ℕ → List ℕ → ℕ → Type 0
 Images sh w row cells r = (e : ℕ) → e < sizeAt sh r → (getD cells (firstAt sh r + e) 0 ≡ goes (solidIn sh w) row r e) × (goes (solidIn sh w) row r e < sizeAt sh r)
 
--- r is a proper rank of n elements, and the rank below has its images in the cells, unless it is the least's
-pub record Rank (sh : Shape) (w row cells : List ℕ) (r n : ℕ) : Type 0 where
+-- r is a proper rank, and the cells have room for every element and hold the images of the rank below, unless that is the least element's
+pub record Rank (sh : Shape) (w row cells : List ℕ) (r : ℕ) : Type 0 where
   pub low : 1 ≤ r
   pub high : r < sh .rank
-  pub many : n ≡ sizeAt sh r
   pub room : total sh ≤ length cells
   pub below : 2 ≤ r → Images sh w row cells (r - 1)

@@ -1,11 +1,13 @@
-// Section 6's mark: does a row, the vertex that each vertex goes to, carry every element of the solid in lent words to one of its rank and
-// distance class, subs exactly onto subs? An element's image is found by its subs' images, one rank after another; no vertex set is made.
+// Section 6's mark. It says whether a row, which gives the vertex that each vertex goes to, carries every element of the solid in lent words to
+// an element of its rank and distance class, subs exactly onto subs. An element's image is found by the images of its subs, one rank after
+// another, so that no vertex set has to be made.
 ghost use mathlib.Core.Path.{_≡_};
 ghost use mathlib.Core.Bool.{true, false};
 ghost use Prim.Native.Nat.{ℕ, suc, _+_, _*_, _^_, _≤_, _<_};
 ghost use lib.ListN.{length, getD};
 ghost use lib.Dec.{eqb};
 ghost use lib.Ieee.{nan};
+ghost use Rattle.float.specs.Finding.{firstOf};
 ghost use Rattle.spec.specs.Limits.{maxCount};
 ghost use Rattle.spec.specs.Lists.{In, holds, range, keep, every};
 ghost use Rattle.spec.specs.Types.{size, properRanks, Classes};
@@ -16,15 +18,16 @@ ghost use Rattle.geometry.specs.Classes.{sameClass};
 ghost use Rattle.distances.specs.Solids.{proper, before};
 ghost use Rattle.marks.specs.Rises.{onto, risesTo, Reached, Landed};
 ghost use Rattle.marks.specs.Rows.{permutes, classesOn, ClassesIn, Row, Images, Rank};
+use float::points::Found;
 use geometry::classes;
 use ranked::Shape;
 use ranked::lists;
 use spec::MAX_COUNT;
 
-// "The mark (added) is confirmed, 1".
+// The mark of a confirmed row: "The mark (added) is confirmed, 1".
 const CONFIRMED: u8 = 1;
 
-// The cell at k.
+// The number in cell k.
 fn cell(cells: &[u16], k: usize) -> usize
     requires { ⌜ k < length (now cells) ⌝ }
     ensures { λ x. ⌜ x ≡ getD (now (cells .entry)) k 0 ⌝ }
@@ -32,7 +35,7 @@ fn cell(cells: &[u16], k: usize) -> usize
     cells[k] as usize
 }
 
-// Does the row hold vertices only, and none twice? A rank has at most 2,048 elements.
+// Whether the row holds only numbers of vertices, and none of them twice. A rank has at most 2,048 elements.
 fn is_permutation(row: &[u16]) -> bool
     requires { ⌜ length (now row) ≤ maxCount ⌝ }
     ensures { λ res. ⌜ res ≡ permutes (now (row .entry)) ⌝ }
@@ -54,7 +57,7 @@ fn is_permutation(row: &[u16]) -> bool
     true
 }
 
-// Does each entry f of the list at word i go to an entry of the list at word j? Cell base + f says where f goes.
+// Whether each entry f of the list at word i goes to an entry of the list at word j. Cell base + f says where f goes.
 fn lands(w: &[u32], goes: &[u16], base: usize, i: usize, j: usize) -> bool
     requires { ⌜ Lies (now w) i × Lies (now w) j ⌝ }
     requires { ⌜ ((f : ℕ) → In f (listAt (now w) i) → base + f < length (now goes)) ⌝ }
@@ -73,7 +76,7 @@ fn lands(w: &[u32], goes: &[u16], base: usize, i: usize, j: usize) -> bool
     true
 }
 
-// Does the list at word i go exactly onto the list at word j?
+// Whether the list at word i goes exactly onto the list at word j.
 fn is_onto(w: &[u32], goes: &[u16], base: usize, i: usize, j: usize) -> bool
     requires { ⌜ Lies (now w) i × Lies (now w) j ⌝ }
     requires { ⌜ ((f : ℕ) → In f (listAt (now w) i) → base + f < length (now goes)) ⌝ }
@@ -85,37 +88,29 @@ fn is_onto(w: &[u32], goes: &[u16], base: usize, i: usize, j: usize) -> bool
     lands(w, goes, base, i, j)
 }
 
-// The first entry g of the list at word j such that the list at word i goes exactly onto the list at word up + 4 * g; none, if there is none.
-fn first_onto(
-    w: &[u32],
-    goes: &[u16],
-    base: usize,
-    i: usize,
-    j: usize,
-    up: usize,
-    none: usize,
-) -> usize
+// The first entry g of the list at word j such that the list at word i goes exactly onto the list at word up + 4 * g.
+fn first_onto(w: &[u32], goes: &[u16], base: usize, i: usize, j: usize, up: usize) -> Found
     requires { ⌜ Lies (now w) i × Lies (now w) j × Each (now w) j up ⌝ }
     requires { ⌜ ((f : ℕ) → In f (listAt (now w) i) → base + f < length (now goes)) ⌝ }
-    ensures { λ res. ⌜ res ≡ getD (keep (λ g. onto (λ f. getD (now (goes .entry)) (base + f) 0) (listAt (now (w .entry)) i) (listAt (now (w .entry)) (up + 4 * g)))
-        (listAt (now (w .entry)) j)) 0 none ⌝ }
+    ensures { λ res. ⌜ res ≡ firstOf (keep (λ g. onto (λ f. getD (now (goes .entry)) (base + f) 0) (listAt (now (w .entry)) i) (listAt (now (w .entry)) (up + 4 * g)))
+        (listAt (now (w .entry)) j)) ⌝ }
 {
     let n = lists::count_at(w, j);
     let mut k: usize = 0;
     while k < n {
         let g = lists::entry_at(w, j, k);
         if is_onto(w, goes, base, i, up + 4 * g) {
-            return g;
+            return Found::At(g);
         }
         k += 1;
     }
-    none
+    Found::Nothing
 }
 
-// Where element e of rank r + 1, which has n elements, goes, by where rank r goes.
-fn rise(w: &[u32], sh: Shape, goes: &[u16], r: usize, e: usize, n: usize) -> usize
+// Where element e of rank r + 1 goes, by where the elements of rank r go.
+fn rise(w: &[u32], sh: Shape, goes: &[u16], r: usize, e: usize) -> Found
     requires { ⌜ Held sh (now w) ⌝ }
-    requires { ⌜ (suc r ≤ sh .rank) × (e < sizeAt sh (suc r)) × (n ≡ sizeAt sh (suc r)) × (total sh ≤ length (now goes)) ⌝ }
+    requires { ⌜ (suc r ≤ sh .rank) × (e < sizeAt sh (suc r)) × (total sh ≤ length (now goes)) ⌝ }
     requires { ⌜ ((f : ℕ) → f < sizeAt sh r → getD (now goes) (firstAt sh r + f) 0 < sizeAt sh r) ⌝ }
     ensures { λ x. ⌜ x ≡ risesTo (solidIn sh (now (w .entry))) (λ f. getD (now (goes .entry)) (firstAt sh r + f) 0) r e ⌝ }
 {
@@ -126,22 +121,22 @@ fn rise(w: &[u32], sh: Shape, goes: &[u16], r: usize, e: usize, n: usize) -> usi
     let f = lists::entry_at(w, i, 0);
     let y = cell(goes, base + f);
     let j = lists::sups_at(base, y);
-    first_onto(w, goes, base, i, j, 4 * up, n)
+    first_onto(w, goes, base, i, j, 4 * up)
 }
 
-// Where element e of rank r goes: a vertex as the row says.
-fn reach(w: &[u32], sh: Shape, row: &[u16], goes: &[u16], r: usize, e: usize, n: usize) -> usize
+// Where element e of rank r goes. A vertex goes where the row says, and any other element where its subs go.
+fn reach(w: &[u32], sh: Shape, row: &[u16], goes: &[u16], r: usize, e: usize) -> Found
     requires { ⌜ Row sh (now w) (now row) ⌝ }
-    requires { ⌜ Rank sh (now w) (now row) (now goes) r n × (e < n) ⌝ }
+    requires { ⌜ Rank sh (now w) (now row) (now goes) r × (e < sizeAt sh r) ⌝ }
     ensures { λ x. ⌜ ((cls : Classes) → Reached (solidIn sh (now (w .entry))) cls (now (row .entry)) r e x) ⌝ }
 {
     if r == 1 {
-        return cell(row, e);
+        return Found::At(cell(row, e));
     }
-    rise(w, sh, goes, r - 1, e, n)
+    rise(w, sh, goes, r - 1, e)
 }
 
-// Where the class of element e of rank r stands, of a solid with v vertices: behind the coordinates and the list.
+// Where the class of element e of rank r stands in the floats of a solid with v vertices, which is behind the coordinates and the list.
 fn class_cell(sh: Shape, v: usize, r: usize, e: usize) -> usize
     requires { ⌜ (r < 7) × (sh .rank < 7) × (firstAt sh 1 ≤ firstAt sh (sh .rank)) × (firstAt sh 1 ≤ firstAt sh r) ⌝ }
     requires { ⌜ v * sh .dimension + proper sh + (before sh r + e) < 2 ^ 64 ⌝ }
@@ -153,7 +148,7 @@ fn class_cell(sh: Shape, v: usize, r: usize, e: usize) -> usize
     v * d + (first[rank] - first[1]) + (first[r] - first[1] + e)
 }
 
-// Do elements e and g of rank r share a distance class, of a solid with v vertices?
+// Whether elements e and g of rank r share a distance class, in a solid with v vertices.
 fn one_class(sh: Shape, floats: &[f64], v: usize, r: usize, e: usize, g: usize) -> bool
     requires { ⌜ (r < 7) × (sh .rank < 7) × (firstAt sh 1 ≤ firstAt sh (sh .rank)) × (firstAt sh 1 ≤ firstAt sh r) ⌝ }
     requires { ⌜ (v * sh .dimension + proper sh + (before sh r + e) < length (now floats)) × (v * sh .dimension + proper sh + (before sh r + g) < length (now floats)) ⌝ }
@@ -165,7 +160,7 @@ fn one_class(sh: Shape, floats: &[f64], v: usize, r: usize, e: usize, g: usize) 
     classes::same_class(floats[a], floats[b])
 }
 
-// Where element e of rank r goes, if it is carried: to an element of its class; else n, the rank's size.
+// Where element e of rank r goes, if it is carried: to an element of its class.
 fn image_of(
     w: &[u32],
     sh: Shape,
@@ -174,23 +169,21 @@ fn image_of(
     goes: &[u16],
     r: usize,
     e: usize,
-    n: usize,
-) -> usize
+) -> Found
     requires { ⌜ Row sh (now w) (now row) × ClassesIn sh (now w) (now floats) ⌝ }
-    requires { ⌜ Rank sh (now w) (now row) (now goes) r n × (e < n) ⌝ }
+    requires { ⌜ Rank sh (now w) (now row) (now goes) r × (e < sizeAt sh r) ⌝ }
     ensures { λ x. ⌜ Landed (solidIn sh (now (w .entry))) (classesOn sh (now (w .entry)) (now (floats .entry))) (now (row .entry)) r e x ⌝ }
 {
-    let x = reach(w, sh, row, goes, r, e, n);
-    if n <= x {
-        return n;
+    let Found::At(x) = reach(w, sh, row, goes, r, e) else {
+        return Found::Nothing;
+    };
+    if one_class(sh, floats, row.len(), r, e, x) {
+        return Found::At(x);
     }
-    if !one_class(sh, floats, row.len(), r, e, x) {
-        return n;
-    }
-    x
+    Found::Nothing
 }
 
-// Is every element of rank r carried? If so, the cells say where each goes.
+// Whether every element of rank r, which has n elements, is carried. If so, the cells say where each goes.
 fn carry_rank(
     w: &[u32],
     sh: Shape,
@@ -201,7 +194,7 @@ fn carry_rank(
     n: usize,
 ) -> bool
     requires { ⌜ Row sh (now w) (now row) × ClassesIn sh (now w) (now floats) ⌝ }
-    requires { ⌜ Rank sh (now w) (now row) (now goes) r n ⌝ }
+    requires { ⌜ Rank sh (now w) (now row) (now goes) r × (n ≡ sizeAt sh r) ⌝ }
     ensures { λ res. ⌜ res ≡ every (carriesElement (solidIn sh (now (w .entry))) (classesOn sh (now (w .entry)) (now (floats .entry))) (now (row .entry)) r)
         (range 0 (size (solidIn sh (now (w .entry))) r)) ⌝ }
     ensures { λ res. ⌜ (res ≡ true → Images sh (now (w .entry)) (now (row .entry)) (now (goes .exit)) r) ⌝ }
@@ -210,17 +203,16 @@ fn carry_rank(
     let base = first[r];
     let mut e: usize = 0;
     while e < n {
-        let x = image_of(w, sh, floats, row, goes, r, e, n);
-        if n <= x {
+        let Found::At(x) = image_of(w, sh, floats, row, goes, r, e) else {
             return false;
-        }
+        };
         goes[base + e] = x as u16;
         e += 1;
     }
     true
 }
 
-// Is every proper element carried?
+// Whether every proper element is carried.
 fn carry_all(w: &[u32], sh: Shape, floats: &[f64], row: &[u16], goes: &mut [u16]) -> bool
     requires { ⌜ Row sh (now w) (now row) × ClassesIn sh (now w) (now floats) × (total sh ≤ length (now goes)) ⌝ }
     ensures { λ res. ⌜ res ≡ every (λ r. every (carriesElement (solidIn sh (now (w .entry))) (classesOn sh (now (w .entry)) (now (floats .entry))) (now (row .entry)) r)
@@ -239,8 +231,8 @@ fn carry_all(w: &[u32], sh: Shape, floats: &[f64], row: &[u16], goes: &mut [u16]
     true
 }
 
-// The mark of a row: 1, confirmed, or 0. `apart` says that no two elements of a rank have one vertex set. The cells of `goes`, one for each
-// element, are free before and after.
+// The mark of a row, which is 1 if the row is confirmed and 0 if not. `apart` says whether no two elements of a rank have one vertex set. The
+// cells of `goes`, one for each element, are free before and after.
 pub fn mark(w: &[u32], sh: Shape, floats: &[f64], apart: bool, row: &[u16], goes: &mut [u16]) -> u8
     requires { ⌜ Held sh (now w) × ClassesIn sh (now w) (now floats) ⌝ }
     requires { ⌜ apart ≡ setsApart (solidIn sh (now w)) ⌝ }

@@ -9,6 +9,8 @@ use lib.Ieee.{Float}
 use Rattle.spec.specs.Mark.{setsApart, marked}
 use Rattle.spec.specs.Solid.{Concrete}
 use Rattle.spec.specs.Classes.{classTable, byTable}
+use Rattle.float.specs.declared.points.Found.{Found}
+use Rattle.float.specs.declared.points.Found.the-variants.{At, Nothing}
 use Rattle.ranked.specs.declared.Shape.{Shape}
 use Rattle.ranked.specs.Words.{total, solidIn, Held}
 use Rattle.marks.specs.Rows.{ClassesIn}
@@ -38,3 +40,8 @@ pub record Factored (v : ℕ) (rows marks : List ℕ) (k : ℕ) : Type 0 where
   pub g-marked : getD marks g 0 ≡ 1
   pub a-marked : getD marks a 0 ≡ 1
   pub product : rowAt v rows k ≡ composed (rowAt v rows a) (rowAt v rows g)
+
+-- a slot that is found is one of the n slots, and nothing is said where none is found
+abbrev pub Below : ℕ → Found → Type 0
+Below n (At j) = j < n
+Below n Nothing = Unit

@@ -1,5 +1,6 @@
-// The marks of a list of rows. A row that is the product of two confirmed rows is confirmed: the symmetries of a solid are a group. So
+// The marks of a list of rows. A row that is the product of two confirmed rows is confirmed, because the symmetries of a solid are a group. So
 // nearly every row of a search is settled by comparing it with a product, and only the others are followed element by element.
+use float::points::Found;
 use marks::mark;
 use ranked::Shape;
 ghost use mathlib.Core.Path.{_≡_};
@@ -12,25 +13,25 @@ ghost use Rattle.spec.specs.Copying.{parts, written};
 ghost use Rattle.ranked.specs.Words.{solidIn};
 ghost use Rattle.marks.specs.Rows.{concrete};
 ghost use Rattle.products.specs.Products.{composed};
-ghost use Rattle.products.specs.Marking.{markIn, Markable, rowAt, Factored};
+ghost use Rattle.products.specs.Marking.{markIn, Markable, rowAt, Factored, Below};
 
 // How many places the table has.
 const PLACES: usize = 16384;
-// How many places in a row are looked at.
+// How many places in a row are looked at, from the first one on.
 const TRIES: usize = 4;
-// The number in a free place.
+// The number that stands in a free place or slot.
 const FREE: u16 = 65535;
-// How many entries of a row say its place.
+// How many of a row's first entries decide its place.
 const ENTRIES: usize = 8;
-// How many generators there are at most, with slot 0, which is no generator: it has the places of a row's own first entries.
+// How many slots there are. Each but slot 0 has room for one generator; slot 0 holds the places of a row's own first entries.
 const SLOTS: usize = 16;
-// A slot's cells: the generator's number, and the places.
+// How many cells the slots have. A slot holds its generator's number and then the places.
 const CELLS: usize = SLOTS * (ENTRIES + 1);
 
-// For fewer rows than this no table is made.
+// For fewer rows than this no table is made, since it would cost more than it saves.
 const FEW: usize = 16;
 
-// Row k: the part of the slice that holds it.
+// Row k, handed back as the part of the slice that holds it.
 fn row_at(rows: &[u16], v: usize, k: usize) -> &[u16]
     requires { ⌜ k * v + v ≤ length (now rows) ⌝ }
     ensures { λ r. ⌜ now r ≡ rowAt v (now (rows .entry)) k ⌝ }
@@ -40,9 +41,9 @@ fn row_at(rows: &[u16], v: usize, k: usize) -> &[u16]
     &rows[start..end]
 }
 
-// Where to look for the factors of a row. Some confirmed rows are generators. With each stand the places of the vertices 0 to 7 in it, so that
-// the first entries of the row that would come after it are known, and a table finds the rows that have them. A wrong guess costs time only, so
-// nothing is said of what the table and the generators are.
+// The next functions keep what says where to look for the factors of a row. Some confirmed rows are generators. Beside each generator stand the
+// places of the vertices 0 to 7 in it, so that the first entries of the other factor are known, and a table finds the rows that have them. A
+// wrong guess costs only time, so nothing is promised of what the table and the generators are.
 
 fn wide(x: u16) -> usize
     ensures { λ r. ⌜ r ≡ x ⌝ }
@@ -50,7 +51,7 @@ fn wide(x: u16) -> usize
     x as usize
 }
 
-// The entry at p; 0 past the end.
+// The entry at p, or 0 where p is past the end.
 fn entry(row: &[u16], p: usize) -> u16 {
     if p < row.len() {
         return row[p];
@@ -66,7 +67,7 @@ fn mixed(h: u64, x: u16) -> u64
     t * 0x9e37_79b1 / 0x10_0000
 }
 
-// The first place for the row whose first entries the row has where slot j says.
+// The first place for the row whose first entries are those that this row has where slot j says.
 fn place(row: &[u16], cells: &[u16; CELLS], j: usize) -> usize
     requires { ⌜ j < 16 ⌝ }
     ensures { λ r. ⌜ r < 16384 ⌝ }
@@ -81,7 +82,7 @@ fn place(row: &[u16], cells: &[u16; CELLS], j: usize) -> usize
     (h % 16384) as usize
 }
 
-// Number k in the first free place, if there is one.
+// Writes number k to the first free place, if one of the places that are looked at is free.
 fn store(guesses: &mut [u16; PLACES], at: usize, k: usize)
     requires { ⌜ (at < 16384) × (k < 65535) ⌝ }
 {
@@ -96,7 +97,7 @@ fn store(guesses: &mut [u16; PLACES], at: usize, k: usize)
     }
 }
 
-// Row k joins the table, if its mark m confirms it.
+// Adds row k to the table, if its mark m confirms it.
 fn keep(v: usize, rows: &[u16], m: u8, k: usize, cells: &[u16; CELLS], guesses: &mut [u16; PLACES])
     requires { ⌜ k * v + v ≤ length (now rows) ⌝ }
 {
@@ -110,7 +111,7 @@ fn keep(v: usize, rows: &[u16], m: u8, k: usize, cells: &[u16; CELLS], guesses: 
     store(guesses, at, k);
 }
 
-// No generator yet.
+// The slots before there is any generator.
 fn none() -> [u16; CELLS] {
     let mut cells = [FREE; CELLS];
     let mut i: usize = 0;
@@ -121,19 +122,21 @@ fn none() -> [u16; CELLS] {
     cells
 }
 
-// The first free slot; SLOTS, where none is.
-fn free_slot(cells: &[u16; CELLS]) -> usize {
+// The first free slot after slot 0.
+fn free_slot(cells: &[u16; CELLS]) -> Found
+    ensures { λ r. ⌜ Below 16 r ⌝ }
+{
     let mut j: usize = 1;
     while j < SLOTS {
         if cells[9 * j] == FREE {
-            return j;
+            return Found::At(j);
         }
         j += 1;
     }
-    SLOTS
+    Found::Nothing
 }
 
-// The places of the first vertices in the row, to slot j.
+// Writes the places of the first vertices in the row to slot j.
 fn note(row: &[u16], cells: &mut [u16; CELLS], j: usize)
     requires { ⌜ (j < 16) × (length (now row) ≤ 65536) ⌝ }
 {
@@ -147,7 +150,8 @@ fn note(row: &[u16], cells: &mut [u16; CELLS], j: usize)
     }
 }
 
-// Row k joins the generators, if its mark m confirms it and there is a free slot. Row 0 is the identity nearly always, which makes no new product.
+// Adds row k to the generators, if its mark m confirms it and there is a free slot. Row 0 is nearly always the identity, which makes no new
+// product, so it is left out.
 fn join(v: usize, rows: &[u16], m: u8, k: usize, cells: &mut [u16; CELLS])
     requires { ⌜ (k * v + v ≤ length (now rows)) × (v ≤ 65536) ⌝ }
 {
@@ -160,15 +164,14 @@ fn join(v: usize, rows: &[u16], m: u8, k: usize, cells: &mut [u16; CELLS])
     if wide(FREE) <= k {
         return;
     }
-    let j = free_slot(cells);
-    if SLOTS <= j {
+    let Found::At(j) = free_slot(cells) else {
         return;
-    }
+    };
     cells[9 * j] = k as u16;
     note(row_at(rows, v, k), cells, j);
 }
 
-// Is the row g and then a?
+// Whether the row is g and then a.
 fn is_product(row: &[u16], a: &[u16], g: &[u16]) -> bool
     requires { ⌜ (length (now row) ≡ length (now g)) × (length (now a) ≡ length (now g)) ⌝ }
     ensures { λ r. ⌜ (r ≡ true → now (row .entry) ≡ composed (now (a .entry)) (now (g .entry))) ⌝ }
@@ -188,7 +191,7 @@ fn is_product(row: &[u16], a: &[u16], g: &[u16]) -> bool
     true
 }
 
-// Is row k row g and then row a, both confirmed before it?
+// Whether row k is row g and then row a, both of them confirmed before it.
 fn is_factored(v: usize, rows: &[u16], marks: &[u8], k: usize, g: usize, a: usize) -> bool
     requires { ⌜ (k * v + v ≤ length (now rows)) × (k ≤ length (now marks)) ⌝ }
     ensures { λ r. ⌜ (r ≡ true → Factored v (now (rows .entry)) (now (marks .entry)) k) ⌝ }
@@ -208,7 +211,7 @@ fn is_factored(v: usize, rows: &[u16], marks: &[u8], k: usize, g: usize, a: usiz
     is_product(row_at(rows, v, k), row_at(rows, v, a), row_at(rows, v, g))
 }
 
-// Is row k the generator of slot j and then a row of the table?
+// Whether row k is the generator of slot j and then a row of the table.
 fn is_met(
     v: usize,
     rows: &[u16],
@@ -234,7 +237,7 @@ fn is_met(
     false
 }
 
-// Is row k found to be a product of two rows confirmed before it?
+// Whether row k is found to be a product of two rows that were confirmed before it.
 fn is_known(
     v: usize,
     rows: &[u16],
@@ -286,7 +289,7 @@ fn mark_next(
     m
 }
 
-// A mark, to the first cell of the part after the finished ones, which stay as they are.
+// Writes a mark to the first cell of the part after the finished ones, which stay as they are.
 fn put_mark(out: &mut [u8], m: u8)
     requires { ⌜ 0 < length (now out) ⌝ }
     ensures { λ _. ⌜ now (out .exit) ≡ written (m ∷ []) (now (out .entry)) ⌝ }
@@ -294,7 +297,7 @@ fn put_mark(out: &mut [u8], m: u8)
     out[0] = m;
 }
 
-// The marks of a few rows.
+// Marks a few rows, each element by element.
 fn mark_few(
     w: &[u32],
     sh: Shape,
@@ -318,7 +321,7 @@ fn mark_few(
     }
 }
 
-// The marks of many rows.
+// Marks many rows, each by a product where one is found.
 fn mark_many(
     w: &[u32],
     sh: Shape,
@@ -357,7 +360,7 @@ fn mark_many(
     }
 }
 
-// The marks of n rows of v entries each. The cells of `goes` are free before and after.
+// Marks n rows of v entries each. The cells of `goes` are free before and after.
 pub fn mark_rows(
     w: &[u32],
     sh: Shape,

@@ -5,9 +5,11 @@ use native.Mathlib.Omega.{arith}
 use mathlib.Core.Bool.{false≢true}
 use Prim.Native.Nat.{_+_, _-_, _<_}
 use lib.ListN.{length}
-use Rattle.ranked.specs.Words.{firstAt}
+use Rattle.float.specs.declared.points.Found.the-variants.{At}
+use Rattle.ranked.specs.Words.{firstAt, solidIn}
+use Rattle.marks.specs.Rises.{Landed}
 use Rattle.marks.specs.Rows.{classesOn}
-use Rattle.marks.proofs.Carried.{Turn, first-turn, cell-in, turn-stop, turn-next, turn-end}
+use Rattle.marks.proofs.Carried.{Turn, first-turn, cell-in, turn-in, turn-stop, turn-next, turn-end}
 use Rattle.marks.proofs.carry_rank.Statement.{statement}
 use Rattle.marks.proofs.carry_rank.Tie as tie
 
@@ -17,34 +19,48 @@ Inv w sh floats row goes₀ r n base e₀ goes e = Turn sh w row (classesOn sh w
 abbrev μ : tie.MeasureT-loop
 μ w sh floats row goes₀ r n base e₀ goes e = n - e
 
--- the cell to write, and what is written
-lies : (c : tie.Else1 Inv μ) → let l = c .before .before .before .before in firstAt (l .before .before .before .before .before .before .args .sh) (l .before .before .before .before .before .before .args .r) + l .loop .e < length (l .loop .goes)
-lies c =
-    let t = c .before .before .before in
-    let l = t .before in
-    omega (arith, cell-in (l .loop .inv) (l .before .before .before .before .before .before .pre .0 .0 .held) (t .loop-test .taken))
+-- the turn, and where the function starts
+abbrev turn : (c : tie.After-known-told Inv μ) → tie.In-loop Inv μ
+turn c = c .before .before .before .before .before
 
-small : (c : tie.Else1 Inv μ) → c .before .image-of .result < 2048
+abbrev start : (c : tie.In-loop Inv μ) → tie.Start Inv μ
+start c = c .before .before .before .before .before .before .before
+
+-- the cell to write, and what is written
+lies : (c : tie.After-known-told Inv μ) → firstAt (start (turn c) .args .sh) (start (turn c) .args .r) + turn c .before .loop .e < length (turn c .before .loop .goes)
+lies c =
+    let t = turn c in
+    omega (arith, cell-in (t .before .loop .inv) (start t .pre .0 .0 .held) (t .loop-test .taken))
+
+carried : (c : tie.After-known-told Inv μ) →
+    (let a = start (turn c) .args in
+    Landed (solidIn (a .sh) (a .w .now)) (classesOn (a .sh) (a .w .now) (a .floats .now)) (a .row .now) (a .r) (turn c .before .loop .e) (At (c .before .x .given .0 .0)))
+carried c = rw (c .before .x .given .1) at (c .before .before .before .image-of .ensures)
+
+small : (c : tie.After-known-told Inv μ) → c .before .x .given .0 .0 < 2048
 small c =
-    let l = c .before .before .before .before in
-    let s = l .before .before .before .before .before .before in
-    omega (arith, c .if1 .left, l .loop .inv .rank .many, s .pre .0 .0 .held .few (s .args .r) (omega (arith, l .loop .inv .rank .high)))
+    let t = turn c in
+    let l = t .before in
+    let s = start t in
+    omega (arith, turn-in (l .loop .inv) (s .pre .0 .0 .held) (carried c .1), s .pre .0 .0 .held .few (s .args .r) (omega (arith, l .loop .inv .rank .high)))
 
 pub carry-rank-spec : {M : Type 1} → statement M
 carry-rank-spec =
     tie.close
     (tie.spec Inv μ
     -- base
-    (λ c. let s = c .before .before .before .before .before in omega (arith, s .pre .1 .high, s .pre .0 .0 .held .tall))
-    (λ c. let s = c .before .before .before .before .before in omega (arith, s .pre .1 .high, s .pre .0 .0 .held .tall))
-    -- loop-holds, image-of-requires, same-length, returns
-    (λ c. let s = c .before .before .before .before .before in let a = s .args in first-turn (a .sh) (a .w .now) (a .row .now) (classesOn (a .sh) (a .w .now) (a .floats .now)) (a .goes .now) (a .r) (a .n) (s .pre .1))
-    (λ c κs. let l = c .before .before in let s = l .before .before .before .before .before .before in (s .pre .0, (l .loop .inv .rank, c .before .loop-test .taken)))
-    (λ c. c .before .before .before .before .loop .inv .long)
-    (λ c. let t = c .before .before .before in
+    (λ c. let s = c .before .before .before .before .before in omega (arith, s .pre .1 .0 .high, s .pre .0 .0 .held .tall))
+    (λ c. let s = c .before .before .before .before .before in omega (arith, s .pre .1 .0 .high, s .pre .0 .0 .held .tall))
+    -- loop-holds, image-of-requires, enum-known-x, enum-told, same-length, returns
+    (λ c. let s = c .before .before .before .before .before in let a = s .args in first-turn (a .sh) (a .w .now) (a .row .now) (classesOn (a .sh) (a .w .now) (a .floats .now)) (a .goes .now) (a .r) (a .n) (s .pre .1 .0) (s .pre .1 .1))
+    (λ c κs. let l = c .before .before in let s = l .before .before .before .before .before .before in (s .pre .0, (l .loop .inv .rank, omega (arith, c .before .loop-test .taken, l .loop .inv .many))))
+    (λ c. search needs)
+    (λ c. search needs)
+    (λ c. c .before .before .before .before .before .loop .inv .long)
+    (λ c. let i = c .before .before in
+    let t = i .before .before in
     let l = t .before in
-    let s = l .before .before .before .before .before .before in
-    (turn-stop (l .loop .inv) (s .pre .0 .0 .held) (t .loop-test .taken) _ (c .before .image-of .ensures) (c .if1 .taken), (λ z. absurd (false≢true z))))
+    (turn-stop (l .loop .inv) (start t .pre .0 .0 .held) (t .loop-test .taken) (rw (c .enum-told .given .1) at (i .image-of .ensures)), (λ z. absurd (false≢true z))))
     -- cast-goes, add-goes, mul-goes, slice-write-goes, add-e
     (λ c. omega (arith, small c))
     (λ c. omega (arith, lies c))
@@ -53,10 +69,7 @@ carry-rank-spec =
     (λ c. search needs)
     -- loop-less, loop-again, same-length-2, returns-2
     (λ c. search needs)
-    (λ c. let t = c .before .before .before in
-    let l = t .before in
-    let s = l .before .before .before .before .before .before in
-    turn-next (l .loop .inv) (s .pre .0 .0 .held) (t .loop-test .taken) _ (c .before .image-of .ensures) (c .if1 .left))
+    (λ c. let t = turn c in turn-next (t .before .loop .inv) (start t .pre .0 .0 .held) (t .loop-test .taken) _ (carried c))
     (λ c. c .before .loop .inv .long)
     (λ c. let l = c .before in
     let s = l .before .before .before .before .before .before in

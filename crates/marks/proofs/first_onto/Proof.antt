@@ -2,11 +2,12 @@
 -- Assumes nothing.
 use borrow.Author.Needs.{needs}
 use native.Mathlib.Omega.{arith}
-use mathlib.Core.Path.{_≡_, refl, sym, _∙_}
+use mathlib.Core.Path.{_≡_, refl, sym, ap, _∙_}
 use mathlib.Core.Bool.{Bool}
 use mathlib.Core.List.{List}
 use Prim.Native.Nat.{ℕ, _+_, _*_, _≤_, _-_}
 use lib.ListN.{length, getD}
+use Rattle.float.specs.declared.points.Found.the-variants.{At}
 use Rattle.ranked.specs.Words.{listAt}
 use Rattle.ranked.specs.Reading.{Lies}
 use Rattle.ranked.proofs.Turns.{entry-in}
@@ -19,10 +20,10 @@ abbrev p : List ℕ → List ℕ → ℕ → ℕ → ℕ → ℕ → Bool
 p w goes base i up g = onto (λ f. getD goes (base + f) 0) (listAt w i) (listAt w (up + 4 * g))
 
 abbrev Inv : tie.InvT-loop
-Inv w goes base i j up none n k₀ k = (k ≤ n) × (n ≡ length (listAt w j)) × First (p w goes base i up) none (listAt w j) k
+Inv w goes base i j up n k₀ k = (k ≤ n) × (n ≡ length (listAt w j)) × First (p w goes base i up) (listAt w j) k
 
 abbrev μ : tie.MeasureT-loop
-μ w goes base i j up none n k₀ k = n - k
+μ w goes base i j up n k₀ k = n - k
 
 -- the entry's list lies within the words
 lies : (c : tie.After-entry-at Inv μ) → let a = c .before .before .before .before .before .before .args in Lies (a .w .now) (a .up + 4 * c .entry-at .result)
@@ -47,7 +48,7 @@ first-onto-spec =
     (λ c. let e = c .before .before in
     let l = e .before .before in
     let a = l .before .before .before .before .args in
-    e .entry-at .ensures ∙ first-yes (p (a .w .now) (a .goes .now) (a .base) (a .i) (a .up)) (a .none) _ (l .loop .k) (omega (arith, e .before .loop-test .taken, l .loop .inv .1)) (l .loop .inv .2)
+    ap (λ (g : ℕ). At g) (e .entry-at .ensures) ∙ first-yes (p (a .w .now) (a .goes .now) (a .base) (a .i) (a .up)) _ (l .loop .k) (omega (arith, e .before .loop-test .taken, l .loop .inv .1)) (l .loop .inv .2)
     (rw (e .entry-at .ensures) at (sym (c .before .is-onto .ensures) ∙ c .if1 .taken)))
     (λ c. search needs)
     (λ c. search needs)
@@ -56,8 +57,8 @@ first-onto-spec =
     let a = l .before .before .before .before .args in (
       search needs,
       l .loop .inv .1,
-      first-no (p (a .w .now) (a .goes .now) (a .base) (a .i) (a .up)) (a .none) _ (l .loop .k) (omega (arith, e .before .loop-test .taken, l .loop .inv .1)) (l .loop .inv .2)
+      first-no (p (a .w .now) (a .goes .now) (a .base) (a .i) (a .up)) _ (l .loop .k) (omega (arith, e .before .loop-test .taken, l .loop .inv .1)) (l .loop .inv .2)
           (rw (e .entry-at .ensures) at (sym (c .before .is-onto .ensures) ∙ c .if1 .left)),
     ))
     (λ c. let l = c .before in
-    first-end _ _ _ (l .loop .k) (omega (arith, c .loop-test .left, l .loop .inv .1)) (l .loop .inv .2)))
+    first-end _ _ (l .loop .k) (omega (arith, c .loop-test .left, l .loop .inv .1)) (l .loop .inv .2)))

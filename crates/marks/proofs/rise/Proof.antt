@@ -27,8 +27,8 @@ lies c =
     let s = c .before .before .before .before .before in
     let a = s .args in
     let p = s .pre .1 .0 in
-    sub-cell (a .sh) (a .w .now) (s .pre .0) (a .goes .now) (a .r) (a .e) (p .0) (p .1) (p .3) (s .pre .1 .1) (c .entry-at .result)
-    (entry-in (listAt (a .w .now) (subsWord (firstAt (a .sh) (suc (a .r))) (a .e))) 0 _ (some-sub (a .sh) (a .w .now) (s .pre .0) (a .goes .now) (a .r) (a .e) (p .0) (p .1) (p .3) (s .pre .1 .1)) (first c))
+    sub-cell (a .sh) (a .w .now) (s .pre .0) (a .goes .now) (a .r) (a .e) (p .0) (p .1) (p .2) (s .pre .1 .1) (c .entry-at .result)
+    (entry-in (listAt (a .w .now) (subsWord (firstAt (a .sh) (suc (a .r))) (a .e))) 0 _ (some-sub (a .sh) (a .w .now) (s .pre .0) (a .goes .now) (a .r) (a .e) (p .0) (p .1) (p .2) (s .pre .1 .1)) (first c))
 
 pub rise-spec : {M : Type 1} → statement M
 rise-spec =
@@ -47,14 +47,14 @@ rise-spec =
     (λ c κs. let s = c .before .before .before .before in
     let a = s .args in
     rw (c .subs-at .ensures, word s)
-    (subs-lie (a .sh) (a .w .now) (s .pre .0) (suc (a .r)) (a .e) (s .pre .1 .0 .0) (s .pre .1 .0 .1), some-sub (a .sh) (a .w .now) (s .pre .0) (a .goes .now) (a .r) (a .e) (s .pre .1 .0 .0) (s .pre .1 .0 .1) (s .pre .1 .0 .3) (s .pre .1 .1)))
+    (subs-lie (a .sh) (a .w .now) (s .pre .0) (suc (a .r)) (a .e) (s .pre .1 .0 .0) (s .pre .1 .0 .1), some-sub (a .sh) (a .w .now) (s .pre .0) (a .goes .now) (a .r) (a .e) (s .pre .1 .0 .0) (s .pre .1 .0 .1) (s .pre .1 .0 .2) (s .pre .1 .1)))
     -- add-cell, cell-requires, sups-at-requires
     (λ c. omega (arith, lies c))
     (λ c κs. lies c)
     (λ c κs. let s = c .before .before .before .before .before .before in
     let a = s .args in
     let p = s .pre .1 .0 in
-    omega (arith, over-lie (a .sh) (a .w .now) (s .pre .0) (a .goes .now) (a .r) (a .e) (p .0) (p .1) (p .3) (s .pre .1 .1) _ _ (first (c .before)) (c .cell .ensures) .head))
+    omega (arith, over-lie (a .sh) (a .w .now) (s .pre .0) (a .goes .now) (a .r) (a .e) (p .0) (p .1) (p .2) (s .pre .1 .1) _ _ (first (c .before)) (c .cell .ensures) .head))
     -- mul-first-onto, first-onto-requires, returns
     (λ c. search needs)
     (λ c κs. let y = c .before in
@@ -65,15 +65,15 @@ rise-spec =
     rw (f .before .subs-at .ensures, word s, c .sups-at .ensures, add-one (a .r)) (
       (
         subs-lie (a .sh) (a .w .now) (s .pre .0) (suc (a .r)) (a .e) (p .0) (p .1),
-        over-lie (a .sh) (a .w .now) (s .pre .0) (a .goes .now) (a .r) (a .e) (p .0) (p .1) (p .3) (s .pre .1 .1) _ _ (first f) (y .cell .ensures),
-        each-lie (a .sh) (a .w .now) (s .pre .0) (a .goes .now) (a .r) (a .e) (p .0) (p .1) (p .3) (s .pre .1 .1) _ _ (first f) (y .cell .ensures),
+        over-lie (a .sh) (a .w .now) (s .pre .0) (a .goes .now) (a .r) (a .e) (p .0) (p .1) (p .2) (s .pre .1 .1) _ _ (first f) (y .cell .ensures),
+        each-lie (a .sh) (a .w .now) (s .pre .0) (a .goes .now) (a .r) (a .e) (p .0) (p .1) (p .2) (s .pre .1 .1) _ _ (first f) (y .cell .ensures),
       ),
-      sub-cell (a .sh) (a .w .now) (s .pre .0) (a .goes .now) (a .r) (a .e) (p .0) (p .1) (p .3) (s .pre .1 .1),
+      sub-cell (a .sh) (a .w .now) (s .pre .0) (a .goes .now) (a .r) (a .e) (p .0) (p .1) (p .2) (s .pre .1 .1),
     ))
     (λ c. let y = c .before .before in
     let f = y .before in
     let s = f .before .before .before .before .before in
     let a = s .args in
     let p = s .pre .1 .0 in
-    rises (a .sh) (a .w .now) (s .pre .0) (a .goes .now) (a .r) (a .e) (p .0) (p .1) (p .3) (s .pre .1 .1) _ _ (first f) (y .cell .ensures) _
-    (rw (f .before .subs-at .ensures, word s, c .before .sups-at .ensures, add-one (a .r), p .2) at (c .first-onto .ensures))))
+    rises (a .sh) (a .w .now) (s .pre .0) (a .goes .now) (a .r) (a .e) (p .0) (p .1) (p .2) (s .pre .1 .1) _ _ (first f) (y .cell .ensures) _
+    (rw (f .before .subs-at .ensures, word s, c .before .sups-at .ensures, add-one (a .r)) at (c .first-onto .ensures))))
