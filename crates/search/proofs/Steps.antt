@@ -39,6 +39,9 @@ use Rattle.ranked.proofs.Solids.{size-is}
 use Rattle.ranked.proofs.Benches.{bench-kept}
 use Rattle.distances.specs.Solids.{solidOn}
 use Rattle.element_types.specs.State.{stateIn}
+use Rattle.settling.specs.declared.settled.Ending.{Ending}
+use Rattle.settling.specs.declared.settled.Ending.the-variants.{Settled, Changing}
+use Rattle.settling.specs.Settle.{endOf}
 use Rattle.settling.specs.Typed.{Typed}
 use Rattle.exchange.proofs.Exchanged.{bench-exchanged, solid-exchanged}
 use Rattle.symmetry.specs.declared.listing.Listing.{Listing}
@@ -143,18 +146,18 @@ module _ (sh : Shape) (low : ℕ) (ws : List ℕ) (fs : List Float) (rot : Bool)
 
 -- ---- 15, of the solid as searched
 
-module _ (sh : Shape) (low : ℕ) (ws vs : List ℕ) (fs gs : List Float) (rot : Bool) (old : SearchOut) (b : Bool) (t : Typed sh low ws vs fs gs b) where
+module _ (sh : Shape) (low : ℕ) (ws vs : List ℕ) (fs gs : List Float) (rot : Bool) (old : SearchOut) (b : Ending) (t : Typed sh low ws vs fs gs b) where
   abbrev solid : Concrete
   solid = solidAt sh low ws fs
 
-  pub unsettled : b ≡ false → (c : Concrete) → (Refused Unsettled 0, old) ≡ ends rot c (from15 c solid) old
-  unfolding from15
+  pub unsettled : b ≡ Changing → (c : Concrete) → (Refused Unsettled 0, old) ≡ ends rot c (from15 c solid) old
+  unfolding from15 endOf
   unsettled e c = stops rot c old Unsettled (from15 c solid) (wanted-no Unsettled (typesOf solid) (λ z. from11 c solid z) (rw e at (t .result)))
 
-  pub settled : b ≡ true → (f : ℕ) (x : Answer × SearchOut)
+  pub settled : b ≡ Settled → (f : ℕ) (x : Answer × SearchOut)
       → x ≡ ends rot (exchanged (solidAt sh low vs gs) f) (from11 (exchanged (solidAt sh low vs gs) f) (solidAt sh low vs gs) (stateIn sh low vs)) old
       → x ≡ ends rot (exchanged solid f) (from15 (exchanged solid f) solid) old
-  unfolding from15
+  unfolding from15 endOf
   settled e f x p =
       let c = exchanged solid f in
       goes-on rot c old (from15 c solid) (from11 c solid (stateIn sh low vs))

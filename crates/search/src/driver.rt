@@ -11,6 +11,7 @@ use exchange::exchange;
 use float::DIMENSION;
 use ranked::Shape;
 use ranked::preflight::preflight;
+use settling::settled::Ending;
 use settling::types_of;
 use sheet::Verdict;
 use spec::Answer;
@@ -137,7 +138,7 @@ fn from11(
     )
 }
 
-// 15: the words hold the solid with facet f and facet 0 in each other's place.
+// Judgement 15: whether the types settle of the solid that the words hold, in which facet f and facet 0 have changed places.
 fn from15(
     words: &mut [u32],
     low: usize,
@@ -157,10 +158,10 @@ fn from15(
         (from15 (exchanged (solidAt sh low (now (words .entry)) (now (floats .entry))) f) (solidAt sh low (now (words .entry)) (now (floats .entry))))
         (outOf (now (matrices .entry)) (now (rows .entry)) (now (marks .entry))) ⌝ }
 {
-    if types_of(words, low, sh, floats) {
-        return from11(words, low, sh, f, floats, rotations, matrices, rows, marks);
+    match types_of(words, low, sh, floats) {
+        Ending::Settled => from11(words, low, sh, f, floats, rotations, matrices, rows, marks),
+        Ending::Changing => Answer::Refused(Refusal::Unsettled, 0),
     }
-    Answer::Refused(Refusal::Unsettled, 0)
 }
 
 // From the judgement behind refusal 10 on: the first facet that is far from the origin changes places with facet 0.

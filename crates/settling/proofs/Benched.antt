@@ -1,7 +1,6 @@
 -- What preflight leaves is room for the start and the sweeps; and the three parts together.
 -- Assumes nothing.
 use mathlib.Core.Path.{_≡_, refl, sym, _∙_, ap}
-use mathlib.Core.Bool.{Bool}
 use mathlib.Core.List.{List}
 use Prim.Native.Nat.{ℕ, zero, suc, _+_, _-_, _*_, _≤_, _<_}
 use native.Mathlib.Nat.{mul-le-mul-left}
@@ -24,6 +23,7 @@ use Rattle.element_types.specs.State.{stateIn, needed, Sweepable}
 use Rattle.element_types.proofs.Room.{elements-few, sweepable}
 use Rattle.element_types.proofs.Sweeps.{sweepable-kept}
 use Rattle.settling.specs.Start.{Startable, Begins}
+use Rattle.settling.specs.declared.settled.Ending.{Ending}
 use Rattle.settling.specs.Settle.{Settles}
 use Rattle.settling.specs.Typed.{AtStart, Typed}
 
@@ -119,10 +119,10 @@ module _ (sh : Shape) (low : ℕ) (w : List ℕ) (fs : List Float) (b : Bench sh
       }
 
 -- the sweeps, from the start
-pub typed : (sh : Shape) (low : ℕ) (w v u : List ℕ) (fs gs : List Float) (settled : Bool) → AtStart sh low w v fs gs → length u ≡ length v → Settles sh low v u settled
-    → Typed sh low w u fs gs settled
+pub typed : (sh : Shape) (low : ℕ) (w v u : List ℕ) (fs gs : List Float) (ending : Ending) → AtStart sh low w v fs gs → length u ≡ length v → Settles sh low v u ending
+    → Typed sh low w u fs gs ending
 unfolding typesOf
-typed sh low w v u fs gs settled b k s = record {
+typed sh low w v u fs gs ending b k s = record {
   lists = s .lists ∙ b .lists;
   points = b .points;
   lengths = (k ∙ b .lengths .0, b .lengths .1);

@@ -2,7 +2,6 @@
 -- Assumes nothing.
 use mathlib.Core.Path.{_≡_, refl, sym, _∙_, ap}
 use mathlib.Core.Logic.{_≢_}
-use mathlib.Core.Bool.{Bool, true, false}
 use mathlib.Core.Option.{none, some}
 use mathlib.Core.List.{List}
 use Prim.Native.Nat.{ℕ, suc, _+_, _-_, _≤_, _<_}
@@ -19,7 +18,8 @@ use Rattle.distances.specs.Solids.{proper}
 use Rattle.distances.proofs.Room.{proper-is}
 use Rattle.element_types.specs.State.{stateIn, Sweepable, Countable}
 use Rattle.element_types.proofs.Sweeps.{sweepable-kept}
-use Rattle.settling.specs.Settle.{Started, Settles}
+use Rattle.settling.specs.declared.settled.Ending.{Ending}
+use Rattle.settling.specs.Settle.{Started, Settles, endOf}
 
 -- ---- the definition
 
@@ -126,14 +126,14 @@ module _ (sh : Shape) (low : ℕ) (z : List ℕ) (a : Started sh low z) (w : Lis
   }
 
   -- and those after it
-  pub ended : (E : ℕ) → E ≡ proper sh → (v : List ℕ) (settled : Bool) → take low v ≡ take low w → Countable sh low v
-      → settle (solidIn sh (take low w)) (E + 1) (stateIn sh low w) ≡ elim settled [ true ↦ some (stateIn sh low v) | false ↦ none ] → Settles sh low z v settled
+  pub ended : (E : ℕ) → E ≡ proper sh → (v : List ℕ) (ending : Ending) → take low v ≡ take low w → Countable sh low v
+      → settle (solidIn sh (take low w)) (E + 1) (stateIn sh low w) ≡ endOf ending (stateIn sh low v) → Settles sh low z v ending
   unfolding result
-  ended E p v settled k c e =
+  ended E p v ending k c e =
       let q : E ≡ elements (solidIn sh (take low z)) = p ∙ proper-is sh (take low z) (a .sweepable .held) in
       record {
         lists = k ∙ lists;
         numbered = c;
-        ends = λ cls b. let f : settle (solidIn sh (take low z)) (elements (solidIn sh (take low z)) + 1) (sweep (solidIn sh (take low z)) (stateIn sh low z)) ≡ elim settled [ true ↦ some (stateIn sh low v) | false ↦ none ] = rw (lists, state, q) at e in
+        ends = λ cls b. let f : settle (solidIn sh (take low z)) (elements (solidIn sh (take low z)) + 1) (sweep (solidIn sh (take low z)) (stateIn sh low z)) ≡ endOf ending (stateIn sh low v) = rw (lists, state, q) at e in
             rw b at f;
       }

@@ -1,8 +1,6 @@
 -- What the start state and the types of a solid that lies in lent words and floats are.
 -- Assumes nothing.
 use mathlib.Core.Path.{_≡_}
-use mathlib.Core.Bool.{Bool, true, false}
-use mathlib.Core.Option.{none, some}
 use mathlib.Core.List.{List}
 use Prim.Native.Nat.{ℕ, _+_}
 use lib.ListN.{length, take, drop}
@@ -15,7 +13,8 @@ use Rattle.ranked.specs.Words.{solidIn}
 use Rattle.ranked.specs.Bench.{solidAt}
 use Rattle.distances.specs.Solids.{coordinates, proper}
 use Rattle.element_types.specs.State.{stateIn, Countable}
-use Rattle.settling.specs.Settle.{Started}
+use Rattle.settling.specs.declared.settled.Ending.{Ending}
+use Rattle.settling.specs.Settle.{Started, endOf}
 
 -- the start state of the solid that lies in words w and floats fs, made in the words v and floats gs
 pub record AtStart (sh : Shape) (low : ℕ) (w v : List ℕ) (fs gs : List Float) : Type 0 where
@@ -29,12 +28,12 @@ pub record AtStart (sh : Shape) (low : ℕ) (w v : List ℕ) (fs gs : List Float
   pub started : Started sh low v
 
 -- the types of the solid that lies in words w and floats fs, worked out into the words v and floats gs
-pub record Typed (sh : Shape) (low : ℕ) (w v : List ℕ) (fs gs : List Float) (settled : Bool) : Type 0 where
+pub record Typed (sh : Shape) (low : ℕ) (w v : List ℕ) (fs gs : List Float) (ending : Ending) : Type 0 where
   pub lists : take low v ≡ take low w
   pub points : take (coordinates sh (take low w)) gs ≡ take (coordinates sh (take low w)) fs
   pub lengths : (length v ≡ length w) × (length gs ≡ length fs)
   -- every proper element's class, where all_classes leaves them
   pub cells : take (proper sh) (drop (coordinates sh (take low w) + proper sh) gs) ≡ classes (distances (solidAt sh low w fs))
   -- the state when the sweeps end, or refusal 15
-  pub result : typesOf (solidAt sh low w fs) ≡ elim settled [ true ↦ some (stateIn sh low v) | false ↦ none ]
+  pub result : typesOf (solidAt sh low w fs) ≡ endOf ending (stateIn sh low v)
   pub numbered : Countable sh low v

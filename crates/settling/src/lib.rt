@@ -14,10 +14,11 @@ pub mod numbering;
 pub mod settled;
 pub mod starting;
 
+use crate::settled::Ending;
 use crate::settled::settle;
 use crate::starting::start;
 
-// Where the classes stand: behind the coordinates, and room for one listed value an element.
+// Where the classes stand: behind the coordinates and the room for one listed value for each proper element.
 fn class_cells(sh: Shape) -> usize
     requires { ⌜ ((w : List ℕ) × Held sh w) ⌝ }
     ensures { λ n. ⌜ ((w : List ℕ) → Held sh w → n ≡ coordinates sh w + proper sh) ⌝ }
@@ -31,8 +32,8 @@ fn class_cells(sh: Shape) -> usize
     (first[2] - first[1]) * d + (first[rank] - first[1])
 }
 
-// The start state of the solid that lies in the words and floats, by its elements' distance classes. Any list of steps can be played from it, and
-// the sweeps are one.
+// The start state of the solid that lies in the words and floats, by its elements' distance classes. Any list of steps can be played from it; the
+// sweeps are such a list.
 pub fn begin(words: &mut [u32], low: usize, sh: Shape, floats: &mut [f64])
     requires { ⌜ Bench sh low (now words) (now floats) ⌝ }
     ensures { λ _. ⌜ AtStart sh low (now (words .entry)) (now (words .exit)) (now (floats .entry)) (now (floats .exit)) ⌝ }
@@ -42,8 +43,8 @@ pub fn begin(words: &mut [u32], low: usize, sh: Shape, floats: &mut [f64])
     start(words, low, sh, &floats[cell..]);
 }
 
-// The types of the solid that lies in the words and floats: section 4's start, and the sweeps. False is refusal 15.
-pub fn types_of(words: &mut [u32], low: usize, sh: Shape, floats: &mut [f64]) -> bool
+// The types of the solid that lies in the words and floats: section 4's start, and then the sweeps.
+pub fn types_of(words: &mut [u32], low: usize, sh: Shape, floats: &mut [f64]) -> Ending
     requires { ⌜ Bench sh low (now words) (now floats) ⌝ }
     ensures { λ r. ⌜ Typed sh low (now (words .entry)) (now (words .exit)) (now (floats .entry)) (now (floats .exit)) r ⌝ }
 {

@@ -1,4 +1,4 @@
-// "elements of a proper rank share a type exactly when they share a distance class": the elements of a rank numbered by their classes.
+// "Elements of a proper rank share a type exactly when they share a distance class": the elements of a rank are numbered by their classes.
 use geometry::classes::same_class;
 use ranked::lists::get;
 ghost use mathlib.Core.Path.{_≡_};
@@ -8,7 +8,8 @@ ghost use Rattle.spec.specs.Lists.{place};
 ghost use Rattle.geometry.specs.Classes.{sameClass};
 ghost use Rattle.settling.specs.Start.{repCells, Fitting, ByClass};
 
-// Which of m elements, whose numbers the words from `reps` hold, is the first that has the class x? m if none has. Element g's class is cell from + g.
+// The place of the first element with the class x among the m elements whose numbers the words from `reps` hold; m where none has it. Element g's
+// class is cell from + g.
 fn find_class(words: &[u32], reps: usize, m: usize, cells: &[f64], from: usize, x: f64) -> usize
     requires { ⌜ reps + m ≤ length (now words) ⌝ }
     requires { ⌜ ((j : ℕ) → j < m → from + getD (now words) (reps + j) 0 < length (now cells)) ⌝ }

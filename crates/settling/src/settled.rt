@@ -9,7 +9,13 @@ ghost use Rattle.ranked.specs.Words.{Held};
 ghost use Rattle.distances.specs.Solids.{proper};
 ghost use Rattle.settling.specs.Settle.{Started, Settles};
 
-// "E counts proper elements".
+// How the sweeps ended: one of them left the number of types unchanged, or all that are allowed were done and the types were still changing.
+pub enum Ending {
+    Settled,
+    Changing,
+}
+
+// "E counts proper elements."
 fn proper_count(sh: Shape) -> usize
     requires { ⌜ ((w : List ℕ) × Held sh w) ⌝ }
     ensures { λ n. ⌜ n ≡ proper sh ⌝ }
@@ -22,8 +28,9 @@ fn proper_count(sh: Shape) -> usize
     first[rank] - first[1]
 }
 
-// Sweeps from the start until the number of types stays: true. False is refusal 15, "E + 2 sweeps done, still changing".
-pub fn settle(words: &mut [u32], low: usize, sh: Shape) -> bool
+// Sweeps from the start until one leaves the number of types unchanged. That they are still changing is refusal 15, "E + 2 sweeps done, still
+// changing".
+pub fn settle(words: &mut [u32], low: usize, sh: Shape) -> Ending
     requires { ⌜ Started sh low (now words) ⌝ }
     ensures { λ r. ⌜ Settles sh low (now (words .entry)) (now (words .exit)) r ⌝ }
 {
@@ -34,10 +41,10 @@ pub fn settle(words: &mut [u32], low: usize, sh: Shape) -> bool
         sweep(words, low, sh);
         let next = type_count(words, low, sh);
         if next == count {
-            return true;
+            return Ending::Settled;
         }
         count = next;
         left -= 1;
     }
-    false
+    Ending::Changing
 }

@@ -1,7 +1,6 @@
 -- The call, from what preflight and the sweeps leave in the workspace.
 -- Assumes nothing.
 use mathlib.Core.Path.{_≡_, refl, sym, ap, _∙_}
-use mathlib.Core.Bool.{true, false}
 use mathlib.Core.List.{List}
 use Prim.Native.Nat.{ℕ}
 use native.Mathlib.Omega.{arith}
@@ -21,6 +20,8 @@ use Rattle.ranked.specs.Words.{solidIn}
 use Rattle.ranked.specs.Bench.{solidAt, Bench}
 use Rattle.ranked.specs.Preflight.{verdictOf, Preflighted}
 use Rattle.element_types.specs.State.{stateIn}
+use Rattle.settling.specs.declared.settled.Ending.the-variants.{Settled, Changing}
+use Rattle.settling.specs.Settle.{endOf}
 use Rattle.settling.specs.Typed.{Typed}
 use Rattle.types.specs.Call.{handedOut, answered}
 use Rattle.types.proofs.Call.{call-refused, call-passed, unsettled, settled}
@@ -28,10 +29,12 @@ use Rattle.types.proofs.Call.{call-refused, call-passed, unsettled, set
 -- ---- 15, 13
 
 module _ (sh : Shape) (low : ℕ) (w v : List ℕ) (fs gs : List Float) (old : TypesOut) where
-  pub unsettled-given : Typed sh low w v fs gs false → (Refused Unsettled 0, old) ≡ answered (solidAt sh low w fs) old
+  pub unsettled-given : Typed sh low w v fs gs Changing → (Refused Unsettled 0, old) ≡ answered (solidAt sh low w fs) old
+  unfolding endOf
   unsettled-given t = sym (unsettled (solidAt sh low w fs) old (t .result))
 
-  pub settled-given : Typed sh low w v fs gs true → (x : Answer × TypesOut) → x ≡ handedOut (solidIn sh (take low v)) (stateIn sh low v) old → x ≡ answered (solidAt sh low w fs) old
+  pub settled-given : Typed sh low w v fs gs Settled → (x : Answer × TypesOut) → x ≡ handedOut (solidIn sh (take low v)) (stateIn sh low v) old → x ≡ answered (solidAt sh low w fs) old
+  unfolding endOf
   settled-given t x e =
       e ∙ ap (λ (l : List ℕ). handedOut (solidIn sh l) (stateIn sh low v) old) (t .lists) ∙ sym (settled (solidAt sh low w fs) old (stateIn sh low v) (t .result))
 

@@ -1,6 +1,7 @@
 // The types call (conc/element_types.rs): a sheet's elements by their types, and the table of the types.
 use ranked::Shape;
 use ranked::preflight::preflight;
+use settling::settled::Ending;
 use settling::types_of;
 use sheet::Verdict;
 use spec::Answer;
@@ -32,10 +33,10 @@ fn types_given(
     ensures { λ r. ⌜ (r, record { elements = now (of .exit); types = now (table .exit) })
         ≡ answered (solidAt sh low (now (words .entry)) (now (floats .entry))) (record { elements = now (of .entry); types = now (table .entry) }) ⌝ }
 {
-    if types_of(words, low, sh, floats) {
-        return give_out(words, low, sh, of, table);
+    match types_of(words, low, sh, floats) {
+        Ending::Settled => give_out(words, low, sh, of, table),
+        Ending::Changing => Answer::Refused(Refusal::Unsettled, 0),
     }
-    Answer::Refused(Refusal::Unsettled, 0)
 }
 
 // The call takes a sheet of any bytes and any length, a workspace of any size, and outputs of any length: one cell for each proper element, and

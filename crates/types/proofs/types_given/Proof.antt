@@ -14,9 +14,11 @@ pub types-given-spec : {M : Type 1} → statement M
 types-given-spec =
     tie.close
     (tie.spec
-    -- types-of-requires, give-out-requires
+    -- types-of-requires, enum-told, give-out-requires, enum-told-2
     (λ c κs. search needs)
+    (λ c. search needs)
     (λ c κs. search needs)
+    (λ c. search needs)
     -- same-length, for each slice
     (λ c. search needs)
     (λ c. search needs)
@@ -25,13 +27,13 @@ types-given-spec =
     -- returns
     (λ c. let g = c .before .before .before .before in
     let i = g .before .before .before .before in
-    let t = i .before .before .before .before .before in
+    let t = i .before .before .before .before .before .before in
     let s = t .before .before .before .before .before .before .before in
-    settled-given _ _ _ _ _ _ (old s) (rw (i .if1 .taken) at (t .types-of .ensures)) _ (g .give-out .ensures))
+    settled-given _ _ _ _ _ _ (old s) (rw (i .enum-told .given .1) at (t .types-of .ensures)) _ (g .give-out .ensures))
     -- same-length, for the workspace
     (λ c. search needs)
     (λ c. search needs)
     -- returns-2
-    (λ c. let t = c .before .before .before .before .before in
+    (λ c. let t = c .before .before .before .before .before .before in
     let s = t .before .before .before .before .before .before .before in
-    unsettled-given _ _ _ _ _ _ (old s) (rw (c .if1 .left) at (t .types-of .ensures))))
+    unsettled-given _ _ _ _ _ _ (old s) (rw (c .enum-told2 .given .1) at (t .types-of .ensures))))

@@ -14,10 +14,11 @@ unfolding entry
 from15-spec =
     tie.close
     (tie.spec
-    -- types-of-requires, from11-requires
+    -- types-of-requires, enum-told, from11-requires
     (λ c κs. c .before .before .before .before .before .before .before .pre .0)
+    (λ c. search needs)
     (λ c κs. let i = c .before .before .before .before .before in
-    let t = i .before .before .before .before .before in
+    let t = i .before .before .before .before .before .before in
     let s = entry t in
     let a = s .args in (
       typed-bench (a .sh) (a .low) _ _ _ _ (a .rotations) (outOf (a .matrices .now) (a .rows .now) (a .marks .now)) _ (t .types-of .ensures) (s .pre .0),
@@ -29,7 +30,8 @@ from15-spec =
         ),
       ),
     ))
-    -- same-length to same-length-5
+    -- enum-told-2, same-length to same-length-5
+    (λ c. search needs)
     (λ c. search needs)
     (λ c. search needs)
     (λ c. search needs)
@@ -38,14 +40,14 @@ from15-spec =
     -- returns
     (λ c. let k = c .before .before .before .before .before .before .before .before .before .before in
     let i = k .before .before .before .before .before .before in
-    let t = i .before .before .before .before .before in
+    let t = i .before .before .before .before .before .before in
     let s = entry t in
     let a = s .args in
-    settled (a .sh) (a .low) _ _ _ _ (a .rotations) (outOf (a .matrices .now) (a .rows .now) (a .marks .now)) _ (t .types-of .ensures) (i .if1 .taken) (a .f) _ (k .from11 .ensures))
+    settled (a .sh) (a .low) _ _ _ _ (a .rotations) (outOf (a .matrices .now) (a .rows .now) (a .marks .now)) _ (t .types-of .ensures) (i .enum-told .given .1) (a .f) _ (k .from11 .ensures))
     -- same-length-6, same-length-7, returns-2
     (λ c. search needs)
     (λ c. search needs)
-    (λ c. let t = c .before .before .before .before .before in
+    (λ c. let t = c .before .before .before .before .before .before in
     let s = entry t in
     let a = s .args in
-    unsettled (a .sh) (a .low) _ _ _ _ (a .rotations) (outOf (a .matrices .now) (a .rows .now) (a .marks .now)) _ (t .types-of .ensures) (c .if1 .left) _))
+    unsettled (a .sh) (a .low) _ _ _ _ (a .rotations) (outOf (a .matrices .now) (a .rows .now) (a .marks .now)) _ (t .types-of .ensures) (c .enum-told2 .given .1) _))

@@ -4,6 +4,7 @@ use borrow.Author.Needs.{needs}
 use native.Mathlib.Omega.{arith}
 use mathlib.Core.Path.{_∙_}
 use lib.ListN.{take}
+use Rattle.settling.specs.Settle.{endOf}
 use Rattle.settling.proofs.Ended.{Swept, Settling, settling-first, first-countable, ready, left-countable, none-left, u-lists, next-countable, stays, settling-next, once, ended}
 use Rattle.settling.proofs.settled.settle.Statement.{statement}
 use Rattle.settling.proofs.settled.settle.Tie as tie
@@ -23,7 +24,7 @@ first : (l : tie.At-loop Inv μ) → tie.After-sweep Inv μ
 first l = l .before .before .before .before .before .before
 
 pub settle-spec : {M : Type 1} → statement M
-unfolding first
+unfolding first endOf
 settle-spec =
     tie.close
     (tie.spec Inv μ
