@@ -1,7 +1,8 @@
 -- The laws that the loops over flags pass on: going down from the top, and looking for the other element.
 -- Assumes nothing.
 use mathlib.Core.Path.{_≡_, refl, sym, _∙_, ap}
-use mathlib.Core.Bool.{Bool, true, false}
+use mathlib.Core.Bool.{Bool, true, false, not}
+use mathlib.Core.Option.{none, some}
 use mathlib.Core.List.{List, [], _∷_, _++_, append-assoc, append-nil}
 use Prim.Native.Nat.{ℕ, zero, suc, _+_, _-_, _*_, _≤_, _<_}
 use native.Mathlib.Numerals.{add-one, sub-one}
@@ -9,6 +10,7 @@ use native.Mathlib.Omega.{arith}
 use native.Mathlib.Decide.{ℕ-discrete}
 use lib.ListN.{length, getD, set, take, drop, length-set, drop-of-length-le}
 use lib.Seq.{drop-cons, drop-set-lt, take-set-lt, getD-take, getD-set-same}
+use lib.Dec.{eqb}
 use borrow.Author.Tests.{eq-eqb, ne-eqb}
 use Rattle.spec.specs.Lists.{keep}
 use Rattle.spec.specs.Types.{subs}
@@ -20,6 +22,7 @@ use Rattle.ranked.specs.Words.{firstAt, sizeAt, solidIn, Held}
 use Rattle.ranked.specs.Reading.{subsWord, holding}
 use Rattle.ranked.proofs.Solids.{top-is, size-is, sub-in}
 use Rattle.ranked.proofs.Judged.{down-is}
+use Rattle.flag.specs.Reading.{firstIn, otherIn}
 
 -- ---- the first flag
 
@@ -86,38 +89,53 @@ module _ (sh : Shape) (w : List ℕ) (h : Held sh w) where
 
 module _ (e : ℕ) (p : ℕ → Bool) where
   -- k entries in, what is left gives what the whole gives
-  abbrev pub Other : List ℕ → ℕ → Type 0
-  Other l k = other e (keep p (drop k l)) ≡ other e (keep p l)
+  abbrev pub OtherFrom : List ℕ → ℕ → Type 0
+  OtherFrom l k = otherIn e (keep p (drop k l)) ≡ otherIn e (keep p l)
 
-  other-skip : (x : ℕ) (l : List ℕ) → p x ≡ false → other e (keep p (x ∷ l)) ≡ other e (keep p l)
+  other-skip : (x : ℕ) (l : List ℕ) → p x ≡ false → otherIn e (keep p (x ∷ l)) ≡ otherIn e (keep p l)
   unfolding keep
   other-skip x l q = rw (q, keep)
 
-  other-same : (x : ℕ) (l : List ℕ) → x ≡ e → other e (keep p (x ∷ l)) ≡ other e (keep p l)
-  unfolding keep other
+  other-same : (x : ℕ) (l : List ℕ) → x ≡ e → otherIn e (keep p (x ∷ l)) ≡ otherIn e (keep p l)
+  unfolding keep otherIn
   other-same x l q = go (p x) refl
     where
-      go : (b : Bool) → p x ≡ b → other e (keep p (x ∷ l)) ≡ other e (keep p l)
+      go : (b : Bool) → p x ≡ b → otherIn e (keep p (x ∷ l)) ≡ otherIn e (keep p l)
       go true z = rw (z, keep, eq-eqb x e q, keep)
       go false z = rw (z, keep)
 
-  other-here : (x : ℕ) (l : List ℕ) → (x ≡ e → ⊥) → p x ≡ true → other e (keep p (x ∷ l)) ≡ x
-  unfolding keep other
+  other-here : (x : ℕ) (l : List ℕ) → (x ≡ e → ⊥) → p x ≡ true → otherIn e (keep p (x ∷ l)) ≡ some x
+  unfolding keep otherIn firstIn
   other-here x l q z = rw (z, keep, ne-eqb x e q, keep)
 
-  module _ (l : List ℕ) (k : ℕ) (more : k < length l) (inv : Other l k) where
-    pub other-kept : getD l k 0 ≡ e → Other l (k + 1)
-    other-kept q = rw add-one (sym (ap (λ (m : List ℕ). other e (keep p m)) (drop-cons l k 0 more) ∙ other-same _ _ q) ∙ inv)
+  module _ (l : List ℕ) (k : ℕ) (more : k < length l) (inv : OtherFrom l k) where
+    pub other-kept : getD l k 0 ≡ e → OtherFrom l (k + 1)
+    other-kept q = rw add-one (sym (ap (λ (m : List ℕ). otherIn e (keep p m)) (drop-cons l k 0 more) ∙ other-same _ _ q) ∙ inv)
 
-    pub other-no : p (getD l k 0) ≡ false → Other l (k + 1)
-    other-no q = rw add-one (sym (ap (λ (m : List ℕ). other e (keep p m)) (drop-cons l k 0 more) ∙ other-skip _ _ q) ∙ inv)
+    pub other-no : p (getD l k 0) ≡ false → OtherFrom l (k + 1)
+    other-no q = rw add-one (sym (ap (λ (m : List ℕ). otherIn e (keep p m)) (drop-cons l k 0 more) ∙ other-skip _ _ q) ∙ inv)
 
-    pub other-yes : (getD l k 0 ≡ e → ⊥) → p (getD l k 0) ≡ true → getD l k 0 ≡ other e (keep p l)
-    other-yes n q = sym (ap (λ (m : List ℕ). other e (keep p m)) (drop-cons l k 0 more) ∙ other-here _ _ n q) ∙ inv
+    pub other-yes : (getD l k 0 ≡ e → ⊥) → p (getD l k 0) ≡ true → some (getD l k 0) ≡ otherIn e (keep p l)
+    other-yes n q = sym (ap (λ (m : List ℕ). otherIn e (keep p m)) (drop-cons l k 0 more) ∙ other-here _ _ n q) ∙ inv
 
-  pub other-end : (l : List ℕ) (k : ℕ) → length l ≤ k → Other l k → e ≡ other e (keep p l)
-  unfolding keep other
+  pub other-end : (l : List ℕ) (k : ℕ) → length l ≤ k → OtherFrom l k → none ≡ otherIn e (keep p l)
+  unfolding keep otherIn firstIn
   other-end l k h inv = rw (drop-of-length-le l h) at inv
+
+-- what the definition gives in the two cases
+module _ (e : ℕ) (l : List ℕ) where
+  first-or : (m : List ℕ) → ((y : ℕ) → some y ≡ firstIn m → y ≡ getD m 0 e) × (none ≡ firstIn m → e ≡ getD m 0 e)
+  unfolding firstIn
+  first-or [] = (λ y q. cc, λ q. refl)
+  first-or (x ∷ m) = (λ y q. cc, λ q. cc)
+
+  pub other-found : (y : ℕ) → some y ≡ otherIn e l → y ≡ other e l
+  unfolding otherIn other
+  other-found y q = first-or (keep (λ x. not (eqb x e)) l) .0 y q
+
+  pub other-missing : none ≡ otherIn e l → e ≡ other e l
+  unfolding otherIn other
+  other-missing q = first-or (keep (λ x. not (eqb x e)) l) .1 q
 
 -- ---- a change
 

@@ -1,17 +1,41 @@
--- How a flag by value is read: one element a rank, from 0 to R.
+-- How the structs and enums of the code are read, and what comes after a flag.
 -- Assumes nothing.
 use mathlib.Core.Path.{_≡_}
-use mathlib.Core.Bool.{Bool, true, false}
-use mathlib.Core.List.{List, [], _++_}
+use mathlib.Core.Bool.{Bool, true, false, not}
+use mathlib.Core.Option.{Option, none, some}
+use mathlib.Core.List.{List, [], _∷_, _++_}
 use Prim.Native.Nat.{ℕ, suc, _-_, _≤_, _<_}
 use lib.ListN.{length, getD, take, drop}
 use lib.Dec.{eqb}
-use Rattle.spec.specs.Lists.{place}
+use Rattle.spec.specs.Lists.{keep, place}
 use Rattle.spec.specs.Types.{Solid, subs}
 use Rattle.spec.specs.Flags as flags
 use Rattle.flag.specs.declared.Flag.{Flag}
+use Rattle.flag.specs.declared.Advance.{Advance}
+use Rattle.flag.specs.declared.Advance.the-variants.{More, Ended}
+use Rattle.flag.specs.declared.Other.{Other}
+use Rattle.flag.specs.declared.Other.the-variants.{Element, Nothing}
 
--- the cells past R are not read
+-- the first of a list, if it has any
+unfoldable pub firstIn : List ℕ → Option ℕ
+firstIn [] = none
+firstIn (x ∷ l) = some x
+
+-- the first of l that is not e, if there is one: where there is none, `other` of crate spec keeps e
+unfoldable pub otherIn : ℕ → List ℕ → Option ℕ
+otherIn e l = firstIn (keep (λ x. not (eqb x e)) l)
+
+-- what a look for another element found
+unfoldable pub otherOf : Other → Option ℕ
+otherOf (Element y) = some y
+otherOf Nothing = none
+
+-- whether there is a flag after one
+unfoldable pub moreOf : Advance → Bool
+moreOf More = true
+moreOf Ended = false
+
+-- the elements of a flag by value, one for each rank from 0 to R: the cells past R are not read
 abbrev pub flagIn : ℕ → Flag → flags.Flag
 flagIn R f = take (suc R) (f .elements)
 

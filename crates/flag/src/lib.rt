@@ -1,4 +1,4 @@
-// Section 5 of document 01: flags of a solid that lies in lent words (abs/flag.rs): the first, the one after a flag, and a change at a rank.
+// Section 5 of document 01 (abs/flag.rs): flags of a solid that lies in lent words. The first flag, the one after a flag, and a change at a rank.
 ghost use mathlib.Core.Path.{_≡_};
 ghost use mathlib.Core.List.{_++_};
 ghost use Prim.Native.Nat.{suc, _+_, _-_, _*_, _≤_, _<_};
@@ -6,15 +6,15 @@ ghost use lib.ListN.{getD, take, drop};
 ghost use lib.Dec.{eqb};
 ghost use Rattle.spec.specs.Lists.{place};
 ghost use Rattle.spec.specs.Types.{subs};
-ghost use Rattle.spec.specs.Flags.{IsFlag, firstTo, firstFlag, other, change};
+ghost use Rattle.spec.specs.Flags.{IsFlag, firstTo, firstFlag, change};
 ghost use Rattle.ranked.specs.Words.{sizeAt, listAt, solidIn, Held};
 ghost use Rattle.ranked.specs.Reading.{Lies, Each, holding, Fork};
-ghost use Rattle.flag.specs.Reading.{flagIn, Follows, Moved};
+ghost use Rattle.flag.specs.Reading.{flagIn, otherIn, otherOf, moreOf, Follows, Moved};
 use ranked::Shape;
 use ranked::lists;
 use spec::MAX_RANK;
 
-// Ranks 0 to the greatest R.
+// How many ranks the largest solid has: 0 to the greatest R.
 pub const RANKS: usize = MAX_RANK + 1;
 
 // "A flag has one element a rank": by rank, from 0 to the solid's R. The cells past R are 0 where a flag is made here, and are not read.
@@ -22,10 +22,23 @@ pub struct Flag {
     pub elements: [usize; RANKS],
 }
 
-// The flag after one, if there is more.
+// Whether there is a flag after one.
+pub enum Advance {
+    More,
+    Ended,
+}
+
+// The answer about the flag after one, and beside it that flag, where there is more. (An enum that held the flag's array would leave every function
+// over it to a proof by hand.)
 pub struct Next {
-    pub more: bool,
+    pub advance: Advance,
     pub flag: Flag,
+}
+
+// What a look for an element other than a given one finds.
+enum Other {
+    Element(usize),
+    Nothing,
 }
 
 // The first sub of element e of rank r.
@@ -37,11 +50,11 @@ fn first_sub(w: &[u32], sh: Shape, r: usize, e: usize) -> usize
     lists::sub(w, sh, r, e, 0)
 }
 
-// The first entry y of the list at word i, but for e, that has x in its list at word base + 4 * y; e where there is none.
-fn other_at(w: &[u32], i: usize, base: usize, x: usize, e: usize) -> usize
+// The first entry y of the list at word i, other than e, that has x in its list at word base + 4 * y.
+fn other_at(w: &[u32], i: usize, base: usize, x: usize, e: usize) -> Other
     requires { ⌜ Lies (now w) i ⌝ }
     requires { ⌜ Each (now w) i base ⌝ }
-    ensures { λ res. ⌜ res ≡ other e (holding (now (w .entry)) i base x) ⌝ }
+    ensures { λ res. ⌜ otherOf res ≡ otherIn e (holding (now (w .entry)) i base x) ⌝ }
 {
     let n = lists::count_at(w, i);
     let mut k: usize = 0;
@@ -50,18 +63,18 @@ fn other_at(w: &[u32], i: usize, base: usize, x: usize, e: usize) -> usize
         k += 1;
         if y != e {
             if lists::holds_at(w, base + 4 * y, x) {
-                return y;
+                return Other::Element(y);
             }
         }
     }
-    e
+    Other::Nothing
 }
 
-// The element but for e between g, whose subs are at word i, and h, whose sups are at word j; e where there is none. The shorter list is
-// gone through: of a ridge's two sups and the top's many subs, the sups.
-fn other_between(w: &[u32], i: usize, j: usize, base: usize, g: usize, h: usize, e: usize) -> usize
+// The first element other than e between g, whose subs are at word i, and h, whose sups are at word j. The shorter list is gone through: of a
+// ridge's two sups and the top's many subs, the sups.
+fn other_between(w: &[u32], i: usize, j: usize, base: usize, g: usize, h: usize, e: usize) -> Other
     requires { ⌜ Fork (now w) i j base g h ⌝ }
-    ensures { λ res. ⌜ res ≡ other e (holding (now (w .entry)) i base h) ⌝ }
+    ensures { λ res. ⌜ otherOf res ≡ otherIn e (holding (now (w .entry)) i base h) ⌝ }
 {
     if lists::count_at(w, i) <= lists::count_at(w, j) {
         other_at(w, i, base, h, e)
@@ -70,11 +83,12 @@ fn other_between(w: &[u32], i: usize, j: usize, base: usize, g: usize, h: usize,
     }
 }
 
-// The elements, with first subs below rank `from`: from the element there down.
+// The elements as they are at rank `from` and above, with first subs below it.
 fn down(w: &[u32], sh: Shape, start: [usize; RANKS], from: usize) -> [usize; RANKS]
     requires { ⌜ Held sh (now w) ⌝ }
     requires { ⌜ (from ≤ sh .rank) × (getD start from 0 < sizeAt sh from) ⌝ }
-    ensures { λ res. ⌜ take (suc (sh .rank)) res ≡ firstTo (solidIn sh (now (w .entry))) from (getD start from 0) ++ take (sh .rank - from) (drop (suc from) start) ⌝ }
+    ensures { λ res. ⌜ take (suc (sh .rank)) res
+        ≡ firstTo (solidIn sh (now (w .entry))) from (getD start from 0) ++ take (sh .rank - from) (drop (suc from) start) ⌝ }
 {
     let mut elements = start;
     let mut e = start[from];
@@ -103,11 +117,11 @@ fn place_at(w: &[u32], i: usize, x: usize) -> usize
     k
 }
 
-// The element at r moved on to the next sub of the one above, with first subs below it; no more if it is the last sub.
+// The element at r moved on to the next sub of the one above, with first subs below it. There is no more where it is the last sub.
 fn moved_at(w: &[u32], sh: Shape, elements: [usize; RANKS], r: usize) -> Next
     requires { ⌜ Held sh (now w) ⌝ }
     requires { ⌜ (r < sh .rank) × (getD elements (suc r) 0 < sizeAt sh (suc r)) ⌝ }
-    ensures { λ res. ⌜ Moved (solidIn sh (now (w .entry))) (sh .rank) elements r (res .more) (res .flag .elements) ⌝ }
+    ensures { λ res. ⌜ Moved (solidIn sh (now (w .entry))) (sh .rank) elements r (moreOf (res .advance)) (res .flag .elements) ⌝ }
 {
     let first = sh.first;
     let i = lists::subs_at(first[r + 1], elements[r + 1]);
@@ -118,12 +132,12 @@ fn moved_at(w: &[u32], sh: Shape, elements: [usize; RANKS], r: usize) -> Next
         moved[r] = lists::entry_at(w, i, k + 1);
         let lower = down(w, sh, moved, r);
         return Next {
-            more: true,
+            advance: Advance::More,
             flag: Flag { elements: lower },
         };
     }
     Next {
-        more: false,
+        advance: Advance::Ended,
         flag: Flag { elements: elements },
     }
 }
@@ -156,8 +170,13 @@ impl Flag {
         let above = lists::subs_at(first[r + 1], g);
         let below = lists::sups_at(first[r - 1], h);
         let base = lists::subs_at(first[r], 0);
-        let e = other_between(w, above, below, base, g, h, elements[r]);
-        elements[r] = e;
+        let e = elements[r];
+        let found = other_between(w, above, below, base, g, h, e);
+        let other = match found {
+            Other::Element(y) => y,
+            Other::Nothing => e,
+        };
+        elements[r] = other;
         Flag { elements: elements }
     }
 
@@ -165,20 +184,24 @@ impl Flag {
     pub fn next(self, w: &[u32], sh: Shape) -> Next
         requires { ⌜ Held sh (now w) ⌝ }
         requires { ⌜ IsFlag (solidIn sh (now w)) (flagIn (sh .rank) self) ⌝ }
-        ensures { λ res. ⌜ Follows (solidIn sh (now (w .entry))) (flagIn (sh .rank) self) (res .more) (flagIn (sh .rank) (res .flag)) ⌝ }
+        ensures { λ res. ⌜ Follows (solidIn sh (now (w .entry))) (flagIn (sh .rank) self) (moreOf (res .advance)) (flagIn (sh .rank) (res .flag)) ⌝ }
     {
         let elements = self.elements;
         let rank = sh.rank;
         let mut r: usize = 0;
         while r < rank {
             let t = moved_at(w, sh, elements, r);
-            if t.more {
-                return t;
+            let advance = t.advance;
+            match advance {
+                Advance::More => {
+                    return t;
+                }
+                Advance::Ended => {}
             }
             r += 1;
         }
         Next {
-            more: false,
+            advance: Advance::Ended,
             flag: Flag { elements: elements },
         }
     }

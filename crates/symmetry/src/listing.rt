@@ -23,6 +23,7 @@ use crate::writing::put_matrix;
 use candidates::candidate;
 use candidates::row_of;
 use candidates::same_types;
+use flag::Advance;
 use flag::Flag;
 use float::DIMENSION;
 use float::matrix;
@@ -208,8 +209,7 @@ pub fn list_members(
     let places = lookup::places(floats, d, v);
     let mut flag = first;
     let mut n: usize = 0;
-    let mut more = true;
-    while more {
+    loop {
         let tried = try_flag(
             words,
             low,
@@ -237,7 +237,12 @@ pub fn list_members(
         }
         let next = flag.next(&words[..low], sh);
         flag = next.flag;
-        more = next.more;
+        let advance = next.advance;
+        match advance {
+            Advance::More => {}
+            Advance::Ended => {
+                return Listing::of(n, false);
+            }
+        }
     }
-    Listing::of(n, false)
 }

@@ -3,11 +3,13 @@
 use borrow.Author.Needs.{needs}
 use native.Mathlib.Omega.{arith}
 use mathlib.Core.Path.{_≡_}
+use Rattle.flag.specs.Reading.{moreOf}
 use Rattle.flag.proofs.Iterate.{word-fits, above-lies, place-fits, moved-in, moved-yes, moved-no}
 use Rattle.flag.proofs.moved_at.Statement.{statement}
 use Rattle.flag.proofs.moved_at.Tie as tie
 
 pub moved-at-spec : {M : Type 1} → statement M
+unfolding moreOf
 moved-at-spec =
     tie.close
     (tie.spec

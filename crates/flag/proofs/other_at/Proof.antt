@@ -2,8 +2,9 @@
 -- Assumes nothing.
 use borrow.Author.Needs.{needs}
 use native.Mathlib.Omega.{arith}
-use mathlib.Core.Path.{_≡_, refl, sym, _∙_}
+use mathlib.Core.Path.{_≡_, refl, sym, ap, _∙_}
 use mathlib.Core.Bool.{Bool}
+use mathlib.Core.Option.{some}
 use mathlib.Core.List.{List}
 use Prim.Native.Nat.{ℕ, _+_, _*_, _≤_, _-_}
 use lib.ListN.{length}
@@ -12,7 +13,8 @@ use Rattle.spec.specs.Lists.{holds}
 use Rattle.ranked.specs.Words.{listAt}
 use Rattle.ranked.specs.Reading.{Lies, holding}
 use Rattle.ranked.proofs.Turns.{entry-in}
-use Rattle.flag.proofs.Flags.{Other, other-kept, other-no, other-yes, other-end}
+use Rattle.flag.specs.Reading.{otherOf}
+use Rattle.flag.proofs.Flags.{OtherFrom, other-kept, other-no, other-yes, other-end}
 use Rattle.flag.proofs.other_at.Statement.{statement}
 use Rattle.flag.proofs.other_at.Tie as tie
 
@@ -20,7 +22,7 @@ abbrev p : List ℕ → ℕ → ℕ → ℕ → Bool
 p w base x y = holds eqb x (listAt w (base + 4 * y))
 
 abbrev Inv : tie.InvT-loop
-Inv w i base x e n k₀ k = (k ≤ n) × (n ≡ length (listAt w i)) × Other e (p w base x) (listAt w i) k
+Inv w i base x e n k₀ k = (k ≤ n) × (n ≡ length (listAt w i)) × OtherFrom e (p w base x) (listAt w i) k
 
 abbrev μ : tie.MeasureT-loop
 μ w i base x e n k₀ k = n - k
@@ -34,7 +36,7 @@ lies c =
     s .pre .1 (c .entry-at .result) (entry-in (listAt (a .w .now) (a .i)) (l .loop .k) _ (omega (arith, c .before .loop-test .taken, l .loop .inv .1)) (c .entry-at .ensures))
 
 pub other-at-spec : {M : Type 1} → statement M
-unfolding holding
+unfolding holding otherOf
 other-at-spec =
     tie.close
     (tie.spec Inv μ
@@ -49,7 +51,7 @@ other-at-spec =
     (λ c κs. lies (c .before))
     -- returns
     (λ c. let b = c .before .before .before in let l = b .before .before in
-    b .entry-at .ensures
+    ap some (b .entry-at .ensures)
     ∙ other-yes _ _ _ (l .loop .k) (omega (arith, b .before .loop-test .taken, l .loop .inv .1)) (l .loop .inv .2)
     (λ q. c .before .before .if1 .taken (b .entry-at .ensures ∙ q))
     (rw (b .entry-at .ensures) at (sym (c .before .holds-at .ensures) ∙ c .if2 .taken)))

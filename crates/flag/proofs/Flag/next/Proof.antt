@@ -2,11 +2,12 @@
 -- Assumes nothing.
 use borrow.Author.Needs.{needs}
 use native.Mathlib.Omega.{arith}
-use mathlib.Core.Path.{_≡_}
+use mathlib.Core.Path.{_≡_, ap}
 use Prim.Native.Nat.{suc, _-_, _≤_}
 use lib.ListN.{getD, take}
 use Rattle.spec.specs.Flags.{flagsTo}
 use Rattle.ranked.specs.Words.{solidIn}
+use Rattle.flag.specs.Reading.{moreOf}
 use Rattle.flag.proofs.Order.{Last}
 use Rattle.flag.proofs.Iterate.{ended-first, ended-next, above-in, follows-yes, follows-no}
 use Rattle.flag.proofs.Flag.next.Statement.{statement}
@@ -19,6 +20,7 @@ abbrev μ : tie.MeasureT-loop
 μ w sh elements rank r₀ r = rank - r
 
 pub next-spec : {M : Type 1} → statement M
+unfolding moreOf
 next-spec =
     tie.close
     (tie.spec Inv μ
@@ -26,14 +28,17 @@ next-spec =
     (λ c. let s = c .before .before in let a = s .args in (omega arith, ended-first (a .sh) (a .w .now) (s .pre .0) (a .self .elements) (search needs) (s .pre .1)))
     (λ c κs. let l = c .before .loop in let s = c .before .before .before .before in let a = s .args in
     (s .pre .0, (c .loop-test .taken, above-in (a .sh) (a .w .now) (s .pre .0) (a .self .elements) (search needs) (s .pre .1) (l .r) (c .loop-test .taken))))
-    -- returns, add-r, loop-less, loop-again, returns-2
-    (λ c. let m = c .before .moved-at in let i = c .before .before in let l = i .before .loop in let s = i .before .before .before .before in let a = s .args in
-    follows-yes (a .sh) (a .w .now) (s .pre .0) (a .self .elements) (search needs) (s .pre .1) (l .r) (i .loop-test .taken) (l .inv .1) (m .result .more) (m .result .flag .elements) (m .ensures) (c .if1 .taken))
+    -- enum-told, returns
+    (λ c. search needs)
+    (λ c. let m = c .before .before .moved-at in let i = c .before .before .before in let l = i .before .loop in let s = i .before .before .before .before in let a = s .args in
+    follows-yes (a .sh) (a .w .now) (s .pre .0) (a .self .elements) (search needs) (s .pre .1) (l .r) (i .loop-test .taken) (l .inv .1) (moreOf (m .result .advance)) (m .result .flag .elements) (m .ensures) (ap moreOf (c .enum-told .given .1)))
+    -- enum-told-2, add-r, loop-less, loop-again, returns-2
     (λ c. search needs)
     (λ c. search needs)
-    (λ c. let m = c .before .moved-at in let i = c .before .before in let l = i .before .loop in let s = i .before .before .before .before in let a = s .args in (
+    (λ c. search needs)
+    (λ c. let m = c .before .before .moved-at in let i = c .before .before .before in let l = i .before .loop in let s = i .before .before .before .before in let a = s .args in (
       omega (arith, i .loop-test .taken),
-      ended-next (a .sh) (a .w .now) (s .pre .0) (a .self .elements) (search needs) (s .pre .1) (l .r) (i .loop-test .taken) (l .inv .1) (m .result .more) (m .result .flag .elements) (m .ensures) (c .if1 .left),
+      ended-next (a .sh) (a .w .now) (s .pre .0) (a .self .elements) (search needs) (s .pre .1) (l .r) (i .loop-test .taken) (l .inv .1) (moreOf (m .result .advance)) (m .result .flag .elements) (m .ensures) (ap moreOf (c .enum-told2 .given .1)),
     ))
     (λ c. let l = c .before .loop in let s = c .before .before .before .before in let a = s .args in
     follows-no (a .sh) (a .w .now) (s .pre .0) (a .self .elements) (search needs) (s .pre .1) (l .r) (l .inv .0) (c .loop-test .left) (l .inv .1) _))

@@ -1,6 +1,6 @@
 -- The loop's invariant: what is listed stands in the outputs, and the flags from this one on are to come. The measure is how many they are.
 -- Assumes nothing.
-use mathlib.Core.Path.{_≡_, refl, sym, subst, _∙_}
+use mathlib.Core.Path.{_≡_, refl, sym, ap, subst, _∙_}
 use mathlib.Core.Logic.{⊎-elim}
 use mathlib.Core.List.{List, _∷_}
 use Prim.Native.Nat.{ℕ, _+_, _-_, _*_, _≤_, _<_}
@@ -16,7 +16,7 @@ use Rattle.spec.specs.Flags.{Flag, IsFlag}
 use Rattle.lookup.specs.Points.{Lone}
 use Rattle.ranked.specs.Words.{solidIn}
 use Rattle.ranked.specs.Bench.{solidAt}
-use Rattle.flag.specs.Reading.{flagIn}
+use Rattle.flag.specs.Reading.{flagIn, moreOf}
 use Rattle.flag.proofs.Numbered.{nth-first, nth-flag}
 use Rattle.symmetry.specs.declared.listing.Tried.the-variants.{Skipped, Added}
 use Rattle.symmetry.proofs.Bounds.{rising, vertices-are, vertices-few, coordinates-in, points-read}
@@ -26,13 +26,13 @@ use Rattle.symmetry.proofs.listing.list_members.Statement.{statement}
 use Rattle.symmetry.proofs.listing.list_members.Tie as tie
 
 abbrev Inv : tie.InvT-loop
-Inv words low sh at floats inv rotations room matrices₀ rows₀ first d v lone places flag₀ n₀ more₀ matrices rows flag n more =
+Inv words low sh at floats inv rotations room matrices₀ rows₀ first d v lone places flag₀ n₀ matrices rows flag n =
     (length matrices ≡ length matrices₀) × (length rows ≡ length rows₀)
-    × Turn (solidIn sh (take low words)) more (flagIn (sh .rank) flag) (Tally sh low words floats inv rotations room (sh .dimension) v matrices₀ matrices rows₀ rows n)
+    × Turn (solidIn sh (take low words)) (flagIn (sh .rank) flag) (Tally sh low words floats inv rotations room (sh .dimension) v matrices₀ matrices rows₀ rows n)
 
 abbrev μ : tie.MeasureT-loop
-μ words low sh at floats inv rotations room matrices₀ rows₀ first d v lone places flag₀ n₀ more₀ matrices rows flag n more =
-    toCome (solidIn sh (take low words)) more (flagIn (sh .rank) flag)
+μ words low sh at floats inv rotations room matrices₀ rows₀ first d v lone places flag₀ n₀ matrices rows flag n =
+    toCome (solidIn sh (take low words)) (flagIn (sh .rank) flag)
 
 abbrev start : tie.At-loop Inv μ → tie.Start Inv μ
 start c = c .before .before .before .before .before .before .before .before .before .before
@@ -83,44 +83,41 @@ Stands l =
 abbrev flag : tie.At-loop Inv μ → Flag
 flag l = flagIn (start l .args .sh .rank) (l .loop .flag)
 
-abbrev rest : tie.In-loop Inv μ → List Flag
-rest c =
-    let l = c .before in
+abbrev rest : tie.At-loop Inv μ → List Flag
+rest l =
     let s = start l in
-    later (s .args .sh) (take (s .args .low) (s .args .words .now)) (s .pre .bench .held) (Stands l) (flag l) (l .loop .more) (c .loop-test .taken) (l .loop .inv .2)
+    later (s .args .sh) (take (s .args .low) (s .args .words .now)) (s .pre .bench .held) (Stands l) (flag l) (l .loop .inv .2)
 
-stands : (c : tie.In-loop Inv μ) → Stands (c .before) (flag (c .before) ∷ rest c)
-stands c =
-    let l = c .before in
+stands : (l : tie.At-loop Inv μ) → Stands l (flag l ∷ rest l)
+stands l =
     let s = start l in
-    turn-at (s .args .sh) (take (s .args .low) (s .args .words .now)) (s .pre .bench .held) (Stands l) (flag l) (l .loop .more) (c .loop-test .taken) (l .loop .inv .2)
+    turn-at (s .args .sh) (take (s .args .low) (s .args .words .now)) (s .pre .bench .held) (Stands l) (flag l) (l .loop .inv .2)
 
 -- the parts after the members start within the outputs, whose lengths fit a word
-within : (c : tie.In-loop Inv μ) → let l = c .before in let a = start l .args in
+within : (l : tie.At-loop Inv μ) → let a = start l .args in
     (l .loop .n * (a .sh .dimension * a .sh .dimension) ≤ length (l .loop .matrices)) × (l .loop .n * counted l .vertex-count .result ≤ length (l .loop .rows)) × (l .loop .n ≤ a .room)
-within c =
-    let l = c .before in
+within l =
     let s = start l in
     let a = s .args in
-    inside (s .pre) (a .inv) (tall s) (a .rotations) (a .room) (counted l .vertex-count .result) (counted l .vertex-count .ensures) (a .matrices .now) (a .rows .now) (l .loop .matrices) (l .loop .rows) (l .loop .n) (flag l) (rest c) (stands c)
+    inside (s .pre) (a .inv) (tall s) (a .rotations) (a .room) (counted l .vertex-count .result) (counted l .vertex-count .ensures) (a .matrices .now) (a .rows .now) (l .loop .matrices) (l .loop .rows) (l .loop .n) (flag l) (rest l) (stands l)
 
 short : (s : tie.Start Inv μ) → (length (s .args .matrices .now) < 0x1000_0000_0000_0000) × (length (s .args .rows .now) < 0x4000_0000_0000_0000)
 short s = (omega arith, omega arith)
 
 mul-try-flag : tie.Need-mul-try-flag Inv μ
-mul-try-flag c = let s = start (c .before .before) in omega (arith, mul-le-mul-left (s .args .sh .dimension) (s .pre .bench .held .wide), s .pre .bench .held .wide)
+mul-try-flag c = let s = start (c .before) in omega (arith, mul-le-mul-left (s .args .sh .dimension) (s .pre .bench .held .wide), s .pre .bench .held .wide)
 
 mul-try-flag-2 : tie.Need-mul-try-flag-2 Inv μ
-mul-try-flag-2 c = omega (arith, within (c .before) .0, c .before .before .loop .inv .0, short (start (c .before .before)) .0)
+mul-try-flag-2 c = omega (arith, within (c .before) .0, c .before .loop .inv .0, short (start (c .before)) .0)
 
 mul-try-flag-3 : tie.Need-mul-try-flag-3 Inv μ
-mul-try-flag-3 c = omega (arith, within (c .before) .0, c .before .before .loop .inv .0, short (start (c .before .before)) .0)
+mul-try-flag-3 c = omega (arith, within (c .before) .0, c .before .loop .inv .0, short (start (c .before)) .0)
 
 mul-try-flag-4 : tie.Need-mul-try-flag-4 Inv μ
-mul-try-flag-4 c = omega (arith, within (c .before .before) .1, c .before .before .before .loop .inv .1, short (start (c .before .before .before)) .1)
+mul-try-flag-4 c = omega (arith, within (c .before .before) .1, c .before .before .loop .inv .1, short (start (c .before .before)) .1)
 
 mul-try-flag-5 : tie.Need-mul-try-flag-5 Inv μ
-mul-try-flag-5 c = omega (arith, within (c .before .before) .1, c .before .before .before .loop .inv .1, short (start (c .before .before .before)) .1)
+mul-try-flag-5 c = omega (arith, within (c .before .before) .1, c .before .before .loop .inv .1, short (start (c .before .before)) .1)
 
 part-try-flag-start : tie.Need-part-try-flag-start Inv μ
 part-try-flag-start c = omega (arith, within (c .before) .0)
@@ -129,73 +126,69 @@ part-try-flag-start-2 : tie.Need-part-try-flag-start-2 Inv μ
 part-try-flag-start-2 c = omega (arith, within (c .before .before) .1)
 
 -- the flag is one
-is-flag : (c : tie.In-loop Inv μ) → let l = c .before in let a = start l .args in IsFlag (solidIn (a .sh) (take (a .low) (a .words .now))) (flag l)
-is-flag c =
-    let l = c .before in
+is-flag : (l : tie.At-loop Inv μ) → let a = start l .args in IsFlag (solidIn (a .sh) (take (a .low) (a .words .now))) (flag l)
+is-flag l =
     let s = start l in
-    nth-flag (s .args .sh) (take (s .args .low) (s .args .words .now)) (s .pre .bench .held) (flag l) (l .loop .inv .2 .from) (l .loop .inv .2 .flag (c .loop-test .taken))
+    nth-flag (s .args .sh) (take (s .args .low) (s .args .words .now)) (s .pre .bench .held) (flag l) (l .loop .inv .2 .from) (l .loop .inv .2 .flag)
 
 try-flag-requires : tie.Need-try-flag-requires Inv μ
 try-flag-requires c κs =
-    let w = c .before .before .before in
-    let l = w .before in
+    let l = c .before .before .before in
     let s = start l in
-    (s .pre, (is-flag w, (counted l .before .first .ensures, λ e. subst Lone (sym (points-read (s .pre) (counted l .vertex-count .result) (counted l .vertex-count .ensures))) (l .before .before .is-lone .ensures e))))
+    (s .pre, (is-flag l, (counted l .before .first .ensures, λ e. subst Lone (sym (points-read (s .pre) (counted l .vertex-count .result) (counted l .vertex-count .ensures))) (l .before .before .is-lone .ensures e))))
 
 -- the outputs after the flag is tried
 abbrev matrices : tie.After-try-flag Inv μ → List Float
 matrices t =
-    let l = t .before .before .before .before .before in
+    let l = t .before .before .before .before in
     let k = l .loop .n * (start l .args .sh .dimension * start l .args .sh .dimension) in
     putMid k (length (l .loop .matrices) - k) (l .loop .matrices) (t .try-flag .last .1 .1 .1 .1 .1 .1 .1 .1 .1 .1 .1 .1 .0)
 
 abbrev rows : tie.After-try-flag Inv μ → List ℕ
 rows t =
-    let l = t .before .before .before .before .before in
+    let l = t .before .before .before .before in
     let k = l .loop .n * counted l .vertex-count .result in
     putMid k (length (l .loop .rows) - k) (l .loop .rows) (t .try-flag .last .1 .1 .1 .1 .1 .1 .1 .1 .1 .1 .1 .1 .1 .0)
 
-many : (t : tie.After-try-flag Inv μ) → length (matrices t) ≡ length (start (t .before .before .before .before .before) .args .matrices .now)
+many : (t : tie.After-try-flag Inv μ) → length (matrices t) ≡ length (start (t .before .before .before .before) .args .matrices .now)
 many t =
-    let l = t .before .before .before .before .before in
+    let l = t .before .before .before .before in
     let k = l .loop .n * (start l .args .sh .dimension * start l .args .sh .dimension) in
     same-len-mid k (length (l .loop .matrices) - k) (l .loop .matrices) (t .try-flag .last .1 .1 .1 .1 .1 .1 .1 .1 .1 .1 .1 .1 .0) (t .try-flag .kept .1 .1 .1 .1 .1 .1 .1 .1 .1 .1 .1 .1 .0) ∙ l .loop .inv .0
 
-long : (t : tie.After-try-flag Inv μ) → length (rows t) ≡ length (start (t .before .before .before .before .before) .args .rows .now)
+long : (t : tie.After-try-flag Inv μ) → length (rows t) ≡ length (start (t .before .before .before .before) .args .rows .now)
 long t =
-    let l = t .before .before .before .before .before in
+    let l = t .before .before .before .before in
     let k = l .loop .n * counted l .vertex-count .result in
     same-len-mid k (length (l .loop .rows) - k) (l .loop .rows) (t .try-flag .last .1 .1 .1 .1 .1 .1 .1 .1 .1 .1 .1 .1 .1 .0) (t .try-flag .kept .1 .1 .1 .1 .1 .1 .1 .1 .1 .1 .1 .1 .1 .0) ∙ l .loop .inv .1
 
 -- what stands then
 abbrev Stood : tie.After-try-flag Inv μ → ℕ → List Flag → Type 0
 Stood t n =
-    let l = t .before .before .before .before .before in
+    let l = t .before .before .before .before in
     let a = start l .args in
     Tally (a .sh) (a .low) (a .words .now) (a .floats .now) (a .inv) (a .rotations) (a .room) (a .sh .dimension) (counted l .vertex-count .result) (a .matrices .now) (matrices t) (a .rows .now) (rows t) n
 
-skipped : (t : tie.After-try-flag Inv μ) → t .try-flag .result ≡ Skipped → Stood t (t .before .before .before .before .before .loop .n) (rest (t .before .before .before .before))
+skipped : (t : tie.After-try-flag Inv μ) → t .try-flag .result ≡ Skipped → Stood t (t .before .before .before .before .loop .n) (rest (t .before .before .before .before))
 skipped t r =
-    let c = t .before .before .before .before in
-    let l = c .before in
+    let l = t .before .before .before .before in
     let s = start l in
     let a = s .args in
-    tally-skipped (s .pre) (a .inv) (tall s) (a .rotations) (a .room) (counted l .vertex-count .result) (counted l .vertex-count .ensures) (a .matrices .now) (a .rows .now) (l .loop .matrices) (l .loop .rows) (l .loop .n) (flag l) (rest c) (stands c)
+    tally-skipped (s .pre) (a .inv) (tall s) (a .rotations) (a .room) (counted l .vertex-count .result) (counted l .vertex-count .ensures) (a .matrices .now) (a .rows .now) (l .loop .matrices) (l .loop .rows) (l .loop .n) (flag l) (rest l) (stands l)
     (t .try-flag .result) (t .try-flag .last .1 .1 .1 .1 .1 .1 .1 .1 .1 .1 .1 .1 .0) (t .try-flag .last .1 .1 .1 .1 .1 .1 .1 .1 .1 .1 .1 .1 .1 .0) (t .try-flag .ensures) r
 
-added : (t : tie.After-try-flag Inv μ) → t .try-flag .result ≡ Added → Stood t (t .before .before .before .before .before .loop .n + 1) (rest (t .before .before .before .before))
+added : (t : tie.After-try-flag Inv μ) → t .try-flag .result ≡ Added → Stood t (t .before .before .before .before .loop .n + 1) (rest (t .before .before .before .before))
 added t r =
-    let c = t .before .before .before .before in
-    let l = c .before in
+    let l = t .before .before .before .before in
     let s = start l in
     let a = s .args in
-    tally-added (s .pre) (a .inv) (tall s) (a .rotations) (a .room) (counted l .vertex-count .result) (counted l .vertex-count .ensures) (a .matrices .now) (a .rows .now) (l .loop .matrices) (l .loop .rows) (l .loop .n) (flag l) (rest c) (stands c)
+    tally-added (s .pre) (a .inv) (tall s) (a .rotations) (a .room) (counted l .vertex-count .result) (counted l .vertex-count .ensures) (a .matrices .now) (a .rows .now) (l .loop .matrices) (l .loop .rows) (l .loop .n) (flag l) (rest l) (stands l)
     (t .try-flag .result) (t .try-flag .last .1 .1 .1 .1 .1 .1 .1 .1 .1 .1 .1 .1 .0) (t .try-flag .last .1 .1 .1 .1 .1 .1 .1 .1 .1 .1 .1 .1 .1 .0) (t .try-flag .ensures) r
 
 add-n : tie.Need-add-n Inv μ
 add-n c =
     let t = c .before .before .before .before .before .before in
-    let s = start (t .before .before .before .before .before) in
+    let s = start (t .before .before .before .before) in
     let g = added t (c .enum-told2 .given .1) (solidAt (s .args .sh) (s .args .low) (s .args .words .now) (s .args .floats .now)) in
     omega (arith, g .room .marks)
 
@@ -209,55 +202,74 @@ returns : tie.Need-returns Inv μ
 returns r x =
     let e = r .before in
     let t = e .before .before .before .before .before .before in
-    let c = t .before .before .before .before in
-    let l = c .before in
+    let l = t .before .before .before .before in
     let s = start l in
     let a = s .args in
     rw (r .of .ensures)
-    (tally-short (s .pre) (a .inv) (tall s) (a .rotations) (a .room) (counted l .vertex-count .result) (counted l .vertex-count .ensures) (a .matrices .now) (a .rows .now) (l .loop .matrices) (l .loop .rows) (l .loop .n) (flag l) (rest c) (stands c)
+    (tally-short (s .pre) (a .inv) (tall s) (a .rotations) (a .room) (counted l .vertex-count .result) (counted l .vertex-count .ensures) (a .matrices .now) (a .rows .now) (l .loop .matrices) (l .loop .rows) (l .loop .n) (flag l) (rest l) (stands l)
     (t .try-flag .result) (t .try-flag .last .1 .1 .1 .1 .1 .1 .1 .1 .1 .1 .1 .1 .0) (t .try-flag .last .1 .1 .1 .1 .1 .1 .1 .1 .1 .1 .1 .1 .1 .0) (t .try-flag .ensures) (e .enum-told3 .given .1) x)
 
 slice-aggregate-next : tie.Need-slice-aggregate-next Inv μ
 slice-aggregate-next c =
-    let s = start (c .before .before .before .before .before .before .before .before .before .before .before) in
+    let s = start (c .before .before .before .before .before .before .before .before .before .before) in
     sym (length-take-le (s .args .low) (s .args .words .now) (s .pre .bench .words-in))
 
 next-requires : tie.Need-next-requires Inv μ
 next-requires c κs =
-    let w = c .before .before .before .before .before .before .before .before .before .before in
-    (start (w .before) .pre .bench .held, is-flag w)
+    let l = c .before .before .before .before .before .before .before .before .before .before in
+    (start l .pre .bench .held, is-flag l)
+
+-- where the flag after it is asked for: what stands of the flags after it
+follows : (x : tie.After-next Inv μ) → let m = x .before .before in let t = m .before .before .before .before .before in Stood t (m .match .n) (rest (t .before .before .before .before))
+follows x =
+    let m = x .before .before in
+    let t = m .before .before .before .before .before in
+    let l = t .before .before .before .before in
+    ⊎-elim (λ k. subst (λ n. Stood t n (rest l)) (sym (k .2)) (skipped t (k .1 .given .1))) (λ k. subst (λ n. Stood t n (rest l)) (sym (k .2)) (added t (k .1 .given .1))) (m .match .came)
 
 loop-less : tie.Need-loop-less Inv μ
+unfolding moreOf
 loop-less c =
-    let w = c .before .before .before .before .before .before .before .before .before .before .before .before in
-    let l = w .before in
+    let x = c .before .before .before in
+    let l = x .before .before .before .before .before .before .before .before .before .before .before in
     let s = start l in
-    fewer (s .args .sh) (take (s .args .low) (s .args .words .now)) (s .pre .bench .held) (Stands l) (flag l) (l .loop .more) (w .loop-test .taken) (l .loop .inv .2)
-    (c .before .next .result .more) (flagIn (s .args .sh .rank) (c .before .next .result .flag)) (c .before .next .ensures)
+    fewer (s .args .sh) (take (s .args .low) (s .args .words .now)) (s .pre .bench .held) (Stands l) (flag l) (l .loop .inv .2)
+    (moreOf (x .next .result .advance)) (flagIn (s .args .sh .rank) (x .next .result .flag)) (x .next .ensures) (ap moreOf (c .enum-told4 .given .1))
 
 loop-again : tie.Need-loop-again Inv μ
+unfolding moreOf
 loop-again c =
-    let m = c .before .before .before in
+    let x = c .before .before .before in
+    let m = x .before .before in
     let t = m .before .before .before .before .before in
-    let w = t .before .before .before .before in
-    let l = w .before in
+    let l = t .before .before .before .before in
     let s = start l in (
       many t,
       long t,
-      turn-next (s .args .sh) (take (s .args .low) (s .args .words .now)) (s .pre .bench .held) (Stands l) (flag l) (l .loop .more) (w .loop-test .taken) (l .loop .inv .2)
-          (c .before .next .result .more) (flagIn (s .args .sh .rank) (c .before .next .result .flag)) (c .before .next .ensures) (Stood t (m .match .n))
-          (⊎-elim (λ k. subst (λ n. Stood t n (rest w)) (sym (k .2)) (skipped t (k .1 .given .1))) (λ k. subst (λ n. Stood t n (rest w)) (sym (k .2)) (added t (k .1 .given .1))) (m .match .came)),
+      turn-next (s .args .sh) (take (s .args .low) (s .args .words .now)) (s .pre .bench .held) (Stands l) (flag l) (l .loop .inv .2)
+          (moreOf (x .next .result .advance)) (flagIn (s .args .sh .rank) (x .next .result .flag)) (x .next .ensures) (ap moreOf (c .enum-told4 .given .1)) (Stood t (m .match .n)) (follows x),
     )
 
+same-length-3 : tie.Need-same-length-3 Inv μ
+same-length-3 c = many (c .before .before .before .before .before .before .before .before .before .before .before)
+
+same-length-4 : tie.Need-same-length-4 Inv μ
+same-length-4 c = long (c .before .before .before .before .before .before .before .before .before .before .before)
+
 returns-2 : tie.Need-returns-2 Inv μ
-returns-2 r x =
+unfolding moreOf
+returns-2 r y =
     let c = r .before in
-    let l = c .before in
+    let x = c .before .before .before in
+    let m = x .before .before in
+    let t = m .before .before .before .before .before in
+    let l = t .before .before .before .before in
     let s = start l in
     let a = s .args in
     rw (r .of2 .ensures)
-    (tally-end (s .pre) (a .inv) (tall s) (a .rotations) (a .room) (counted l .vertex-count .result) (counted l .vertex-count .ensures) (a .matrices .now) (a .rows .now) (l .loop .matrices) (l .loop .rows) (l .loop .n)
-    (turn-end (solidIn (a .sh) (take (a .low) (a .words .now))) (Stands l) (flag l) (l .loop .more) (c .loop-test .left) (l .loop .inv .2)) x)
+    (tally-end (s .pre) (a .inv) (tall s) (a .rotations) (a .room) (counted l .vertex-count .result) (counted l .vertex-count .ensures) (a .matrices .now) (a .rows .now) (matrices t) (rows t) (m .match .n)
+    (turn-end (a .sh) (take (a .low) (a .words .now)) (s .pre .bench .held) (Stands l) (flag l) (l .loop .inv .2)
+    (moreOf (x .next .result .advance)) (flagIn (a .sh .rank) (x .next .result .flag)) (x .next .ensures) (ap moreOf (c .enum-told5 .given .1)) (Stood t (m .match .n)) (follows x)) y)
 
 pub list-members-spec : {M : Type 1} → statement M
 list-members-spec =
@@ -294,9 +306,11 @@ list-members-spec =
     returns
     slice-aggregate-next
     next-requires
+    (λ c. search needs)
     loop-less
     loop-again
+    (λ c. search needs)
     (λ c κs. search needs)
-    (λ c. search needs)
-    (λ c. search needs)
+    same-length-3
+    same-length-4
     returns-2)
