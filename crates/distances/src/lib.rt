@@ -1,5 +1,5 @@
-// Section 3's last sentences: each proper element's distance, and its distance class. The coordinates stand in the first V * D of the
-// lent floats, the listed values behind them, and behind room for one value an element the classes, one an element.
+// Section 3's last sentences: each proper element's distance, and its distance class. The coordinates stand in the first V * D of the lent floats.
+// Behind them is room for one listed value for each proper element, and behind that room stand the classes, one for each proper element.
 ghost use mathlib.Core.Path.{_≡_};
 ghost use mathlib.Core.List.{[], _∷_};
 ghost use Prim.Native.Nat.{_+_, _≤_, _<_};
@@ -38,10 +38,11 @@ fn take_class(floats: &mut [f64], vd: usize, n: usize, cell: usize, k: usize, x:
     taken.count
 }
 
-// The distances of the elements of rank r, by rising index. Says how many values are listed afterwards.
+// Takes the distances of the elements of rank r, by rising index, and answers how many values are listed afterwards.
 fn classes_of_rank(w: &[u32], sh: Shape, floats: &mut [f64], vd: usize, n: usize, r: usize) -> usize
     requires { ⌜ Ready sh (now w) (now floats) vd n r ⌝ }
-    ensures { λ m. ⌜ Grown vd (vd + proper sh) (before sh r) (now (floats .entry)) (now (floats .exit)) n m (rankDistances (solidOn sh (now (w .entry)) (take vd (now (floats .entry))) (sh .dimension)) r) ⌝ }
+    ensures { λ m. ⌜ Grown vd (vd + proper sh) (before sh r) (now (floats .entry)) (now (floats .exit)) n m
+        (rankDistances (solidOn sh (now (w .entry)) (take vd (now (floats .entry))) (sh .dimension)) r) ⌝ }
 {
     let first = sh.first;
     let rank = sh.rank;
@@ -59,7 +60,8 @@ fn classes_of_rank(w: &[u32], sh: Shape, floats: &mut [f64], vd: usize, n: usize
     m
 }
 
-// "Elements are taken by rising rank, then index, once. The listed value is the element's distance class." Says how many values are listed.
+// "Elements are taken by rising rank, then index, once. The listed value is the element's distance class." The answer is
+// how many values are listed.
 pub fn all_classes(w: &[u32], sh: Shape, floats: &mut [f64]) -> usize
     requires { ⌜ Held sh (now w) ⌝ }
     requires { ⌜ coordinates sh (now w) + proper sh + proper sh ≤ length (now floats) ⌝ }
