@@ -12,8 +12,7 @@ use Rattle.spec.specs.Lists.{join, range}
 use Rattle.spec.specs.Float.{zip, zeroF, oneF}
 use Rattle.spec.specs.Matrix.{Matrix}
 use Rattle.spec.specs.Copying.{orders, signed, axisOrder, axisOrders}
-use Rattle.float.specs.Reading.{corner}
-use Rattle.copying.specs.Post.{padded}
+use Rattle.float.specs.Reading.{corner, padded, paddedRows}
 use Rattle.copying.proofs.Growth.{join-append}
 
 -- ---- one matrix
@@ -93,7 +92,7 @@ whole t before h = ap (λ (x : List Float). floats t ++ x) (drop-of-length-le be
 
 -- ---- the table of 48
 
--- of the cells that the table holds, the first three of the first three rows are the matrices themselves
-pub table-corners : map (corner 3) (map (padded 3) axisOrders) ≡ axisOrders
-unfolding neg zip zeroF oneF join range orders signed axisOrder axisOrders corner padded
+-- Of the cells that the table holds, the first three of the first three rows are the matrices themselves.
+pub table-corners : map (corner 3) (map paddedRows axisOrders) ≡ axisOrders
+unfolding neg zip zeroF oneF join range orders signed axisOrder axisOrders corner padded paddedRows
 table-corners = refl

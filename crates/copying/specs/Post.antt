@@ -1,20 +1,18 @@
 -- What the parts of the call hand back, in terms of document 01's definitions.
 -- Assumes nothing.
 use mathlib.Core.Path.{_≡_}
-use Prim.Native.Nat.{ℕ, _-_, _≤_, _<_}
+use Prim.Native.Nat.{ℕ, _≤_, _<_}
 use mathlib.Core.Bool.{Bool, true, false}
-use mathlib.Core.List.{List, [], _∷_, _++_, map}
-use lib.ListN.{length, take, drop, replicate}
+use mathlib.Core.List.{List, [], _∷_, _++_}
+use lib.ListN.{length, take, drop}
 use lib.Dec.{eqb}
 use lib.Ieee.{Float}
 use Rattle.copying.specs.declared.judging.Judgement.{Judgement}
 use Rattle.copying.specs.declared.judging.Judgement.the-variants.{Passed, Refused}
 use Rattle.copying.specs.declared.joining.Room.{Room}
 use Rattle.copying.specs.declared.joining.Room.the-variants as room
-use Rattle.spec.specs.Limits.{maxDimension}
 use Rattle.spec.specs.Judged.{Judged, refused, passed}
 use Rattle.spec.specs.Lists.{join, holds}
-use Rattle.spec.specs.Float.{zeroF}
 use Rattle.spec.specs.Matrix.{Vector, Matrix}
 use Rattle.spec.specs.Copying.{found, spread, parts, written}
 
@@ -61,7 +59,3 @@ pub record Opened (x : ℕ) (new before after : List ℕ) : Type 0 where
 abbrev pub Tabled : (x : ℕ) (new before after : List ℕ) → Bool → Type 0
 Tabled x new before after true = Closed x new before after
 Tabled x new before after false = Opened x new before after
-
--- a d by d matrix as the code holds it, in rows of rows with room for every dimension: the cells past d are +0.0
-unfoldable pub padded : ℕ → Matrix → List (List Float)
-padded d m = map (λ v. v ++ replicate (maxDimension - d) zeroF) m ++ replicate (maxDimension - d) (replicate maxDimension zeroF)

@@ -6,8 +6,7 @@ ghost use Prim.Native.Nat.{_*_, _≤_};
 ghost use lib.ListN.{length, drop};
 ghost use Rattle.spec.specs.Lists.{join};
 ghost use Rattle.spec.specs.Copying.{axisOrders};
-ghost use Rattle.float.specs.Reading.{corner};
-ghost use Rattle.copying.specs.Post.{padded};
+ghost use Rattle.float.specs.Reading.{corner, paddedRows};
 use float::DIMENSION;
 
 // The rows that occur: the unit of each axis, as it is and negated, and the fourth row, which no matrix of three dimensions uses.
@@ -79,7 +78,7 @@ const AXIS_ORDERS: [[[f64; DIMENSION]; DIMENSION]; 48] = [
 
 // The table, with every cell of its matrices. It is made anew at each call, so a caller makes it once, in a local, and lends that.
 pub fn axis_orders() -> [[[f64; DIMENSION]; DIMENSION]; 48]
-    ensures { λ r. ⌜ r ≡ map (padded 3) axisOrders ⌝ }
+    ensures { λ r. ⌜ r ≡ map paddedRows axisOrders ⌝ }
 {
     AXIS_ORDERS
 }

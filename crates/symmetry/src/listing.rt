@@ -231,18 +231,14 @@ pub fn list_members(
             Tried::Added => {
                 n += 1;
             }
-            Tried::Short => {
-                return Listing::of(n, true);
-            }
+            Tried::Short => return Listing::of(n, true),
         }
         let next = flag.next(&words[..low], sh);
         flag = next.flag;
         let advance = next.advance;
         match advance {
             Advance::More => {}
-            Advance::Ended => {
-                return Listing::of(n, false);
-            }
+            Advance::Ended => return Listing::of(n, false),
         }
     }
 }

@@ -5,12 +5,12 @@ use lib.Ieee.{ofBits, neg}
 use Rattle.spec.specs.Float.{zip, zeroF, oneF}
 use Rattle.spec.specs.Lists.{join, range}
 use Rattle.spec.specs.Copying.{orders, signed, axisOrder, axisOrders}
-use Rattle.copying.specs.Post.{padded}
+use Rattle.float.specs.Reading.{padded, paddedRows}
 use Rattle.copying.proofs.axes.axis_orders.Statement.{statement}
 use Rattle.copying.proofs.axes.axis_orders.Tie as tie
 
 returns : tie.Need-returns
-unfolding ofBits neg zip zeroF oneF join range orders signed axisOrder axisOrders padded
+unfolding ofBits neg zip zeroF oneF join range orders signed axisOrder axisOrders padded paddedRows
 returns c = refl
 
 pub axis-orders-spec : {M : Type 1} → statement M
