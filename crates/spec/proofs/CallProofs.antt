@@ -1,4 +1,4 @@
--- The laws of the calls: no empty list passes for success, when a call answers 13, what a refusal leaves in the outputs, and that these keep their lengths.
+-- The laws of the calls: no empty list passes for success, when a call answers 13 or copying 14, what a refusal leaves in the outputs, and that these keep their lengths.
 -- Assumes nothing.
 use mathlib.Core.Path.{_≡_, refl, sym, _∙_, ap, subst}
 use mathlib.Core.Logic.{_≢_, _⊎_, inl, inr, ⊎-elim}
@@ -11,7 +11,7 @@ use native.Mathlib.Omega.{arith}
 use native.Mathlib.Decide.{decLt}
 use borrow.Author.Tests.{le-leb, leb-false}
 use lib.ListN.{length, take, replicate, length-replicate}
-use lib.Seq.{take-all}
+use lib.Seq.{take-all, take-length, length-take-le}
 use lib.Dec.{leb, ltb, eqb, nleb→lt, nltb→le, T}
 use lib.Ieee.{Float}
 use Rattle.spec.specs.declared.Refusal.{Refusal}
@@ -30,13 +30,13 @@ use Rattle.spec.specs.Copying.{copies, copyTable, points, matrices, writ
 use Rattle.spec.specs.Solid.{Concrete, preflight}
 use Rattle.spec.specs.Search.{Member}
 use Rattle.spec.specs.Calls.{Given, typeCells, TypesOut, typesGiven, typesWritten, typesCall, Room, Outcome, haveRoom, fitting, keptOf, outcome, membersIn, rotationsIn, SearchOut, roomOf, searchWritten, searchCall, rotationsCall}
-use Rattle.spec.specs.CallLaws.{SameLength, AllMembers, FirstMembers, SearchLaws, AllTypes, NoRoom, CallLaws, EveryCopyCall}
+use Rattle.spec.specs.CallLaws.{SameLength, AllMembers, FirstMembers, SearchLaws, AllTypes, NoRoom, CallLaws, AllCopies, FirstCopies, OpenCopies, EveryCopyCall}
 use Rattle.spec.proofs.Counts.{numbers}
 use Rattle.spec.proofs.Marked.{both, lt-test}
 use Rattle.spec.proofs.Accepted.{never, same, bound-to, then-to, tested, le-test}
-use Rattle.spec.proofs.Refuses.{by-judge, by-wanted, by-then, unlike, not13, Spares, spares-preflight, spares-members, spares-rotations}
+use Rattle.spec.proofs.Refuses.{by-judge, by-wanted, by-then, unlike, Refuses, not13, Spares, spares-preflight, spares-members, spares-rotations}
 use Rattle.spec.proofs.Shapes.{wanted-some, Shaped, members-shaped, rotations-shaped, found-cells, type-cells}
-use Rattle.spec.proofs.CopyLaws.{Wide, all-wide, kept-fit, written-length, table-length, some-copy}
+use Rattle.spec.proofs.CopyLaws.{Wide, all-wide, kept-fit, wide-join, written-length, table-length, closed-table, open-table, some-copy}
 
 pub apart : (why : Refusal) (k m : ℕ) → Refused why k ≡ Done m → ⊥
 apart why k m e = let z : _≡_ {A = ℕ} 0 1 = cc in omega arith
@@ -280,13 +280,18 @@ call-laws = record {
 
 -- ---- copying
 
+-- The refusal is one of those that copying judges before 13 and 14.
+abbrev Early : Refusal → Type 0
+Early why = (why ≢ ShortSheet) × (why ≢ Open)
+
 module _ (d : ℕ) (ps ts : List Float) where
-  spares-copy : Spares (judgeCopy d ps ts)
+  early-copy : Refuses Early (judgeCopy d ps ts)
   unfolding judgeCopy
-  spares-copy =
-      by-then not13 _ _ (by-judge not13 Format _ (unlike Format ShortSheet tt))
-      (by-then not13 _ _ (by-judge not13 CutSheet _ (unlike CutSheet ShortSheet tt))
-      (by-then not13 _ _ (by-judge not13 OffTheBoard _ (unlike OffTheBoard ShortSheet tt)) (by-judge not13 Blank _ (unlike Blank ShortSheet tt))))
+  early-copy =
+      by-then Early _ _ (by-judge Early Format _ (unlike Format ShortSheet tt, unlike Format Open tt))
+      (by-then Early _ _ (by-judge Early CutSheet _ (unlike CutSheet ShortSheet tt, unlike CutSheet Open tt))
+      (by-then Early _ _ (by-judge Early OffTheBoard _ (unlike OffTheBoard ShortSheet tt, unlike OffTheBoard Open tt))
+      (by-judge Early Blank _ (unlike Blank ShortSheet tt, unlike Blank Open tt))))
 
   -- A call that is not refused before 13 has at least one dimension and at least one copy.
   judged : (u : Unit {0}) → judgeCopy d ps ts ≡ passed u → (0 < d) × (0 < length (copies (matrices d ts) (points d ps)))
@@ -306,66 +311,127 @@ module _ (d : ℕ) (ps ts : List Float) where
 record Fit (n d l : ℕ) : Type 0 where
   limit : n ≤ maxCount
   cells : n * d ≤ l
-  most : (c : ℕ) → n < c → (maxCount < c) ⊎ (l < c * d)
+  most : (n ≡ maxCount) ⊎ (l < suc n * d)
 
 module _ (d : ℕ) (ms : List Matrix) (cs : List Vector) (outPoints : List Float) (outTable : List ℕ) where
+  abbrev All : ℕ → List Float → List ℕ → Type 0
+  All = AllCopies d ms cs outPoints outTable
+
+  abbrev First : ℕ → List Float → List ℕ → Type 0
+  First = FirstCopies d ms cs outPoints outTable
+
+  abbrev Unclosed : ℕ → List Float → List ℕ → Type 0
+  Unclosed = OpenCopies d ms cs outPoints outTable
+
   -- How a call with the copies cs under the matrices ms can end: what it answers, and what it leaves in the outputs.
   data Ends : Answer × List Float × List ℕ → Type 0 where
-    before : (why : Refusal) → why ≢ ShortSheet → Ends (Refused why 0, outPoints, outTable)
-    short : (n : ℕ) → Fit n d (length outPoints) → (n < length cs) ⊎ (length outTable < length ms * length cs)
-        → Ends (Refused ShortSheet (length (take n cs)), written (join (take n cs)) outPoints, outTable)
-    unclosed : (n : ℕ) → Fit n d (length outPoints) → length ms * length cs ≤ length outTable
-        → Ends (Refused Open (length (take n cs)), written (join (take n cs)) outPoints, written (replicate (length ms * length cs) 65535) outTable)
-    whole : (n : ℕ) → Fit n d (length outPoints) → 0 < length cs → length cs ≤ n → length ms * length cs ≤ length outTable
-        → Ends (Done (length cs), written (join (take n cs)) outPoints, written (copyTable ms cs) outTable)
+    before : (why : Refusal) → Early why → Ends (Refused why 0, outPoints, outTable)
+    short : (k : ℕ) (p : List Float) (t : List ℕ) → First k p t → Ends (Refused ShortSheet k, p, t)
+    unclosed : (k : ℕ) (p : List Float) (t : List ℕ) → Unclosed k p t → Ends (Refused Open k, p, t)
+    whole : (n : ℕ) (p : List Float) (t : List ℕ) → All n p t → Ends (Done n, p, t)
 
   ends : (n : ℕ) → Fit n d (length outPoints) → 0 < length cs → Ends (copyOut n ms cs outPoints outTable)
   unfolding copyOut
-  ends n f s = go (leb (length cs) n) refl (leb cells (length outTable)) refl (holds eqb (length cs) (copyTable ms cs))
+  ends n f s = go (leb (length cs) n) refl (leb cells (length outTable)) refl (holds eqb (length cs) (copyTable ms cs)) refl
     where
       cells : ℕ
       cells = length ms * length cs
 
-      go : (a : Bool) → leb (length cs) n ≡ a → (b : Bool) → leb cells (length outTable) ≡ b → (c : Bool) → Ends (elim (a && b) [
+      fits : length cs ≤ n → length cs * d ≤ length outPoints
+      fits h = le-trans (mul-le-mul-right d h) (f .cells)
+
+      go : (a : Bool) → leb (length cs) n ≡ a → (b : Bool) → leb cells (length outTable) ≡ b → (c : Bool) → holds eqb (length cs) (copyTable ms cs) ≡ c → Ends (elim (a && b) [
         | false ↦ (Refused ShortSheet (length (take n cs)), written (join (take n cs)) outPoints, outTable)
         | true ↦ elim c [
           | true ↦ (Refused Open (length (take n cs)), written (join (take n cs)) outPoints, written (replicate cells 65535) outTable)
           | false ↦ (Done (length cs), written (join (take n cs)) outPoints, written (copyTable ms cs) outTable)
         ]
       ])
-      go false p b q c = short n f (inl (nleb→lt (length cs) n (rw p tt)))
-      go true p false q c = short n f (inr (nleb→lt cells (length outTable) (rw q tt)))
-      go true p true q true = unclosed n f (le-test cells (length outTable) q)
-      go true p true q false = whole n f s (le-test (length cs) n p) (le-test cells (length outTable) q)
+      go false p b q c r =
+          let more : n < length cs = nleb→lt (length cs) n (rw p tt) in
+          rw (length-take-le n cs (omega arith)) (short n _ _ (record {
+            among = omega arith;
+            limit = f .limit;
+            points-fit = f .cells;
+            exceed = ⊎-elim (λ e. inl (more, e)) (λ l. inr (inl (more, l))) (f .most);
+            points = refl;
+            table = refl;
+          }))
+      go true p false q c r =
+          let all = le-test (length cs) n p in
+          rw (take-all n cs all) (short (length cs) (written (join cs) outPoints) outTable (record {
+            among = omega arith;
+            limit = le-trans all (f .limit);
+            points-fit = fits all;
+            exceed = inr (inr (refl, nleb→lt cells (length outTable) (rw q tt)));
+            points = rw take-length;
+            table = refl;
+          }))
+      go true p true q true r =
+          let all = le-test (length cs) n p in
+          rw (take-all n cs all) (unclosed (length cs) _ _ (record {
+            count = refl;
+            limit = le-trans all (f .limit);
+            points-fit = fits all;
+            table-fit = le-test cells (length outTable) q;
+            points = refl;
+            table = refl;
+            missing = open-table ms cs r;
+          }))
+      go true p true q false r =
+          let all = le-test (length cs) n p in
+          rw (take-all n cs all) (whole (length cs) _ _ (record {
+            count = refl;
+            some-copy = s;
+            limit = le-trans all (f .limit);
+            points-fit = fits all;
+            table-fit = le-test cells (length outTable) q;
+            points = refl;
+            table = refl;
+            closed = closed-table ms cs r;
+          }))
 
-  ends-done : (o : Answer × List Float × List ℕ) → Ends o → (n : ℕ) → o .0 ≡ Done n → (0 < n) × (n ≤ maxCount) × (n * d ≤ length outPoints) × (length ms * n ≤ length outTable)
+  ends-done : (o : Answer × List Float × List ℕ) → Ends o → (n : ℕ) → o .0 ≡ Done n → All n (o .1) (o .2)
   ends-done o (before why h) n e = absurd (apart why 0 n e)
-  ends-done o (short k f h) n e = absurd (apart ShortSheet _ n e)
-  ends-done o (unclosed k f t) n e = absurd (apart Open _ n e)
-  ends-done o (whole k f s h t) n e = rw (← counted (length cs) n e) (s, le-trans h (f .limit), le-trans (mul-le-mul-right d h) (f .cells), t)
+  ends-done o (short k p t h) n e = absurd (apart ShortSheet k n e)
+  ends-done o (unclosed k p t h) n e = absurd (apart Open k n e)
+  ends-done o (whole k p t h) n e = subst (λ (i : ℕ). All i p t) (counted k n e) h
 
-  ends-short : (o : Answer × List Float × List ℕ) → Ends o → (k : ℕ) → o .0 ≡ Refused ShortSheet k
-      → ((maxCount < length cs) ⊎ (length outPoints < length cs * d) ⊎ (length outTable < length ms * length cs)) × (o .2 ≡ outTable)
-  ends-short o (before why h) k e = absurd (h (same-refusal why ShortSheet 0 k e))
-  ends-short o (short n f (inr h)) k e = (inr (inr h), refl)
-  ends-short o (short n f (inl h)) k e = (⊎-elim inl (λ p. inr (inl p)) (f .most (length cs) h), refl)
-  ends-short o (unclosed n f t) k e = absurd (open-short _ k e)
-  ends-short o (whole n f s h t) k e = absurd (apart ShortSheet k (length cs) (sym e))
+  ends-short : (o : Answer × List Float × List ℕ) → Ends o → (k : ℕ) → o .0 ≡ Refused ShortSheet k → First k (o .1) (o .2)
+  ends-short o (before why h) k e = absurd (h .0 (same-refusal why ShortSheet 0 k e))
+  ends-short o (short n p t h) k e = subst (λ (i : ℕ). First i p t) (same-count ShortSheet n k e) h
+  ends-short o (unclosed n p t h) k e = absurd (open-short n k e)
+  ends-short o (whole n p t h) k e = absurd (apart ShortSheet k n (sym e))
+
+  ends-unclosed : (o : Answer × List Float × List ℕ) → Ends o → (k : ℕ) → o .0 ≡ Refused Open k → Unclosed k (o .1) (o .2)
+  ends-unclosed o (before why h) k e = absurd (h .1 (same-refusal why Open 0 k e))
+  ends-unclosed o (short n p t h) k e = absurd (open-short k n (sym e))
+  ends-unclosed o (unclosed n p t h) k e = subst (λ (i : ℕ). Unclosed i p t) (same-count Open n k e) h
+  ends-unclosed o (whole n p t h) k e = absurd (apart Open k n (sym e))
 
   ends-untouched : (o : Answer × List Float × List ℕ) → Ends o → (why : Refusal) (k : ℕ) → o .0 ≡ Refused why k → why ≢ ShortSheet → why ≢ Open → (o .1 ≡ outPoints) × (o .2 ≡ outTable)
-  ends-untouched o (before w h) why k e s p = (refl, refl)
-  ends-untouched o (short n f h) why k e s p = absurd (s (sym (same-refusal ShortSheet why _ k e)))
-  ends-untouched o (unclosed n f t) why k e s p = absurd (p (sym (same-refusal Open why _ k e)))
-  ends-untouched o (whole n f s′ h t) why k e s p = absurd (apart why k (length cs) (sym e))
+  ends-untouched o (before w h) why k e s u = (refl, refl)
+  ends-untouched o (short n p t h) why k e s u = absurd (s (sym (same-refusal ShortSheet why n k e)))
+  ends-untouched o (unclosed n p t h) why k e s u = absurd (u (sym (same-refusal Open why n k e)))
+  ends-untouched o (whole n p t h) why k e s u = absurd (apart why k n (sym e))
 
-  kept-length : Wide d cs → (n : ℕ) → Fit n d (length outPoints) → SameLength outPoints (written (join (take n cs)) outPoints)
-  kept-length w n f = written-length (join (take n cs)) outPoints (kept-fit n d (length outPoints) cs w (f .cells))
+  all-length : Wide d cs → (n : ℕ) → n ≡ length cs → n * d ≤ length outPoints → SameLength outPoints (written (join cs) outPoints)
+  all-length w n q h = written-length (join cs) outPoints (rw (wide-join d cs w, ← q) h)
 
   ends-lengths : Wide d cs → (o : Answer × List Float × List ℕ) → Ends o → SameLength outPoints (o .1) × SameLength outTable (o .2)
   ends-lengths w o (before why h) = (refl, refl)
-  ends-lengths w o (short n f h) = (kept-length w n f, refl)
-  ends-lengths w o (unclosed n f t) = (kept-length w n f, written-length _ outTable (rw length-replicate t))
-  ends-lengths w o (whole n f s h t) = (kept-length w n f, written-length _ outTable (rw table-length t))
+  ends-lengths w o (short k p t h) = (
+    rw (h .points) (written-length (join (take k cs)) outPoints (kept-fit k d (length outPoints) cs w (h .points-fit))),
+    ap length (h .table),
+  )
+  ends-lengths w o (unclosed k p t h) = (
+    rw (h .points) (all-length w k (h .count) (h .points-fit)),
+    rw (h .table) (written-length (replicate (length ms * k) 65535) outTable (rw length-replicate (h .table-fit))),
+  )
+  ends-lengths w o (whole n p t h) = (
+    rw (h .points) (all-length w n (h .count) (h .points-fit)),
+    rw (h .table) (written-length (copyTable ms cs) outTable (rw (table-length, ← h .count) (h .table-fit))),
+  )
 
 -- A number above the lesser of two numbers is above one of them.
 over-min : (a b c : ℕ) → min a b < c → (a < c) ⊎ (b < c)
@@ -386,13 +452,13 @@ call-ends : (d : ℕ) (ps ts outPoints : List Float) (outTable : List ℕ)
 unfolding copyCall
 call-ends d ps ts outPoints outTable =
     either (Ends d (matrices d ts) (copies (matrices d ts) (points d ps)) outPoints outTable) (judgeCopy d ps ts) _ _ (copyCall d ps ts outPoints outTable) refl
-    (λ why q. before why (rw q at (spares-copy d ps ts)))
+    (λ why q. before why (rw q at (early-copy d ps ts)))
     (λ u q.
     let k = judged d ps ts u q in
     ends d (matrices d ts) (copies (matrices d ts) (points d ps)) outPoints outTable _ (record {
       limit = omega arith;
       cells = le-trans (mul-le-mul-right d (omega arith)) (div-mul-le-self (length outPoints) d);
-      most = λ c m. ⊎-elim inl (λ p. inr (div-lt-iff-lt-mul (k .0) .0 p)) (over-min maxCount (length outPoints / d) c m);
+      most = ⊎-elim (λ p. inl (omega arith)) (λ p. inr (div-lt-iff-lt-mul (k .0) .0 p)) (over-min maxCount (length outPoints / d) (suc (min maxCount (length outPoints / d))) (omega arith));
     }) (k .1))
 
 pub every-copy-call : EveryCopyCall
@@ -402,8 +468,8 @@ every-copy-call d ps ts outPoints outTable =
     let e = call-ends d ps ts outPoints outTable in
     record {
       done = ends-done d ms cs outPoints outTable _ e;
-      short = λ k h. ends-short d ms cs outPoints outTable _ e k h .0;
+      short = ends-short d ms cs outPoints outTable _ e;
+      unclosed = ends-unclosed d ms cs outPoints outTable _ e;
       untouched = ends-untouched d ms cs outPoints outTable _ e;
-      points-only = λ k h. ends-short d ms cs outPoints outTable _ e k h .1;
       lengths = ends-lengths d ms cs outPoints outTable (all-wide d ps ts) _ e;
     }

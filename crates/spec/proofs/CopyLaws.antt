@@ -1,4 +1,5 @@
--- Laws of finding and copying: what is found is near, and nothing lower is; copies only join at the end; how long copies and their table are; and that there is a copy.
+-- Laws of finding and copying: what is found is near, and nothing lower is; copies only join at the end; how long copies and their table are; that the table says
+-- whether every image is among the copies; and that there is a copy.
 -- Assumes nothing.
 use mathlib.Core.Path.{_≡_, refl, sym, ap, _∙_}
 use Prim.Native.Nat.{ℕ, zero, suc, _+_, _*_, _/_, _%_, _≤_, _<_, suc-le-suc}
@@ -7,12 +8,16 @@ use native.Mathlib.Omega.{arith}
 use mathlib.Core.Bool.{Bool, true, false, true≢false, false≢true}
 use mathlib.Core.List.{List, [], _∷_, _++_, map, append-assoc, append-nil}
 use lib.ListN.{length, getD, take, drop, length-append, length-drop, length-take, length-map}
+use lib.Dec.{eqb}
 use lib.Ieee.{Float}
-use Rattle.spec.specs.Lists.{place, holds, join}
+use Rattle.spec.specs.Lists.{In, place, holds, join}
 use Rattle.spec.specs.Float.{dot}
 use Rattle.spec.specs.Matrix.{Vector, Matrix, mulVec}
 use Rattle.spec.specs.Copying.{near, found, find, spread, copiesFrom, copies, copyRow, copyTable, parts, points, matrices, written}
-use Rattle.spec.specs.CallLaws.{EveryFind}
+use Rattle.spec.specs.CallLaws.{Closed, NotClosed, EveryFind}
+use Rattle.spec.proofs.Lists.{map-in, in-map}
+use Rattle.spec.proofs.Counts.{holds-in, in-holds}
+use Rattle.spec.proofs.FlagList.{join-in, in-join}
 
 -- ---- finding
 
@@ -76,7 +81,7 @@ copies-add ms (p ∷ ps) cs = go (found cs p) (copies-add ms ps cs) (spread-adds
 
 -- ---- lengths
 
--- every list of ls has length d
+-- Every list of ls has length d.
 abbrev pub Wide {ℓ} : {A : Type ℓ} → ℕ → List (List A) → Type 0
 Wide d [] = Unit {0}
 Wide d (l ∷ ls) = (length l ≡ d) × Wide d ls
@@ -105,7 +110,7 @@ unfolding parts
 parts-length zero n l = refl
 parts-length (suc k) n l = ap suc (parts-length k n (drop n l))
 
--- each of the matrices has d rows
+-- Each of the matrices has d rows.
 matrices-wide : (d : ℕ) (ls : List (List Float)) → Wide d (map (parts d d) ls)
 matrices-wide d [] = tt
 matrices-wide d (l ∷ ls) = (parts-length d d l, matrices-wide d ls)
@@ -140,20 +145,46 @@ table-length ms cs = wide-join (length cs) (map (copyRow cs) ms) (rows ms) ∙ a
     rows [] = tt
     rows (m ∷ ms) = (length-map cs (λ c. find cs (mulVec m c)), rows ms)
 
--- every copy has d coordinates
+-- Every copy has d coordinates.
 pub all-wide : (d : ℕ) (ps ts : List Float) → Wide d (copies (matrices d ts) (points d ps))
 unfolding copies matrices
 all-wide d ps ts = copies-wide d (matrices d ts) (points d ps) [] (matrices-wide d (parts (length ts / (d * d)) (d * d) ts)) tt
 
--- where there is room for n points, the first n of cs fit
+-- Where there is room for n points, the first n of cs fit.
 pub kept-fit : (n d l : ℕ) (cs : List Vector) → Wide d cs → n * d ≤ l → length (join (take n cs)) ≤ l
 kept-fit n d l cs w h =
     let k : length (take n cs) ≤ n = rw length-take (omega arith) in
     rw (wide-join d (take n cs) (wide-take d n cs w)) (le-trans (mul-le-mul-right d k) h)
 
+-- ---- the table says whether every image is among the copies
+
+module _ (ms : List Matrix) (cs : List Vector) where
+  -- An image that is not found has the number of copies for its entry.
+  missing-in-table : (m : Matrix) (c : Vector) → In m ms → In c cs → found cs (mulVec m c) ≡ false → In (length cs) (copyTable ms cs)
+  unfolding copyTable copyRow
+  missing-in-table m c hm hc e = join-in (copyRow cs) (length cs) m ms hm (rw (← not-found cs (mulVec m c) e) (map-in (λ x. find cs (mulVec m x)) c cs hc))
+
+  pub closed-table : holds eqb (length cs) (copyTable ms cs) ≡ false → Closed ms cs
+  closed-table h m c hm hc = go (found cs (mulVec m c)) refl
+    where
+      go : (b : Bool) → found cs (mulVec m c) ≡ b → b ≡ true
+      go true e = refl
+      go false e = absurd (true≢false (sym (holds-in (length cs) (copyTable ms cs) (missing-in-table m c hm hc e)) ∙ h))
+
+  pub open-table : holds eqb (length cs) (copyTable ms cs) ≡ true → NotClosed ms cs
+  unfolding copyTable copyRow
+  open-table h =
+      let r = in-join (copyRow cs) (length cs) ms (in-holds (length cs) (copyTable ms cs) h) in
+      let i = in-map (λ x. find cs (mulVec (r .0) x)) (length cs) cs (r .2) in
+      (r .0, i .0, r .1, i .1, go (r .0) (i .0) (i .2) (found cs (mulVec (r .0) (i .0))) refl)
+    where
+      go : (m : Matrix) (c : Vector) → length cs ≡ find cs (mulVec m c) → (b : Bool) → found cs (mulVec m c) ≡ b → b ≡ false
+      go m c q true e = let k = found-near cs (mulVec m c) e in absurd (omega (arith, k .0))
+      go m c q false e = refl
+
 -- ---- there is a copy
 
--- cells that are whole parts are one part at least
+-- Cells that make up whole parts make up at least one.
 some-part : (l n : ℕ) → 0 < l → l % n ≡ 0 → 0 < l / n
 some-part l n h q = go (l / n) (div-add-mod' l n)
   where

@@ -65,27 +65,28 @@ module _ {A : Type 0} (R : A → A → Type 0) where
   ordered-at d (x ∷ l) o zero (suc j) h k = o .0 (getD l j d) (in-getD d l j (omega arith))
   ordered-at d (x ∷ l) o (suc i) (suc j) h k = ordered-at d l (o .1) i j (omega arith) (omega arith)
 
-module _ {A : Type 0} (g : ℕ → List A) where
-  pub join-in : (t : A) (x : ℕ) (l : List ℕ) → In x l → In t (g x) → In t (join (map g l))
+module _ {A B : Type 0} (g : B → List A) where
+  pub join-in : (t : A) (x : B) (l : List B) → In x l → In t (g x) → In t (join (map g l))
   unfolding join
   join-in t x (y ∷ l) (inl q) m = in-left t (g y) (join (map g l)) (rw (← q) m)
   join-in t x (y ∷ l) (inr h) m = in-right t (g y) (join (map g l)) (join-in t x l h m)
 
-  pub in-join : (t : A) (l : List ℕ) → In t (join (map g l)) → (x : ℕ) × In x l × In t (g x)
+  pub in-join : (t : A) (l : List B) → In t (join (map g l)) → (x : B) × In x l × In t (g x)
   unfolding join
   in-join t (y ∷ l) m = go (in-either t (g y) (join (map g l)) m) (λ h. in-join t l h)
     where
-      go : In t (g y) ⊎ In t (join (map g l)) → (In t (join (map g l)) → (x : ℕ) × In x l × In t (g x)) → (x : ℕ) × In x (y ∷ l) × In t (g x)
+      go : In t (g y) ⊎ In t (join (map g l)) → (In t (join (map g l)) → (x : B) × In x l × In t (g x)) → (x : B) × In x (y ∷ l) × In t (g x)
       go (inl h) f = (y, inl refl, h)
       go (inr h) f = let r = f h in (r .0, inr (r .1), r .2)
 
+module _ {A : Type 0} (g : ℕ → List A) where
   -- where a lower number's list stands before a greater number's
   ordered-join : (R : A → A → Type 0) (l : List ℕ) → Rising l → ((x : ℕ) → Ordered R (g x))
       → ((x y : ℕ) (t u : A) → x < y → In t (g x) → In u (g y) → R t u) → Ordered R (join (map g l))
   unfolding join
   ordered-join R [] w each apart = tt
   ordered-join R (x ∷ l) w each apart = ordered-append R (g x) (join (map g l)) (each x) (ordered-join R l (rest x l w) each apart)
-      (λ t u h m. let k = in-join u l m in apart x (k .0) t u (above x (k .0) l w (k .1)) h (k .2))
+      (λ t u h m. let k = in-join g u l m in apart x (k .0) t u (above x (k .0) l w (k .1)) h (k .2))
     where
       rest : (x : ℕ) (l : List ℕ) → RisingAbove x l → Rising l
       rest x [] v = tt

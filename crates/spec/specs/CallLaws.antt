@@ -1,6 +1,6 @@
--- Statements about the calls: that no empty list passes for success, when a call answers 13 and what then stands in the outputs, what every other refusal
--- leaves untouched, that outputs keep their lengths, and what the calls answer for a solid without proper ranks; and about finding, which search and copying
--- share.
+-- Statements about the calls: that no empty list passes for success, when a call answers 13 or copying 14 and what then stands in the outputs, what every
+-- other refusal leaves untouched, that outputs keep their lengths, and what the calls answer for a solid without proper ranks; and about finding, which
+-- search and copying share.
 -- Assumes nothing.
 use mathlib.Core.Path.{_≡_}
 use mathlib.Core.Logic.{_≢_, _⊎_}
@@ -8,22 +8,22 @@ use Prim.Native.Nat.{ℕ, suc, _*_, _≤_, _<_}
 use mathlib.Core.Bool.{true, false}
 use mathlib.Core.Option.{some}
 use mathlib.Core.List.{List, [], map}
-use lib.ListN.{length, getD, take}
+use lib.ListN.{length, getD, take, replicate}
 use lib.Ieee.{Float}
 use Rattle.spec.specs.declared.Refusal.{Refusal}
 use Rattle.spec.specs.declared.Refusal.the-variants.{NotFull, ShortSheet, Open}
 use Rattle.spec.specs.declared.Answer.{Answer}
 use Rattle.spec.specs.declared.Answer.the-variants.{Done, Refused}
 use Rattle.spec.specs.Limits.{maxCount}
-use Rattle.spec.specs.Lists.{join}
+use Rattle.spec.specs.Lists.{In, join}
 use Rattle.spec.specs.Types.{State, given, elementTypes}
-use Rattle.spec.specs.Matrix.{Vector}
+use Rattle.spec.specs.Matrix.{Vector, Matrix, mulVec}
 use Rattle.spec.specs.Judged.{Judged, passed}
 use Rattle.spec.specs.Sheet.{Parsed, readSheet}
 use Rattle.spec.specs.Solid.{Concrete, preflight}
 use Rattle.spec.specs.Classes.{typesOf}
 use Rattle.spec.specs.Search.{Member}
-use Rattle.spec.specs.Copying.{near, found, find, copies, points, matrices, written, copyCall}
+use Rattle.spec.specs.Copying.{near, found, find, copies, copyTable, points, matrices, written, copyCall}
 use Rattle.spec.specs.Calls.{Given, typeCells, TypesOut, typesCall, haveRoom, membersIn, rotationsIn, SearchOut, roomOf, searchCall, rotationsCall}
 
 -- A lent output is as long after a call as it was before.
@@ -123,23 +123,67 @@ EveryLowSheet = (b : List ℕ) (p : Parsed) → readSheet b ≡ passed p → p .
 
 -- ---- copying
 
--- The laws of a copying call in d dimensions, with the points ps, the matrices ts, and its two outputs as they were before the call.
-pub record CopyCallLaws (d : ℕ) (ps ts outPoints : List Float) (outTable : List ℕ) : Type 0 where
-  -- Success means at least one copy and at most 2,048, and both outputs have room for all of them.
-  pub done : (n : ℕ) → copyCall d ps ts outPoints outTable .0 ≡ Done n
-      → (0 < n) × (n ≤ maxCount) × (n * d ≤ length outPoints) × (length (matrices d ts) * n ≤ length outTable)
-  -- 13 comes when "points and then table entries, exceed their buffers; copies over 2,048".
-  pub short : (k : ℕ) → copyCall d ps ts outPoints outTable .0 ≡ Refused ShortSheet k →
-      let n = length (copies (matrices d ts) (points d ps)) in
-      (maxCount < n) ⊎ (length outPoints < n * d) ⊎ (length outTable < length (matrices d ts) * n)
-  -- "Outputs are untouched, except: 13 keeps what fitted .. (points only); 14 ..": any other refusal leaves both as they were, and 13 leaves the table.
-  pub untouched : (why : Refusal) (k : ℕ) → copyCall d ps ts outPoints outTable .0 ≡ Refused why k → why ≢ ShortSheet → why ≢ Open
-      → (copyCall d ps ts outPoints outTable .1 ≡ outPoints) × (copyCall d ps ts outPoints outTable .2 ≡ outTable)
-  pub points-only : (k : ℕ) → copyCall d ps ts outPoints outTable .0 ≡ Refused ShortSheet k → copyCall d ps ts outPoints outTable .2 ≡ outTable
-  pub lengths : SameLength outPoints (copyCall d ps ts outPoints outTable .1) × SameLength outTable (copyCall d ps ts outPoints outTable .2)
+-- Every matrix of ms takes every copy of cs to a point that is found among the copies.
+abbrev pub Closed : List Matrix → List Vector → Type 0
+Closed ms cs = (m : Matrix) (c : Vector) → In m ms → In c cs → found cs (mulVec m c) ≡ true
 
+-- Some matrix takes some copy to a point that is not found among the copies.
+abbrev pub NotClosed : List Matrix → List Vector → Type 0
+NotClosed ms cs = (m : Matrix) × (c : Vector) × In m ms × In c cs × (found cs (mulVec m c) ≡ false)
+
+-- A copying call in d dimensions: ms are its matrices, cs are all copies of its points under them, and outPoints and outTable are its two outputs as they were
+-- before the call.
+module _ (d : ℕ) (ms : List Matrix) (cs : List Vector) (outPoints : List Float) (outTable : List ℕ) where
+  -- What success with the count n means: n is how many copies there are, at least one and at most 2,048; both outputs have room for everything, and they hold
+  -- all copies and the whole table, with every cell behind these as it was; and every image is among the copies.
+  pub record AllCopies (n : ℕ) (newPoints : List Float) (newTable : List ℕ) : Type 0 where
+    pub count : n ≡ length cs
+    pub some-copy : 0 < n
+    pub limit : n ≤ maxCount
+    pub points-fit : n * d ≤ length outPoints
+    pub table-fit : length ms * n ≤ length outTable
+    pub points : newPoints ≡ written (join cs) outPoints
+    pub table : newTable ≡ written (copyTable ms cs) outTable
+    pub closed : Closed ms cs
+
+  -- What 13 with the count k means: k copies fitted, and either there are more or the table does not fit; the points' output holds the first k with every cell
+  -- behind them as it was, and the table's output is untouched.
+  pub record FirstCopies (k : ℕ) (newPoints : List Float) (newTable : List ℕ) : Type 0 where
+    pub among : k ≤ length cs
+    pub limit : k ≤ maxCount
+    pub points-fit : k * d ≤ length outPoints
+    -- Either there are more copies and k is 2,048; or there are more and the points' output has no room for one of them; or k is all copies, and only the table's
+    -- output is too short.
+    pub exceed : ((k < length cs) × (k ≡ maxCount)) ⊎ ((k < length cs) × (length outPoints < suc k * d)) ⊎ ((k ≡ length cs) × (length outTable < length ms * k))
+    pub points : newPoints ≡ written (join (take k cs)) outPoints
+    pub table : newTable ≡ outTable
+
+  -- What 14 with the count k means: k is how many copies there are, and the points' output holds all of them; the table's entries, matrices times copies, are
+  -- 65,535 with every cell behind them as it was; and some image is not among the copies.
+  pub record OpenCopies (k : ℕ) (newPoints : List Float) (newTable : List ℕ) : Type 0 where
+    pub count : k ≡ length cs
+    pub limit : k ≤ maxCount
+    pub points-fit : k * d ≤ length outPoints
+    pub table-fit : length ms * k ≤ length outTable
+    pub points : newPoints ≡ written (join cs) outPoints
+    pub table : newTable ≡ written (replicate (length ms * k) 65535) outTable
+    pub missing : NotClosed ms cs
+
+  -- The laws of such a call, where o is what it answers and what it leaves in its two outputs.
+  pub record CopyCallLaws (o : Answer × List Float × List ℕ) : Type 0 where
+    pub done : (n : ℕ) → o .0 ≡ Done n → AllCopies n (o .1) (o .2)
+    -- 13: "points and then table entries, exceed their buffers; copies over 2,048", and it "keeps what fitted .. in copying (points only)"
+    pub short : (k : ℕ) → o .0 ≡ Refused ShortSheet k → FirstCopies k (o .1) (o .2)
+    -- 14: "an image isn't among the copies", and it "keeps the points and sets the table's entries, matrices times copies, to 65,535"
+    pub unclosed : (k : ℕ) → o .0 ≡ Refused Open k → OpenCopies k (o .1) (o .2)
+    -- "Outputs are untouched, except: 13 .. 14 .."
+    pub untouched : (why : Refusal) (k : ℕ) → o .0 ≡ Refused why k → why ≢ ShortSheet → why ≢ Open → (o .1 ≡ outPoints) × (o .2 ≡ outTable)
+    pub lengths : SameLength outPoints (o .1) × SameLength outTable (o .2)
+
+-- Every copying call obeys these laws: ps holds the coordinates of its points, and ts the entries of its matrices.
 abbrev pub EveryCopyCall : Type 0
-EveryCopyCall = (d : ℕ) (ps ts outPoints : List Float) (outTable : List ℕ) → CopyCallLaws d ps ts outPoints outTable
+EveryCopyCall = (d : ℕ) (ps ts outPoints : List Float) (outTable : List ℕ)
+    → CopyCallLaws d (matrices d ts) (copies (matrices d ts) (points d ps)) outPoints outTable (copyCall d ps ts outPoints outTable)
 
 -- ---- finding
 
