@@ -1,15 +1,16 @@
--- docs/DIFFERENCES.md: on each smallest input where the Rust differs, what document 01's definitions give, and whether the input is clean (section 6).
+-- For the rows of docs/DIFFERENCES.md: what document 01's definitions give on each smallest input where the Rust differs, and whether the input is clean (section 6).
 -- Assumes nothing.
 use mathlib.Core.Path.{_≡_, refl}
 use Prim.Native.Nat.{ℕ}
 use mathlib.Core.Bool.{true, false}
 use mathlib.Core.Option.{some}
-use mathlib.Core.List.{List, [], _∷_, map}
+use mathlib.Core.List.{List, [], _∷_, _++_, map}
 use lib.ListN.{length, replicate, take}
-use lib.Ieee.{Float, binary64, ofBits, toBits}
+use lib.Ieee.{Float, binary64, ofBits}
 use Rattle.spec.specs.declared.Answer.the-variants.{Done}
 use Rattle.spec.specs.Ascii.{ascii}
-use Rattle.spec.specs.Copying.{copies, copyCall}
+use Rattle.spec.specs.Lists.{join}
+use Rattle.spec.specs.Copying.{copyCall}
 use Rattle.spec.specs.Calls.{searchCall}
 use Rattle.spec.specs.KitText.{kitText}
 use Rattle.spec.specs.Judged.{passed, _>>=_}
@@ -56,6 +57,11 @@ abbrev doubleCorner : List ℕ
 doubleCorner =
     68 ∷ 0 ∷ 143 ∷ 252 ∷ 0 ∷ 0 ∷ 0 ∷ 0 ∷ 0 ∷ 0 ∷ 15 ∷ 252 ∷ 0 ∷ 0 ∷ 0 ∷ 0 ∷ 0 ∷ 0 ∷ 0 ∷ []
 
+-- The first edge of the square passes through the origin, so that it changes places with the second.
+abbrev crossedSquare : List ℕ
+crossedSquare =
+    104 ∷ 1 ∷ 0 ∷ 16 ∷ 255 ∷ 192 ∷ 0 ∷ 0 ∷ 0 ∷ 0 ∷ 0 ∷ 0 ∷ 255 ∷ 192 ∷ 0 ∷ 0 ∷ 0 ∷ 0 ∷ 0 ∷ 2 ∷ 255 ∷ 192 ∷ 0 ∷ 0 ∷ 0 ∷ 0 ∷ 0 ∷ 2 ∷ 255 ∷ 192 ∷ 0 ∷ 0 ∷ 0 ∷ 0 ∷ 0 ∷ 0 ∷ 255 ∷ 192 ∷ 0 ∷ 0 ∷ 0 ∷ 0 ∷ 0 ∷ 2 ∷ 255 ∷ 192 ∷ 0 ∷ 0 ∷ 0 ∷ 0 ∷ 0 ∷ 2 ∷ 255 ∷ 192 ∷ 0 ∷ 0 ∷ 0 ∷ 0 ∷ 0 ∷ 0 ∷ 255 ∷ 192 ∷ 0 ∷ 0 ∷ 0 ∷ 0 ∷ 0 ∷ 0 ∷ 0 ∷ 128 ∷ 0 ∷ 1 ∷ 0 ∷ 32 ∷ 2 ∷ 0 ∷ 128 ∷ 8 ∷ 1 ∷ 0 ∷ 48 ∷ 2 ∷ 0 ∷ 0 ∷ 12 ∷ []
+
 pub nearTwo-text : kitText nearTwo ≡ ascii "types 6\n1 0 0 1\n1 1 1 1\n1 2 2 1\n2 0 0 1\n2 1 1 1\n2 2 2 1\nrefused 8\n"
 unfolding evaluate
 nearTwo-text = refl
@@ -83,6 +89,10 @@ notFinite-text = refl
 pub doubleCorner-text : kitText doubleCorner ≡ ascii "types 1\n1 0 0 2\nrefused 9\n"
 unfolding evaluate
 doubleCorner-text = refl
+
+pub crossedSquare-text : kitText crossedSquare ≡ ascii "types 3\n1 0 0 4\n2 0 0 2\n2 1 1 2\nmembers 4 confirmed 4 rotations 2\n"
+unfolding evaluate
+crossedSquare-text = refl
 
 -- The second row of R = 2 at 1.1e-7, −0.5e-7 is 1 0.
 pub nearTwoVertices-rows : searchCall nearTwoVertices 96 80 (record { matrices = replicate 2 (ofBits binary64 0); rows = replicate 4 7; marks = replicate 2 7 }) .1 .rows ≡ 0 ∷ 1 ∷ 1 ∷ 0 ∷ []
@@ -120,10 +130,11 @@ pub member-counts : map (λ c. search c >>= λ ms. passed (length ms)) (later �
 unfolding evaluate
 member-counts = refl
 
--- (0,5), (8e-8,0), (−5e-8,5) under the identity has two copies.
-pub identity-copies : map (map (toBits binary64)) (copies (map vecs (one ∷ [])) (vecs threePoints)) ≡ take 2 threePoints
-unfolding evaluate
-identity-copies = refl
+-- (0,5), (8e-8,0) and (−5e-8,5) are copied under the identity, with room for three copies. The third point is found among the copies, so that there are two.
+pub foundPoint : copyCall 2 (map (ofBits binary64) (join threePoints)) (map (ofBits binary64) (join one)) (replicate 6 (ofBits binary64 0)) (replicate 3 7)
+    ≡ (Done 2, map (ofBits binary64) (join (take 2 threePoints) ++ 0 ∷ 0 ∷ []), 0 ∷ 1 ∷ 7 ∷ [])
+unfolding all
+foundPoint = refl
 
 -- ---- clean
 
@@ -143,6 +154,11 @@ clean-refused = refl
 pub clean-refused-9 : clean (triangleOf 2 ((0x4130000000000000 ∷ 0 ∷ []) ∷ (0x4130000000000000 ∷ 0x000730d67819e8d2 ∷ []) ∷ (0 ∷ 0x3ff0000000000000 ∷ []) ∷ [])) ≡ true
 unfolding evaluate
 clean-refused-9 = refl
+
+-- The square whose edges cross is clean, and yet the Rust differs: it is the one difference that is known on clean input.
+pub clean-crossed : cleanSheet crossedSquare ≡ passed true
+unfolding evaluate
+clean-crossed = refl
 
 -- Two solids that are searched, the second with its facets exchanged, are clean.
 pub clean-solids : map cleanSheet (square ∷ triangle ∷ []) ≡ passed true ∷ passed true ∷ []
@@ -187,6 +203,6 @@ unfolding evaluate
 not-clean-found-copies = refl
 
 -- Nor is that of (0,5), (8e-8,0), (−5e-8,5) under the identity, where the Rust has 3 copies and these definitions have 2.
-pub not-clean-points : cleanCopying 2 (vecs threePoints) (map vecs (one ∷ [])) ≡ false
+pub not-clean-found-point : cleanCopying 2 (vecs threePoints) (map vecs (one ∷ [])) ≡ false
 unfolding evaluate
-not-clean-points = refl
+not-clean-found-point = refl
