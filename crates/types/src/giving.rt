@@ -90,7 +90,8 @@ fn write_table(words: &[u32], low: usize, sh: Shape, table: &mut [u16])
     requires { ⌜ Countable sh low (now words) ⌝ }
     requires { ⌜ 4 * typeCount (solidIn sh (take low (now words))) (stateIn sh low (now words)) ≤ length (now table) ⌝ }
     ensures { λ _. ⌜ now (table .exit)
-        ≡ written (join (map typeCells (elementTypes (solidIn sh (take low (now (words .entry)))) (stateIn sh low (now (words .entry)))))) (now (table .entry)) ⌝ }
+        ≡ written (join (map typeCells (elementTypes (solidIn sh (take low (now (words .entry)))) (stateIn sh low (now (words .entry))))))
+        (now (table .entry)) ⌝ }
 {
     let rank = sh.rank;
     let mut m: usize = 0;
