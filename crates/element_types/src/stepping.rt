@@ -37,7 +37,8 @@ fn step_at(
     out: usize,
 )
     requires { ⌜ Ready (now words) low lists n base from out ⌝ }
-    ensures { λ _. ⌜ take out (now (words .exit)) ≡ over (take out (now (words .entry))) from (from + n) (renumber eqList (keysTo (now (words .entry)) low lists base from n)) ⌝ }
+    ensures { λ _. ⌜ take out (now (words .exit)) ≡ over (take out (now (words .entry))) from (from + n)
+        (renumber eqList (keysTo (now (words .entry)) low lists base from n)) ⌝ }
 {
     number_rank(words, low, lists, n, base, from, out);
     copy_down(words, from, out, n);

@@ -11,7 +11,8 @@ ghost use Rattle.element_types.specs.State.{stateIn, Sweepable, ups, dow
 fn sweep_up(words: &mut [u32], low: usize, sh: Shape)
     requires { ⌜ Sweepable sh low (now words) ⌝ }
     ensures { λ _. ⌜ take low (now (words .exit)) ≡ take low (now (words .entry)) ⌝ }
-    ensures { λ _. ⌜ stateIn sh low (now (words .exit)) ≡ play (solidIn sh (take low (now (words .entry)))) (stateIn sh low (now (words .entry))) (ups 1 (sh .rank)) ⌝ }
+    ensures { λ _. ⌜ stateIn sh low (now (words .exit)) ≡ play (solidIn sh (take low (now (words .entry)))) (stateIn sh low (now (words .entry)))
+        (ups 1 (sh .rank)) ⌝ }
 {
     let rank = sh.rank;
     let mut r: usize = 1;
@@ -24,7 +25,8 @@ fn sweep_up(words: &mut [u32], low: usize, sh: Shape)
 fn sweep_down(words: &mut [u32], low: usize, sh: Shape)
     requires { ⌜ Sweepable sh low (now words) ⌝ }
     ensures { λ _. ⌜ take low (now (words .exit)) ≡ take low (now (words .entry)) ⌝ }
-    ensures { λ _. ⌜ stateIn sh low (now (words .exit)) ≡ play (solidIn sh (take low (now (words .entry)))) (stateIn sh low (now (words .entry))) (downs (sh .rank)) ⌝ }
+    ensures { λ _. ⌜ stateIn sh low (now (words .exit)) ≡ play (solidIn sh (take low (now (words .entry)))) (stateIn sh low (now (words .entry)))
+        (downs (sh .rank)) ⌝ }
 {
     let mut r: usize = sh.rank;
     while 1 < r {

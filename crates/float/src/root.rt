@@ -76,7 +76,8 @@ fn long_root(n: u64) -> Whole
 // The square of the root in units of 2^-1074, for the argument with the pattern b: with 53 digits before the zeros.
 fn argument(b: u64) -> Scaled
     requires { ⌜ (0 < b) × (b < 2047 * 2 ^ 52) ⌝ }
-    ensures { λ r. ⌜ (2 ^ 52 ≤ r .digits) × (r .digits < 2 ^ 53) × (1022 ≤ r .zeros) × (r .zeros < 3120) × (r .digits * 2 ^ r .zeros ≡ inUnits (ofBits binary64 b) * 2 ^ 1074) ⌝ }
+    ensures { λ r. ⌜ (2 ^ 52 ≤ r .digits) × (r .digits < 2 ^ 53) × (1022 ≤ r .zeros) × (r .zeros < 3120)
+        × (r .digits * 2 ^ r .zeros ≡ inUnits (ofBits binary64 b) * 2 ^ 1074) ⌝ }
 {
     let field = b >> 52;
     if field == 0 {

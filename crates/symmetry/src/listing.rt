@@ -94,8 +94,10 @@ fn passes(
     requires { ⌜ Searching sh low (now words) (now floats) at ⌝ }
     requires { ⌜ size (solidIn sh (take low (now words))) 1 ≤ length (now row) ⌝ }
     requires { ⌜ (lone ≡ true → Lone (solidAt sh low (now words) (now floats) .points)) ⌝ }
-    ensures { λ r. ⌜ r ≡ passing (solidAt sh low (now (words .entry)) (now (floats .entry))) (stateIn sh low (now (words .entry))) (corner (sh .dimension) m) ⌝ }
-    ensures { λ r. ⌜ (r ≡ true → take (size (solidIn sh (take low (now (words .entry)))) 1) (now (row .exit)) ≡ rowOf (solidAt sh low (now (words .entry)) (now (floats .entry)) .points) (corner (sh .dimension) m)) ⌝ }
+    ensures { λ r. ⌜ r ≡ passing (solidAt sh low (now (words .entry)) (now (floats .entry))) (stateIn sh low (now (words .entry)))
+        (corner (sh .dimension) m) ⌝ }
+    ensures { λ r. ⌜ (r ≡ true → take (size (solidIn sh (take low (now (words .entry)))) 1) (now (row .exit))
+        ≡ rowOf (solidAt sh low (now (words .entry)) (now (floats .entry)) .points) (corner (sh .dimension) m)) ⌝ }
 {
     let v = vertex_count(sh);
     if !row_of(floats, sh.dimension, v, lone, places, m, row) {
@@ -122,7 +124,9 @@ fn try_candidate(
 ) -> Tried
     requires { ⌜ Searching sh low (now words) (now floats) at ⌝ }
     requires { ⌜ (lone ≡ true → Lone (solidAt sh low (now words) (now floats) .points)) ⌝ }
-    ensures { λ t. ⌜ ((c : Concrete) (i : Matrix) → Came (sh .dimension) (length (solidAt sh low (now (words .entry)) (now (floats .entry)) .points)) left (listedIf rotations (tested (settingOf c (solidAt sh low (now (words .entry)) (now (floats .entry))) (stateIn sh low (now (words .entry))) i) (corner (sh .dimension) m))) t (now (matrices .entry)) (now (matrices .exit)) (now (rows .entry)) (now (rows .exit))) ⌝ }
+    ensures { λ t. ⌜ ((c : Concrete) (i : Matrix) → Came (sh .dimension) (length (solidAt sh low (now (words .entry)) (now (floats .entry)) .points)) left
+        (listedIf rotations (tested (settingOf c (solidAt sh low (now (words .entry)) (now (floats .entry))) (stateIn sh low (now (words .entry))) i)
+        (corner (sh .dimension) m))) t (now (matrices .entry)) (now (matrices .exit)) (now (rows .entry)) (now (rows .exit))) ⌝ }
 {
     let d = sh.dimension;
     if rotations {
@@ -164,7 +168,10 @@ fn try_flag(
     requires { ⌜ IsFlag (solidIn sh (take low (now words))) (flagIn (sh .rank) flag) ⌝ }
     requires { ⌜ flagIn (sh .rank) first ≡ firstFlag (solidIn sh (take low (now words))) ⌝ }
     requires { ⌜ (lone ≡ true → Lone (solidAt sh low (now words) (now floats) .points)) ⌝ }
-    ensures { λ t. ⌜ ((c : Concrete) → Came (sh .dimension) (length (solidAt sh low (now (words .entry)) (now (floats .entry)) .points)) left (gives (settingOf c (solidAt sh low (now (words .entry)) (now (floats .entry))) (stateIn sh low (now (words .entry))) (corner (sh .dimension) inv)) rotations (flagIn (sh .rank) flag)) t (now (matrices .entry)) (now (matrices .exit)) (now (rows .entry)) (now (rows .exit))) ⌝ }
+    ensures { λ t. ⌜ ((c : Concrete) → Came (sh .dimension) (length (solidAt sh low (now (words .entry)) (now (floats .entry)) .points)) left
+        (gives (settingOf c (solidAt sh low (now (words .entry)) (now (floats .entry))) (stateIn sh low (now (words .entry)))
+        (corner (sh .dimension) inv)) rotations (flagIn (sh .rank) flag)) t (now (matrices .entry)) (now (matrices .exit)) (now (rows .entry))
+        (now (rows .exit))) ⌝ }
 {
     if !same_types(words, low, sh, flag, first) {
         return Tried::Skipped;
@@ -200,7 +207,10 @@ pub fn list_members(
     rows: &mut [u16],
 ) -> Listing
     requires { ⌜ Searching sh low (now words) (now floats) at ⌝ }
-    ensures { λ r. ⌜ ((c : Concrete) → Listed (settingOf c (solidAt sh low (now (words .entry)) (now (floats .entry))) (stateIn sh low (now (words .entry))) (corner (sh .dimension) inv)) rotations (record { floats = length (now (matrices .entry)); entries = length (now (rows .entry)); marks = room }) (flags (solidIn sh (take low (now (words .entry))))) r (now (matrices .entry)) (now (matrices .exit)) (now (rows .entry)) (now (rows .exit))) ⌝ }
+    ensures { λ r. ⌜ ((c : Concrete) → Listed (settingOf c (solidAt sh low (now (words .entry)) (now (floats .entry)))
+        (stateIn sh low (now (words .entry))) (corner (sh .dimension) inv)) rotations
+        (record { floats = length (now (matrices .entry)); entries = length (now (rows .entry)); marks = room })
+        (flags (solidIn sh (take low (now (words .entry))))) r (now (matrices .entry)) (now (matrices .exit)) (now (rows .entry)) (now (rows .exit))) ⌝ }
 {
     let first = Flag::first(&words[..low], sh);
     let d = sh.dimension;

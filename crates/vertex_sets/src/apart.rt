@@ -16,7 +16,8 @@ ghost use Rattle.vertex_sets.specs.Prints.{Element, Ready};
 fn is_repeated(words: &[u32], low: usize, sh: Shape, at: usize, r: usize, e: usize) -> bool
     requires { ⌜ Ready sh low (now words) at ⌝ }
     requires { ⌜ Element sh r e ⌝ }
-    ensures { λ b. ⌜ b ≡ holds eqList (vertices (solidIn sh (take low (now (words .entry)))) r e) (drop (suc e) (vertexSets (solidIn sh (take low (now (words .entry)))) r)) ⌝ }
+    ensures { λ b. ⌜ b ≡ holds eqList (vertices (solidIn sh (take low (now (words .entry)))) r e)
+        (drop (suc e) (vertexSets (solidIn sh (take low (now (words .entry)))) r)) ⌝ }
 {
     let mut list = [0u16; MAX_COUNT];
     let n = vertex_list(&words[..low], sh, r, e, &mut list);

@@ -43,7 +43,8 @@ fn write_rank(words: &mut [u32], low: usize, sh: Shape, at: usize, r: usize)
     requires { ⌜ (low ≤ at) × (at + total sh ≤ length (now words)) ⌝ }
     requires { ⌜ (1 ≤ r) × (r < sh .rank) ⌝ }
     ensures { λ _. ⌜ take (at + firstAt sh r) (now (words .exit)) ≡ take (at + firstAt sh r) (now (words .entry)) ⌝ }
-    ensures { λ _. ⌜ ((e : ℕ) → e < sizeAt sh r → getD (now (words .exit)) (at + firstAt sh r + e) 0 ≡ printOf (vertices (solidIn sh (take low (now (words .entry)))) r e)) ⌝ }
+    ensures { λ _. ⌜ ((e : ℕ) → e < sizeAt sh r → getD (now (words .exit)) (at + firstAt sh r + e) 0
+        ≡ printOf (vertices (solidIn sh (take low (now (words .entry)))) r e)) ⌝ }
 {
     let first = sh.first[r];
     let many = sh.first[r + 1] - first;
