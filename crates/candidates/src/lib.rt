@@ -196,7 +196,8 @@ pub fn candidate(
     requires { ⌜ IsFlag (solidIn sh (now w)) (flagIn (sh .rank) flag) ⌝ }
     requires { ⌜ 1 ≤ sh .rank ⌝ }
     requires { ⌜ coordinates sh (now w) ≤ length (now points) ⌝ }
-    ensures { λ res. ⌜ corner (sh .dimension) res ≡ mulMat (flagColumns (solidOn sh (now (w .entry)) (now (points .entry)) (sh .dimension)) (flagIn (sh .rank) flag)) (corner (sh .dimension) inv) ⌝ }
+    ensures { λ res. ⌜ corner (sh .dimension) res
+        ≡ mulMat (flagColumns (solidOn sh (now (w .entry)) (now (points .entry)) (sh .dimension)) (flagIn (sh .rank) flag)) (corner (sh .dimension) inv) ⌝ }
 {
     let d = sh.dimension;
     matrix::product(columns(w, sh, points, flag), inv, d)

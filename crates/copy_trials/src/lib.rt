@@ -59,7 +59,8 @@ pub fn eight_copies(copies: &mut [f64], cells: &mut [u16]) -> Answer
 pub fn forty_eight_copies(copies: &mut [f64], cells: &mut [u16]) -> Answer
     requires { ⌜ (length (now copies) ≡ 144) × (length (now cells) ≡ 2304) ⌝ }
     ensures { λ r. ⌜ (r, now (copies .exit), now (cells .exit))
-        ≡ copyCall 3 (map (ofBits binary64) (0x3ff0_0000_0000_0000 ∷ 0x4000_0000_0000_0000 ∷ 0x4008_0000_0000_0000 ∷ [])) (join (join axisOrders)) (now (copies .entry)) (now (cells .entry)) ⌝ }
+        ≡ copyCall 3 (map (ofBits binary64) (0x3ff0_0000_0000_0000 ∷ 0x4000_0000_0000_0000 ∷ 0x4008_0000_0000_0000 ∷ []))
+        (join (join axisOrders)) (now (copies .entry)) (now (cells .entry)) ⌝ }
     ensures { λ r. ⌜ r ≡ Done 48 ⌝ }
 {
     let point = [1.0, 2.0, 3.0];

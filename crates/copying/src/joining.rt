@@ -45,7 +45,8 @@ fn spread(
     p: [f64; DIMENSION],
 ) -> Room
     requires { ⌜ (1 ≤ d) × (d ≤ maxDimension) × (n ≤ limit) × (limit * d ≤ length (now out)) ⌝ }
-    ensures { λ r. ⌜ Kept d limit (spreadOf (matrices d (now (turns .entry))) (take d p) (parts n d (now (out .entry)))) (now (out .entry)) (now (out .exit)) r ⌝ }
+    ensures { λ r. ⌜ Kept d limit (spreadOf (matrices d (now (turns .entry))) (take d p) (parts n d (now (out .entry))))
+        (now (out .entry)) (now (out .exit)) r ⌝ }
 {
     let count = turns.len() / (d * d);
     let mut held = n;
@@ -71,7 +72,8 @@ fn point_copied(
     p: [f64; DIMENSION],
 ) -> Room
     requires { ⌜ (1 ≤ d) × (d ≤ maxDimension) × (n ≤ limit) × (limit * d ≤ length (now out)) ⌝ }
-    ensures { λ r. ⌜ Kept d limit (withPoint (matrices d (now (turns .entry))) (parts n d (now (out .entry))) (take d p)) (now (out .entry)) (now (out .exit)) r ⌝ }
+    ensures { λ r. ⌜ Kept d limit (withPoint (matrices d (now (turns .entry))) (parts n d (now (out .entry))) (take d p))
+        (now (out .entry)) (now (out .exit)) r ⌝ }
 {
     if let Found::At(_) = points::find(out, d, n, p) {
         return Room::Fits(n);

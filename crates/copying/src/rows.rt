@@ -48,7 +48,8 @@ fn row(
 
 // Writes row after row, and says whether every image is among the copies.
 pub fn write(copies: &[f64], d: usize, n: usize, turns: &[f64], out: &mut [u16]) -> bool
-    requires { ⌜ (1 ≤ d) × (d ≤ maxDimension) × (n ≤ maxCount) × (n * d ≤ length (now copies)) × (length (now turns) / (d * d) * n ≤ length (now out)) × Apart (parts n d (now copies)) ⌝ }
+    requires { ⌜ (1 ≤ d) × (d ≤ maxDimension) × (n ≤ maxCount) × (n * d ≤ length (now copies))
+        × (length (now turns) / (d * d) * n ≤ length (now out)) × Apart (parts n d (now copies)) ⌝ }
     ensures { λ r. ⌜ Tabled n (copyTable (matrices d (now (turns .entry))) (parts n d (now (copies .entry)))) (now (out .entry)) (now (out .exit)) r ⌝ }
 {
     let count = turns.len() / (d * d);

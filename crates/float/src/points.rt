@@ -61,7 +61,7 @@ pub fn matrix_at(matrices: &[f64], d: usize, j: usize) -> [[f64; DIMENSION]; DIM
 }
 
 // Whether q is within EPS of p on every axis.
-pub fn near(p: &[f64], q: [f64; DIMENSION]) -> bool
+fn near(p: &[f64], q: [f64; DIMENSION]) -> bool
     requires { ⌜ length (now p) ≤ maxDimension ⌝ }
     ensures { λ r. ⌜ r ≡ near (now (p .entry)) (take (length (now (p .entry))) q) ⌝ }
 {

@@ -92,7 +92,8 @@ fn is_onto(w: &[u32], goes: &[u16], base: usize, i: usize, j: usize) -> bool
 fn first_onto(w: &[u32], goes: &[u16], base: usize, i: usize, j: usize, up: usize) -> Found
     requires { ⌜ Lies (now w) i × Lies (now w) j × Each (now w) j up ⌝ }
     requires { ⌜ ((f : ℕ) → In f (listAt (now w) i) → base + f < length (now goes)) ⌝ }
-    ensures { λ res. ⌜ res ≡ firstOf (keep (λ g. onto (λ f. getD (now (goes .entry)) (base + f) 0) (listAt (now (w .entry)) i) (listAt (now (w .entry)) (up + 4 * g)))
+    ensures { λ res. ⌜ res
+        ≡ firstOf (keep (λ g. onto (λ f. getD (now (goes .entry)) (base + f) 0) (listAt (now (w .entry)) i) (listAt (now (w .entry)) (up + 4 * g)))
         (listAt (now (w .entry)) j)) ⌝ }
 {
     let n = lists::count_at(w, j);
@@ -151,7 +152,8 @@ fn class_cell(sh: Shape, v: usize, r: usize, e: usize) -> usize
 // Whether elements e and g of rank r share a distance class, in a solid with v vertices.
 fn one_class(sh: Shape, floats: &[f64], v: usize, r: usize, e: usize, g: usize) -> bool
     requires { ⌜ (r < 7) × (sh .rank < 7) × (firstAt sh 1 ≤ firstAt sh (sh .rank)) × (firstAt sh 1 ≤ firstAt sh r) ⌝ }
-    requires { ⌜ (v * sh .dimension + proper sh + (before sh r + e) < length (now floats)) × (v * sh .dimension + proper sh + (before sh r + g) < length (now floats)) ⌝ }
+    requires { ⌜ (v * sh .dimension + proper sh + (before sh r + e) < length (now floats))
+        × (v * sh .dimension + proper sh + (before sh r + g) < length (now floats)) ⌝ }
     ensures { λ res. ⌜ res ≡ sameClass (getD (now (floats .entry)) (v * sh .dimension + proper sh + (before sh r + g)) nan)
         (getD (now (floats .entry)) (v * sh .dimension + proper sh + (before sh r + e)) nan) ⌝ }
 {
@@ -215,7 +217,8 @@ fn carry_rank(
 // Whether every proper element is carried.
 fn carry_all(w: &[u32], sh: Shape, floats: &[f64], row: &[u16], goes: &mut [u16]) -> bool
     requires { ⌜ Row sh (now w) (now row) × ClassesIn sh (now w) (now floats) × (total sh ≤ length (now goes)) ⌝ }
-    ensures { λ res. ⌜ res ≡ every (λ r. every (carriesElement (solidIn sh (now (w .entry))) (classesOn sh (now (w .entry)) (now (floats .entry))) (now (row .entry)) r)
+    ensures { λ res. ⌜ res
+        ≡ every (λ r. every (carriesElement (solidIn sh (now (w .entry))) (classesOn sh (now (w .entry)) (now (floats .entry))) (now (row .entry)) r)
         (range 0 (size (solidIn sh (now (w .entry))) r))) (properRanks (solidIn sh (now (w .entry)))) ⌝ }
 {
     let first = sh.first;
@@ -237,7 +240,8 @@ pub fn mark(w: &[u32], sh: Shape, floats: &[f64], apart: bool, row: &[u16], goes
     requires { ⌜ Held sh (now w) × ClassesIn sh (now w) (now floats) ⌝ }
     requires { ⌜ apart ≡ setsApart (solidIn sh (now w)) ⌝ }
     requires { ⌜ (length (now row) ≡ size (solidIn sh (now w)) 1) × (total sh ≤ length (now goes)) ⌝ }
-    ensures { λ m. ⌜ m ≡ elim (marked (solidIn sh (now (w .entry))) (classesOn sh (now (w .entry)) (now (floats .entry))) (now (row .entry))) [ true ↦ 1 | false ↦ 0 ] ⌝ }
+    ensures { λ m. ⌜ m
+        ≡ elim (marked (solidIn sh (now (w .entry))) (classesOn sh (now (w .entry)) (now (floats .entry))) (now (row .entry))) [ true ↦ 1 | false ↦ 0 ] ⌝ }
 {
     if !apart {
         return 0;

@@ -311,7 +311,8 @@ fn mark_few(
 )
     requires { ⌜ Markable sh (now w) (now floats) apart (length (now goes)) ⌝ }
     requires { ⌜ (v ≡ size (solidIn sh (now w)) 1) × (n * v ≤ length (now rows)) × (n ≤ length (now marks)) ⌝ }
-    ensures { λ _. ⌜ now (marks .exit) ≡ written (map (markIn (concrete sh (now (w .entry)) (now (floats .entry)))) (parts n v (now (rows .entry)))) (now (marks .entry)) ⌝ }
+    ensures { λ _. ⌜ now (marks .exit)
+        ≡ written (map (markIn (concrete sh (now (w .entry)) (now (floats .entry)))) (parts n v (now (rows .entry)))) (now (marks .entry)) ⌝ }
 {
     let mut k: usize = 0;
     while k < n {
@@ -335,7 +336,8 @@ fn mark_many(
 )
     requires { ⌜ Markable sh (now w) (now floats) apart (length (now goes)) ⌝ }
     requires { ⌜ (v ≡ size (solidIn sh (now w)) 1) × (n * v ≤ length (now rows)) × (n ≤ length (now marks)) ⌝ }
-    ensures { λ _. ⌜ now (marks .exit) ≡ written (map (markIn (concrete sh (now (w .entry)) (now (floats .entry)))) (parts n v (now (rows .entry)))) (now (marks .entry)) ⌝ }
+    ensures { λ _. ⌜ now (marks .exit)
+        ≡ written (map (markIn (concrete sh (now (w .entry)) (now (floats .entry)))) (parts n v (now (rows .entry)))) (now (marks .entry)) ⌝ }
 {
     let mut guesses = [FREE; PLACES];
     let mut cells = none();
@@ -374,7 +376,8 @@ pub fn mark_rows(
 )
     requires { ⌜ Markable sh (now w) (now floats) apart (length (now goes)) ⌝ }
     requires { ⌜ (v ≡ size (solidIn sh (now w)) 1) × (n * v ≤ length (now rows)) × (n ≤ length (now marks)) ⌝ }
-    ensures { λ _. ⌜ now (marks .exit) ≡ written (map (markIn (concrete sh (now (w .entry)) (now (floats .entry)))) (parts n v (now (rows .entry)))) (now (marks .entry)) ⌝ }
+    ensures { λ _. ⌜ now (marks .exit)
+        ≡ written (map (markIn (concrete sh (now (w .entry)) (now (floats .entry)))) (parts n v (now (rows .entry)))) (now (marks .entry)) ⌝ }
 {
     if n < FEW {
         mark_few(w, sh, floats, apart, v, rows, n, goes, marks);
