@@ -101,7 +101,7 @@ uint64_t jidwaleb_types(const uint8_t *sheet, size_t sheet_length,
 /* The symmetries of a solid, which are called its members.
  *
  * sheet, words, floats  as for the types. D is the sheet's dimension, and V the number of its vertices.
- * matrices       the members' matrices, D * D floats for each member, row by row.
+ * matrices       the members' matrices, D * D floats for each member, row by row. The image of a vertex is the matrix times the vertex as a column.
  * rows           V cells for each member: the vertex that each vertex goes to.
  * marks          one cell for each member: 1 where it is confirmed, and 0 otherwise. It is confirmed exactly when all of this holds in the solid as
  *                read: no two elements of a rank have the same set of vertices; the member's row repeats no vertex; every proper element goes to
@@ -142,7 +142,7 @@ uint64_t jidwaleb_rotations(const uint8_t *sheet, size_t sheet_length,
  *
  * dimension      D, from 1 to 4.
  * points         D floats for each point.
- * turns          the matrices, D * D floats each, row by row.
+ * turns          the matrices, D * D floats each, row by row. The image of a point is the matrix times the point as a column.
  * copies         the copies found, D floats each. There are at most JIDWALEB_MAX_COPIES.
  * table          a row for each matrix, which has for each copy the number of its image among the copies. So it has as many cells as matrices
  *                times copies.

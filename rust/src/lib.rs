@@ -29,7 +29,7 @@
 //!
 //! # Linking
 //!
-//! The build script looks for `libjidwaleb.a` in the folder that the environment variable `JIDWALEB_LIB_DIR` names. Where it is not set the script
+//! The build script looks for `libjidwaleb.a` in the folder that the environment variable `JIDWALEB_LIB_DIR` names, as an absolute path. Where it is not set the script
 //! looks in `target/staticlib` of the tree that this crate is part of. The archive is for x86-64 Linux.
 //!
 //! # Stack
@@ -383,7 +383,8 @@ impl Members {
         &self.marks
     }
 
-    /// Each member as its matrix (row by row), its row (the vertex that each vertex goes to), and whether it is confirmed.
+    /// Each member as its matrix (row by row; a vertex's image is the matrix times the vertex as a column), its row (the vertex that each vertex goes
+    /// to), and whether it is confirmed.
     ///
     /// ```
     /// // where the confirmed rotations of a cube take corner 0
@@ -480,7 +481,8 @@ pub fn rotations(sheet: &[u8]) -> Result<Members> {
 /// Writes the copies of the points under the matrices into `copies`, and for each matrix a row of the numbers of the copies' images into `table`. Says how
 /// many copies there are.
 ///
-/// A point has `dimension` floats, and a matrix has `dimension` times `dimension`, row by row. At [`Refusal::ShortSheet`] the copies that fitted are
+/// A point has `dimension` floats, and a matrix has `dimension` times `dimension`, row by row; a point's image is the matrix times the point as a
+/// column. At [`Refusal::ShortSheet`] the copies that fitted are
 /// written, and at [`Refusal::Open`] all copies are, while the cells of the table are 65,535.
 pub fn copy_into(dimension: usize, points: &[f64], turns: &[f64], copies: &mut [f64], table: &mut [u16]) -> Result<usize> {
     // SAFETY: each pointer and length are those of a slice. Slices that are lent for writing overlap no other.

@@ -115,8 +115,8 @@ foundCopies = refl
 abbrev vecs : List (List ℕ) → List (List Float)
 vecs l = map (map (ofBits binary64)) l
 
-abbrev one : List (List ℕ)
-one = (0x3ff0000000000000 ∷ 0 ∷ []) ∷ (0 ∷ 0x3ff0000000000000 ∷ []) ∷ []
+abbrev identity : List (List ℕ)
+identity = (0x3ff0000000000000 ∷ 0 ∷ []) ∷ (0 ∷ 0x3ff0000000000000 ∷ []) ∷ []
 
 abbrev threePoints : List (List ℕ)
 threePoints = (0 ∷ 0x4014000000000000 ∷ []) ∷ (0x3e75798ee2308c3a ∷ 0 ∷ []) ∷ (0xbe6ad7f29abcaf48 ∷ 0x4014000000000000 ∷ []) ∷ []
@@ -131,7 +131,7 @@ unfolding evaluate
 member-counts = refl
 
 -- (0,5), (8e-8,0) and (−5e-8,5) are copied under the identity, with room for three copies. The third point is found among the copies, so that there are two.
-pub foundPoint : copyCall 2 (map (ofBits binary64) (join threePoints)) (map (ofBits binary64) (join one)) (replicate 6 (ofBits binary64 0)) (replicate 3 7)
+pub foundPoint : copyCall 2 (map (ofBits binary64) (join threePoints)) (map (ofBits binary64) (join identity)) (replicate 6 (ofBits binary64 0)) (replicate 3 7)
     ≡ (Done 2, map (ofBits binary64) (join (take 2 threePoints) ++ 0 ∷ 0 ∷ []), 0 ∷ 1 ∷ 7 ∷ [])
 unfolding all
 foundPoint = refl
@@ -155,7 +155,7 @@ pub clean-refused-9 : clean (triangleOf 2 ((0x4130000000000000 ∷ 0 ∷ []) ∷
 unfolding evaluate
 clean-refused-9 = refl
 
--- The square whose edges cross is clean, and yet the Rust differs: it is the one difference that is known on clean input.
+-- The square whose edges cross is clean, and yet the Rust differs: it is the one difference that is known on clean input which 01 does not refuse.
 pub clean-crossed : cleanSheet crossedSquare ≡ passed true
 unfolding evaluate
 clean-crossed = refl
@@ -180,7 +180,7 @@ not-clean-exchanged = refl
 
 -- The copying of (1,0) under the four quarter turns is clean.
 pub clean-quarter-turns : cleanCopying 2 (vecs ((0x3ff0000000000000 ∷ 0 ∷ []) ∷ [])) (map vecs (
-    one
+    identity
     ∷ ((0 ∷ 0xbff0000000000000 ∷ []) ∷ (0x3ff0000000000000 ∷ 0 ∷ []) ∷ [])
     ∷ ((0xbff0000000000000 ∷ 0 ∷ []) ∷ (0 ∷ 0xbff0000000000000 ∷ []) ∷ [])
     ∷ ((0 ∷ 0x3ff0000000000000 ∷ []) ∷ (0xbff0000000000000 ∷ 0 ∷ []) ∷ [])
@@ -198,11 +198,11 @@ pub not-clean-near-two-copies : cleanCopying 1 (vecs ((0x3e7ad7f29abcaf48 ∷ []
 unfolding evaluate
 not-clean-near-two-copies = refl
 
-pub not-clean-found-copies : cleanCopying 2 (vecs ((0 ∷ 0x4014000000000000 ∷ []) ∷ (0x3e75798ee2308c3a ∷ 0 ∷ []) ∷ [])) (map vecs (one ∷ ((0x3ff0000000000000 ∷ 0xbe45798ee2308c3a ∷ []) ∷ (0 ∷ 0x3ff0000000000000 ∷ []) ∷ []) ∷ [])) ≡ false
+pub not-clean-found-copies : cleanCopying 2 (vecs ((0 ∷ 0x4014000000000000 ∷ []) ∷ (0x3e75798ee2308c3a ∷ 0 ∷ []) ∷ [])) (map vecs (identity ∷ ((0x3ff0000000000000 ∷ 0xbe45798ee2308c3a ∷ []) ∷ (0 ∷ 0x3ff0000000000000 ∷ []) ∷ []) ∷ [])) ≡ false
 unfolding evaluate
 not-clean-found-copies = refl
 
 -- Nor is that of (0,5), (8e-8,0), (−5e-8,5) under the identity, where the Rust has 3 copies and these definitions have 2.
-pub not-clean-found-point : cleanCopying 2 (vecs threePoints) (map vecs (one ∷ [])) ≡ false
+pub not-clean-found-point : cleanCopying 2 (vecs threePoints) (map vecs (identity ∷ [])) ≡ false
 unfolding evaluate
 not-clean-found-point = refl

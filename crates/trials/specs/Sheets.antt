@@ -126,7 +126,7 @@ pub blank : kitText sliver ≡ ascii "types 8\n1 0 0 1\n1 1 1 1\n1 2 2 1\n1 3 3 
 unfolding evaluate
 blank = refl
 
--- "input past 8,192 bytes is refused 1", whatever it holds
+-- "input past 8,192 bytes is refused 1": here one of 8,193 bytes, and one of 8,192, which is read. `Trials` has the rule for every input.
 pub long : kitText (replicate 8193 255) ≡ ascii "refused 1\n"
 unfolding evaluate
 long = refl
