@@ -11,7 +11,7 @@ use Rattle.spec.specs.Matrix.{row}
 use Rattle.float.specs.Reading.{corner, leading}
 use Rattle.float.proofs.Leading.{row-leading}
 
--- a magnitude below infinity
+-- A magnitude below infinity.
 pub below-infinity : (x : Float) → lt (absF x) (inf false) ≡ finite x
 unfolding lt absF finite
 below-infinity nan = refl

@@ -93,7 +93,7 @@ module _ (sh : Shape) (w : List ℕ) (fl : List Float) (h : Held sh w) (one : 1 
     vertex : getD els 1 0 < size (solidIn sh w) 1
     vertex = rw (size-is sh w 1 one) (flag-in sh w h els f 1 one)
 
-    -- the vertex's coordinates lie in the slice
+    -- The vertex's coordinates lie in the slice.
     pub vertex-in : getD els 1 0 * d + d ≤ length fl
     vertex-in = omega (arith, part-end (size (solidIn sh w) 1) d (getD els 1 0) vertex, room)
 

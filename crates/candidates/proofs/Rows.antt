@@ -22,7 +22,7 @@ use Rattle.float.specs.Finding.{foundAt}
 use Rattle.float.proofs.Finding.{at-number, nothing-number}
 use Rattle.candidates.specs.Post.{Rowed}
 
--- the vertex that vertex i goes to
+-- The vertex that vertex i goes to.
 abbrev pub imageOf : List Vector → Matrix → ℕ → ℕ
 imageOf ps m i = find ps (mulVec m (getD ps i []))
 
@@ -48,7 +48,7 @@ module _ (n : ℕ) (ps : List Vector) (m : Matrix) (all : length ps ≡ n) where
   pub row-none : (old : List ℕ) → Rowing old old 0
   row-none old = record { low = omega arith; written = none; found = refl }
 
-  -- what the code answers where it looks for the image of vertex k
+  -- What the code answers where it looks for the image of vertex k.
   module _ (old cells : List ℕ) (k : ℕ) (r : Rowing old cells k) (more : k < n) (answer : Found) (e : answer ≡ foundAt n (imageOf ps m k)) where
     pub at-low : {at : ℕ} → answer ≡ At at → at < n
     at-low z = at-number (sym e ∙ z) .1

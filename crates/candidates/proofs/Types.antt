@@ -21,7 +21,7 @@ use Rattle.element_types.specs.State.{typesIn, stateIn}
 use Rattle.flag.proofs.Flags.{flag-in}
 use Rattle.candidates.specs.Post.{typesAgree}
 
--- the code's test at rank r
+-- The code's test at rank r.
 abbrev pub agree : List ℕ → ℕ → List ℕ → List ℕ → List ℕ → ℕ → Bool
 agree w low starts a b r = eqb (getD w (low + getD starts r 0 + getD a r 0) 0) (getD w (low + getD starts r 0 + getD b r 0) 0)
 
@@ -35,7 +35,7 @@ type-read sh low w r e h k =
 
 module _ (sh : Shape) (low : ℕ) (w : List ℕ) (h : Held sh (take low w)) (room : low + total sh ≤ length w) where
   module _ (els : List ℕ) (f : IsFlag (solidIn sh (take low w)) (take (suc (sh .rank)) els)) (r : ℕ) (q : r ≤ sh .rank) where
-    -- the word of an element's type
+    -- The word of an element's type.
     pub word-in : low + firstAt sh r + getD els r 0 < length w
     word-in = omega (arith, number-in sh (take low w) h r (getD els r 0) q (flag-in sh (take low w) h els f r q))
 
@@ -50,7 +50,7 @@ module _ (sh : Shape) (low : ℕ) (w : List ℕ) (h : Held sh (take low w)) (roo
       every-same _ _ (range 0 (suc (sh .rank)))
       (λ r m. let q : r ≤ sh .rank = omega (arith, of-range 0 (suc (sh .rank)) r m) in ap₂ eqb (read a f r q) (read b g r q))
 
--- with the first flag for the second, it is the test of a search
+-- With the first flag for the second, it is the test of a search.
 pub with-first : (sh : Shape) (w : List ℕ) (t : Setting) → t .searched .abs ≡ solidIn sh w → (F : Flag)
     → typesAgree (t .types) (sh .rank) F (firstFlag (solidIn sh w)) ≡ sameTypes t F
 unfolding sameTypes solidIn

@@ -20,7 +20,7 @@ use Rattle.spec.specs.Copying.{copies, points, matrices, copyTable, written, ju
 abbrev Out : Type 0
 Out = Answer × List Float × List ℕ
 
--- by how many cells the output of rows has
+-- By how many cells the output of rows has.
 abbrev answer : ℕ → List Matrix → List Vector → ℕ → Answer
 answer n ms cs k = elim (leb (length cs) n && leb (length ms * length cs) k) as (λ _. Answer) [
   | false ↦ Refused ShortSheet (length (take n cs))
@@ -62,7 +62,7 @@ call-same d ps ts o o' t t' e f = go (judgeCopy d ps ts)
     go (refused why) = refl
     go (passed u) = rw e (out-same (min maxCount (length o' / d)) (matrices d ts) (copies (matrices d ts) (points d ps)) o o' t t' f)
 
--- so outputs of zeros tell the answer for any with room for n points and 48 rows
+-- So outputs of zeros tell the answer for any with room for n points and 48 rows.
 pub call-zeros : (d n : ℕ) (ps ts o : List Float) (t : List ℕ) → length o ≡ d * n → length t ≡ 48 * n →
     copyCall d ps ts o t .0 ≡ copyCall d ps ts (replicate (d * n) zeroF) (replicate (48 * n) 0) .0
 call-zeros d n ps ts o t e f =

@@ -86,7 +86,7 @@ module _ {t : List Matrix} {before : List Float} where
   pub laid-all : {buffer : List Float} {k : ℕ} → k ≡ length t → Laid t before buffer k → buffer ≡ floats t ++ drop (length t * 9) before
   laid-all {buffer} {k} e l = l .is ∙ ap₂ (λ (x : List Matrix) (y : ℕ). floats x ++ drop (y * 9) before) (take-all k t (omega arith)) e
 
--- a buffer that has no cell more
+-- A buffer that has no cell more.
 pub whole : (t : List Matrix) (before : List Float) → length before ≤ length t * 9 → floats t ++ drop (length t * 9) before ≡ floats t
 whole t before h = ap (λ (x : List Float). floats t ++ x) (drop-of-length-le before {i = length t * 9} h) ∙ append-nil (floats t)
 

@@ -35,7 +35,7 @@ module _ {A : Type 0} where
   join-over : (a b : List (List A)) (old : List A) → written (join (a ++ b)) (written (join a) old) ≡ written (join (a ++ b)) old
   join-over a b old = rw join-append (written-over (join a) (join b) old)
 
--- the first n parts of a buffer are what it holds there
+-- The first n parts of a buffer are what it holds there.
 same : (n d : ℕ) (l : List Float) → n * d ≤ length l → l ≡ written (join (parts n d l)) l
 unfolding written
 same n d l h = rw (join-parts n d l, length-take-le (n * d) l h) (sym (take-append-drop (n * d) l))
@@ -47,7 +47,7 @@ pub record Grown (d limit : ℕ) (before buffer : List Float) (n : ℕ) : Type 0
   pub long : length buffer ≡ length before
   pub is : buffer ≡ written (join (parts n d buffer)) before
 
--- all, which begin with cs
+-- All, which begin with cs.
 abbrev pub Longer : List Vector → List Vector → Type 0
 Longer cs all = (new : List Vector) × (all ≡ cs ++ new)
 
@@ -76,7 +76,7 @@ module _ {d limit : ℕ} {before : List Float} where
         let k : limit ≡ length cs + (limit - n) = omega (arith, length-parts n d buffer, g .room) in
         (take (limit - n) (new .0), ap (take limit) (new .1) ∙ ap (λ (x : ℕ). take x (cs ++ new .0)) k ∙ take-append-add cs (new .0) (limit - n))
 
-    -- where these are more than there is room for, so are the whole
+    -- Where these are more than there is room for, so are the whole.
     pub grown-full : {after : List Float} {whole : List Vector} → Longer all whole → Overfull limit all buffer after → Overfull limit whole before after
     grown-full more k =
         let cs = parts n d buffer in
@@ -168,7 +168,7 @@ point-longer ms cs p = go (found cs p)
 
 -- ---- the loops: what is left to do gives what the whole gives
 
--- the elements of xs before j have been dealt with, by which cs came of start
+-- The elements of xs before j have been dealt with, by which cs came of start.
 pub record Done {X : Type 0} (rest : List X → List Vector → List Vector) (xs : List X) (start : List Vector) (j : ℕ) (cs : List Vector) : Type 0 where
   pub is : rest (drop j xs) cs ≡ rest xs start
 
@@ -185,7 +185,7 @@ module _ {X : Type 0} {rest : List X → List Vector → List Vector} {xs : List
     pub done-next : {j : ℕ} {cs all : List Vector} → j < length xs → all ≡ step cs (getD xs j x₀) → Done rest xs start j cs → Done rest xs start (j + 1) all
     done-next {j} {cs} h e s = rw (add-one, e) (record { is = sym (ap (λ (ys : List X). rest ys cs) (drop-cons xs j x₀ h) ∙ turn (getD xs j x₀) (drop (suc j) xs) cs) ∙ s .is })
 
-    -- the whole has all that is there after one element more
+    -- The whole has all that is there after one element more.
     pub done-longer : ((ys : List X) (cs : List Vector) → Longer cs (rest ys cs)) → {j : ℕ} {cs all : List Vector} → j < length xs → all ≡ step cs (getD xs j x₀) → Done rest xs start j cs
         → Longer all (rest xs start)
     done-longer adds {j} {cs} {all} h e s =
@@ -200,7 +200,7 @@ pub copies-nothing : (ms : List Matrix) (cs : List Vector) → copiesFrom ms [] 
 unfolding copiesFrom
 copies-nothing ms cs = refl
 
--- one matrix more
+-- One matrix more.
 pub spread-turn : (p : Vector) (m : Matrix) (ms : List Matrix) (cs : List Vector) → spread (m ∷ ms) p cs ≡ spread ms p (withImage cs (mulVec m p))
 unfolding spread
 spread-turn p m ms cs = go (found cs (mulVec m p)) refl
@@ -211,7 +211,7 @@ spread-turn p m ms cs = go (found cs (mulVec m p)) refl
     go true t = rw (image-old cs (mulVec m p) t, t)
     go false t = rw (image-new cs (mulVec m p) t, t)
 
--- one point more
+-- One point more.
 pub copies-turn : (ms : List Matrix) (p : Vector) (ps cs : List Vector) → copiesFrom ms (p ∷ ps) cs ≡ copiesFrom ms ps (withPoint ms cs p)
 unfolding copiesFrom
 copies-turn ms p ps cs = go (found cs p) refl

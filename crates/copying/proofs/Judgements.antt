@@ -62,7 +62,7 @@ module _ (d : ℕ) (ps ts : List Float) where
   unfolding judgeCopy
   judgements = rw (← last (ltb 0 (length ps) && ltb 0 (length ts)))
 
-  -- what the copying goes by
+  -- What the copying goes by.
   pub record Judgeable : Type 0 where
     pub low : 1 ≤ d
     pub high : d ≤ maxDimension

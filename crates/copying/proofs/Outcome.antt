@@ -29,7 +29,7 @@ module _ (n : ℕ) (ms : List Matrix) (cs : List Vector) (points : List Float) (
   abbrev cells : ℕ
   cells = length ms * length cs
 
-  -- the three branches
+  -- The three branches.
   short : (leb (length cs) n && leb cells (length table)) ≡ false
       → (Refused ShortSheet (length (take n cs)), written (join (take n cs)) points, table) ≡ copyOut n ms cs points table
   unfolding copyOut
@@ -45,7 +45,7 @@ module _ (n : ℕ) (ms : List Matrix) (cs : List Vector) (points : List Float) (
   unfolding copyOut
   done e f = rw (e, f, copyOut)
 
-  -- more points than there is room for
+  -- More points than there is room for.
   pub answer-full : {after : List Float} → Overfull n cs points after → (Refused ShortSheet n, after, table) ≡ copyOut n ms cs points table
   answer-full o =
       let k : length (take n cs) ≡ n = length-take-le n cs (omega (arith, o .more)) in
@@ -71,7 +71,7 @@ module _ (n : ℕ) (ms : List Matrix) (cs : List Vector) (points : List Float) (
     size : length ms * m ≡ cells
     size = ap (λ (x : ℕ). length ms * x) (sym count)
 
-    -- more cells than there is room for
+    -- More cells than there is room for.
     pub answer-short : length table < length ms * m → (Refused ShortSheet m, after, table) ≡ copyOut n ms cs points table
     answer-short h =
         ap₂ (λ (a : ℕ) (b : List Float). (Refused ShortSheet a, b, table)) kept-count points-are
@@ -87,7 +87,7 @@ module _ (n : ℕ) (ms : List Matrix) (cs : List Vector) (points : List Float) (
           ∙ ap₂ (λ (a : List Float) (b : List ℕ). (Done (length cs), a, b)) points-are (c .is)
           ∙ done room (ap (λ (a : ℕ). holds eqb a (copyTable ms cs)) count ∙ c .none)
 
-      -- the table is filled over whatever of it was written
+      -- The table is filled over whatever of it was written.
       pub answer-open : {t : List ℕ} → Opened m (copyTable ms cs) table t → (Refused Open m, after, written (replicate (length ms * m) 65535) t) ≡ copyOut n ms cs points table
       answer-open {t} o =
           ap (λ (a : ℕ). (Refused Open a, after, written (replicate (length ms * m) 65535) t)) kept-count
@@ -116,7 +116,7 @@ enough l k n h e = rw (mul-comm k n) (le-div-iff-mul-le {k = k} {x = n} {y = l} 
 pub room-fits : (l d : ℕ) → min maxCount (l / d) * d ≤ l
 room-fits l d = le-trans (mul-le-mul-right d (omega arith)) (div-mul-le-self l d)
 
--- the matrices of a slice that is not empty
+-- The matrices of a slice that is not empty.
 pub some-matrices : (d l : ℕ) → l % d ≡ 0 → 0 < l → 0 < l / d
 some-matrices d l e h = go (l / d) (div-add-mod' l d)
   where

@@ -10,7 +10,7 @@ use lib.ListN.{length, getD, drop}
 use lib.Seq.{drop-cons, drop-length}
 use Rattle.spec.specs.Lists.{every}
 
--- what stands before i passes
+-- What stands before i passes.
 pub record PassedTo {A : Type 0} (p : A → Bool) (l : List A) (i : ℕ) : Type 0 where
   pub is : every p (drop i l) ≡ every p l
 

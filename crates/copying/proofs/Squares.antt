@@ -5,13 +5,13 @@ use native.Mathlib.Nat.{mul-le-mul, mul-pos, le-trans, div-mul-le-self}
 use Rattle.spec.specs.Limits.{maxDimension}
 use Rattle.float.proofs.Parts.{part-end}
 
--- the square of a dimension
+-- The square of a dimension.
 pub square : (d : ℕ) → d ≤ maxDimension → d * d ≤ 16
 square d h = mul-le-mul h h
 
 pub square-pos : (d : ℕ) → 1 ≤ d → 1 ≤ d * d
 square-pos d h = mul-pos h h
 
--- the end of point k, of those that n floats hold
+-- The end of point k, of those that n floats hold.
 pub point-end : (d n k : ℕ) → k < n / d → k * d + d ≤ n
 point-end d n k h = le-trans (part-end (n / d) d k h) (div-mul-le-self n d)

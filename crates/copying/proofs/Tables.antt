@@ -75,7 +75,7 @@ module _ {x : ℕ} {new before : List ℕ} where
     rest : drop k buffer ≡ drop k before
     rest = ap (drop k) (f .is) ∙ drop-at (take k new) (drop k before) k (length-take-le k new (f .within))
 
-    -- what follows a cell from k on is as it was
+    -- What follows a cell from k on is as it was.
     beyond : (n : ℕ) → k ≤ n → drop n buffer ≡ drop n before
     beyond n h =
         let e : n ≡ k + (n - k) = omega arith in
@@ -124,7 +124,7 @@ module _ {x : ℕ} {new before : List ℕ} where
         is = f .is ∙ ap₂ (λ (y z : List ℕ). y ++ z) t (ap (λ (y : ℕ). drop y before) e);
       }
 
--- one number in the first cells
+-- One number in the first cells.
 pub filled-is : (n x : ℕ) (l : List ℕ) → replicate n x ++ drop n l ≡ written (replicate n x) l
 unfolding written
 filled-is n x l = ap (λ (k : ℕ). replicate n x ++ drop k l) (sym (length-replicate n x))

@@ -75,7 +75,7 @@ module _ (c : Concrete) where
         let p′ : getD (classTable c) r [] ≡ take (size (c .abs) r) (drop b ns) = rw (q, q1) at p in
         ap (λ (l : List ℕ). getD l e 0) p′ ∙ getD-take (size (c .abs) r) (drop b ns) e 0 h ∙ getD-drop b ns e 0
 
--- two elements of a proper rank share a class exactly when their class cells are one class
+-- Two elements of a proper rank share a class exactly when their class cells are one class.
 pub same-class-at : (c : Concrete) (r e g : ℕ) → 1 ≤ r → r < top (c .abs) → e < size (c .abs) r → g < size (c .abs) r
     → eqb (byTable (classTable c) r e) (byTable (classTable c) r g)
     ≡ sameClass (getD (classes (distances c)) (beforeIn (c .abs) r + e) nan) (getD (classes (distances c)) (beforeIn (c .abs) r + g) nan)
@@ -83,7 +83,7 @@ same-class-at c r e g low high he hg =
     ap₂ eqb (number-at c r low high e he) (number-at c r low high g hg)
     ∙ share-class (distances c) (beforeIn (c .abs) r + e) (beforeIn (c .abs) r + g) (lies c r low high e he) (lies c r low high g hg)
 
--- the offsets say how many lie below a rank
+-- The offsets say how many lie below a rank.
 pub before-is : (sh : Shape) (w : List ℕ) → Held sh w → (r : ℕ) → 1 ≤ r → r ≤ suc (sh .rank) → beforeIn (solidIn sh w) r ≡ before sh r
 unfolding beforeIn
 before-is sh w h r low high =

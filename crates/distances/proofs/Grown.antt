@@ -29,7 +29,7 @@ classes-append l (x ∷ xs) ys = ap (λ (c : List Float). listing l x .0 ∷ c) 
 
 -- ---- cells
 
--- nothing was taken yet
+-- Nothing was taken yet.
 pub grown-none : (vd cell k : ℕ) (old : List Float) (n : ℕ) → Grown vd cell k old old n n []
 unfolding listAfter classesFrom
 grown-none vd cell k old n = record {
@@ -59,7 +59,7 @@ grown-more {vd} {cell} {k} {h} {a} {b} {c} {n} {m} {p} {xs} {ys} f e g =
           ∙ ap (λ (z : List Float). take k (drop cell a) ++ z) (sym (classes-append l xs ys));
     }
 
--- one distance: the list stands in the part from vd on, and the class is written behind it
+-- One distance: the list stands in the part from vd on, and the class is written behind it.
 module _ (old after : List Float) (vd n cell k : ℕ) (x : Float) (t : Listing) (took : Takes (drop vd old) after n x t) (many : length after ≡ length (drop vd old))
     (apart : vd + n < cell) (inside : cell + k < length old) where
   low : length (take vd old) ≡ vd
@@ -71,7 +71,7 @@ module _ (old after : List Float) (vd n cell k : ℕ) (x : Float) (t : Listing) 
   mid-length : length (take vd old ++ after) ≡ length old
   mid-length = omega (arith, length-append (take vd old) after, low, many, length-drop vd old)
 
-  -- the classes' cells are as they were
+  -- The classes' cells are as they were.
   beyond : drop cell (take vd old ++ after) ≡ drop cell old
   beyond =
       let i = cell - vd - t .count in
@@ -104,7 +104,7 @@ module _ (old after : List Float) (vd n cell k : ℕ) (x : Float) (t : Listing) 
             ∙ ap (λ (v : Float). take k (drop cell old) ++ (v ∷ [])) (ap (λ (q : Float × List Float). q .0) (took .is));
       }
 
--- the same, as the part comes back: what is lent is the part to the end, and nothing stands behind it
+-- The same, as the part comes back: what is lent is the part to the end, and nothing stands behind it.
 pub grown-part : (old after : List Float) (vd n cell k : ℕ) (x : Float) (t : Listing) → Takes (midOf vd (length old - vd) old) after n x t
     → length after ≡ length (midOf vd (length old - vd) old) → vd + n < cell → cell + k < length old
     → Grown vd cell k old (set (putMid vd (length old - vd) old after) (cell + k) (t .value)) n (t .count) (x ∷ [])

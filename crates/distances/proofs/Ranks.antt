@@ -37,7 +37,7 @@ module _ (sh : Shape) (w : List ℕ) (h : Held sh w) where
       let e : a + (b - a) ≡ b = omega arith in
       rw e at (rising a (b - a) (omega arith))
 
--- what a rank's loop knows of the offsets
+-- What a rank's loop knows of the offsets.
 module _ {sh : Shape} {w : List ℕ} {floats : List Float} {vd n r : ℕ} (a : Ready sh w floats vd n r) where
   pub ranks-fit : r + 1 < 7
   ranks-fit = omega (arith, a .high, a .held .tall)
@@ -99,7 +99,7 @@ module _ {sh : Shape} {w : List ℕ} {floats₀ : List Float} {vd n r cell done 
   pub inside : e < many → cell + (done + e) < length floats
   inside h = omega (arith, here h, t .cell-is, t .done-is, t .grown .long, a .room)
 
-  -- and one more
+  -- And one more.
   pub next-turn : e < many → (x : Float) → x ≡ distanceOf (solidOn sh w (take vd floats) (sh .dimension)) r e
       → (new : List Float) (p : ℕ) → Grown vd cell (done + e) floats new m p (x ∷ []) → Turn sh w floats₀ vd n r cell done many new p (e + 1)
   next-turn h x q new p g =
@@ -128,7 +128,7 @@ unfolding join
 join-snoc [] l = append-nil l
 join-snoc (k ∷ ls) l = ap (λ (x : List Float). k ++ x) (join-snoc ls l) ∙ sym (append-assoc k (join ls) l)
 
--- the distances of the proper ranks below r
+-- The distances of the proper ranks below r.
 unfoldable pub below : Concrete → ℕ → List Float
 below c r = join (map (rankDistances c) (range 1 (r - 1)))
 
@@ -151,7 +151,7 @@ rank-length : (sh : Shape) (w : List ℕ) (fl : List Float) (d r : ℕ) → r �
 unfolding rankDistances
 rank-length sh w fl d r h = length-table (distanceOf (solidOn sh w fl d) r) (size (solidIn sh w) r) ∙ size-is sh w r h
 
--- the ranks below r were taken
+-- The ranks below r were taken.
 pub record Round (sh : Shape) (w : List ℕ) (floats₀ : List Float) (vd : ℕ) (floats : List Float) (n r : ℕ) : Type 0 where
   pub vertices : vd ≡ coordinates sh w
   pub low : 1 ≤ r
@@ -170,7 +170,7 @@ first-round sh w floats vd v h =
       grown = rw e (grown-none vd (vd + proper sh) 0 floats 0);
     }
 
--- what the whole says, of all the ranks' distances
+-- What the whole says, of all the ranks' distances.
 ended : (sh : Shape) (w : List ℕ) (old new : List Float) (n : ℕ)
     → length (below (solidOn sh w (take (coordinates sh w) old) (sh .dimension)) (sh .rank)) ≡ proper sh
     → Grown (coordinates sh w) (coordinates sh w + proper sh) 0 old new 0 n (below (solidOn sh w (take (coordinates sh w) old) (sh .dimension)) (sh .rank)) → Classed sh w old new n
@@ -232,6 +232,6 @@ module _ {sh : Shape} {w : List ℕ} {floats₀ : List Float} {vd : ℕ} {floats
       let v = t .vertices in
       ended sh w floats₀ floats n (rw (e, v) at (t .many)) (rw (e, v) at (t .grown))
 
--- how many cells the coordinates take, as the offsets say it
+-- How many cells the coordinates take, as the offsets say it.
 pub cells-are : (sh : Shape) (w : List ℕ) → 1 ≤ sh .rank → sizeAt sh 1 * sh .dimension ≡ coordinates sh w
 cells-are sh w h = ap (λ (i : ℕ). i * sh .dimension) (sym (size-is sh w 1 h))

@@ -18,7 +18,7 @@ use Rattle.element_types.specs.Runs.{keyAt, repKeys, Keyed}
 
 -- ---- words
 
--- what is left from k on is the same exactly if all is
+-- What is left from k on is the same exactly if all is.
 abbrev pub Same : List ℕ → List ℕ → ℕ → Type 0
 Same l m k = eqList (drop k l) (drop k m) ≡ eqList l m
 
@@ -49,7 +49,7 @@ other-length l m h = go (split eqList lists l m)
     go (inl (p, _)) = absurd (h (ap length p))
     go (inr (_, e)) = sym e
 
--- a run of words
+-- A run of words.
 module _ (w : List ℕ) (a n : ℕ) (h : a + n ≤ length w) where
   pub length-run : length (take n (drop a w)) ≡ n
   length-run = simp (length-take, length-drop) (omega arith)
@@ -72,7 +72,7 @@ module _ (w : List ℕ) (p q n m : ℕ) (hp : n ≡ getD w p 0) (hq : m ≡ getD
 
 -- ---- keys
 
--- what is left from j on has the key where all have it
+-- What is left from j on has the key where all have it.
 abbrev pub Sought : List ℕ → List (List ℕ) → ℕ → Type 0
 Sought x ks j = j + place eqList x (drop j ks) ≡ place eqList x ks
 

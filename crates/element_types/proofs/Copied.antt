@@ -26,7 +26,7 @@ module _ (w : List ℕ) (to from n : ℕ) (apart : to + n ≤ from) (room : from
   pub length-copied : (v : List ℕ) (k : ℕ) → v ≡ paste w to s k → k ≤ n → length v ≡ length w
   length-copied v k e h = ap length e ∙ length-paste w to s k (omega arith) (rw many h)
 
-  -- the word that is read is what stood there
+  -- The word that is read is what stood there.
   read : (k : ℕ) → k < n → getD (paste w to s k) (from + k) 0 ≡ getD s k 0
   read k h =
       let d : to + k + (from - to) ≡ from + k = omega arith in

@@ -26,7 +26,7 @@ use Rattle.element_types.specs.State.{entries, needed, Sweepable}
 
 -- ---- sums
 
--- one of the summed, and all of them under a bound
+-- One of the summed, and all of them under a bound.
 sum-has : (f : ℕ → ℕ) (l : List ℕ) (r : ℕ) → In r l → f r ≤ sum (map f l)
 unfolding sum
 sum-has f (q ∷ l) r (inl e) = rw e (omega arith)
@@ -68,7 +68,7 @@ both-ways p (e ∷ es) fs =
     go f true q = rw (q, keep) (omega arith)
     go f false q = rw (q, keep) (omega arith)
 
--- the sups of a rank are no more than the subs of the one above
+-- The sups of a rank are no more than the subs of the one above.
 down-few : (s : Solid) (r : ℕ) → entries s (down r) ≤ entries s (up (suc r))
 unfolding entries sups
 down-few s r =
@@ -80,7 +80,7 @@ down-few s r =
     (once-keep (λ e. holds eqb e (subs s (suc r) f)) es (once-range 0 (size s r)))
     (λ e k. in-holds e (subs s (suc r) f) (in-keep (λ e. holds eqb e (subs s (suc r) f)) e es k .1))))
 
--- the lengths of a list's lists, as a table
+-- The lengths of a list's lists, as a table.
 lengths : (a : ℕ) (l : List (List ℕ)) (f : ℕ → ℕ) → ((e : ℕ) → e < length l → f (a + e) ≡ length (getD l e [])) → map length l ≡ map f (range a (length l))
 unfolding range
 lengths a [] f h = refl
@@ -92,7 +92,7 @@ rank-entries : (s : Solid) (r : ℕ) → sum (map length (getD s r [])) ≡ entr
 unfolding entries subs
 rank-entries s r = ap sum (lengths 0 (getD s r []) (λ e. length (subs s r e)) (λ e k. let q : 0 + e ≡ e = omega arith in rw q refl))
 
--- where R is two or more
+-- Where R is two or more.
 sub-entries-is : (sh : Shape) (J z : ℕ) → sh .rank ≡ suc (suc z) → subEntries sh J ≡ sizeAt sh 1 + J + sizeAt sh (suc z)
 unfolding subEntries
 sub-entries-is sh J z e = rw (e, subEntries)
@@ -121,7 +121,7 @@ module _ (sh : Shape) (l : List ℕ) (h : Held sh l) where
   size-few : (r : ℕ) → r ≤ sh .rank → size s r ≤ maxCount
   size-few r k = rw (size-is sh l r k) (h .few r k)
 
-  -- a proper rank's elements are among E, and the entries of ranks 2 to R − 1 among I
+  -- A proper rank's elements are among E, and the entries of ranks 2 to R − 1 among I.
   size-in : (r : ℕ) → 1 ≤ r → r < sh .rank → size s r ≤ E
   unfolding elements properRanks
   size-in r a b = sum-has (λ q. size s q) (range 1 (top s - 1)) r (in-range 1 (top s - 1) r a (omega (arith, top-is sh l)))
@@ -193,7 +193,7 @@ module _ (sh : Shape) (l : List ℕ) (h : Held sh l) where
       let e : a + suc n ≡ suc a + n = omega arith in
       rw e (omega (arith, size-is sh l a (omega arith), h .some a (omega arith), sizes-sum n (suc a) (omega arith)))
 
-  -- the proper elements, the least and the top
+  -- The proper elements, the least and the top.
   total-is : 2 ≤ sh .rank → total sh ≡ E + 2
   unfolding elements properRanks
   total-is k =
@@ -219,7 +219,7 @@ module _ (sh : Shape) (l : List ℕ) (h : Held sh l) where
             size-in (suc z) (omega arith) (omega arith),
           )
 
-  -- a step's words, by the solid's counts
+  -- A step's words, by the solid's counts.
   pub step-words : (x : Step) → 1 ≤ at x → at x < sh .rank → lowOf sh I + total sh + 4 * sizeAt sh (at x) + entries s x ≤ 14 * E + 3 * I + 10
   unfolding lowOf
   step-words x a b =

@@ -85,11 +85,11 @@ pub record Scan (w : List ℕ) (low lists n base from out : ℕ) (v : List ℕ) 
   pub past : out + n + n ≤ q
   pub high : q ≤ out + n + n + spaceTo (take low w) lists e
 
--- what the words are counted by, in a turn, is below their number
+-- What the words are counted by, in a turn, is below their number.
 abbrev pub Sums : List ℕ → ℕ → ℕ → ℕ → ℕ → ℕ → ℕ → Type 0
 Sums w low lists from out q e = (q + 2 + length (listAt (take low w) (lists + 4 * e)) ≤ length w) × (lists + 4 * e < length w) × (from + e < length w) × (out + e < length w)
 
--- the element's list can be read again
+-- The element's list can be read again.
 abbrev pub Back : List ℕ → ℕ → ℕ → ℕ → List ℕ → Type 0
 Back w low lists e x = (low ≤ length x) × (take low x ≡ take low w) × Lies (take low x) (lists + 4 * e)
 
@@ -208,7 +208,7 @@ module _ (w : List ℕ) (low lists n base from out : ℕ) (r : Ready w low lists
         take-suc-set u (out + e) p (omega (arith, u-long, s .long, tall, r .room))
         ∙ ap (λ (l : List ℕ). l ++ p ∷ []) (take-kept u v q (out + e) u-low (omega (arith, s .past)))
 
-    -- the number is stored before the places and the keys
+    -- The number is stored before the places and the keys.
     abbrev u₁ : List ℕ
     u₁ = set u (out + e) p
 

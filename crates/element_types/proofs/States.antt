@@ -36,7 +36,7 @@ unfolding sum
 sum-snoc [] x = omega arith
 sum-snoc (y ∷ l) x = omega (arith, sum-snoc l x)
 
--- the words that keys take
+-- The words that keys take.
 space-is : (l : List ℕ) (base n : ℕ) → spaceTo l base n ≡ 2 * n + sum (map (λ e. length (listAt l (base + 4 * e))) (range 0 n))
 unfolding spaceTo sum range
 space-is l base zero = refl
@@ -83,12 +83,12 @@ first-le : (sh : Shape) (l : List ℕ) → Held sh l → (k q r : ℕ) → q + k
 first-le sh l h zero q r e b = let d : q ≡ r = omega arith in rw d (omega arith)
 first-le sh l h (suc k) q r e b = omega (arith, h .some q (omega arith), first-le sh l h k (suc q) r (omega arith) b)
 
--- what the code adds up, with the ranks read at a, p and c, fits; and its differences do not go below 0
+-- What the code adds up, with the ranks read at a, p and c, fits; and its differences do not go below 0.
 abbrev pub Sums : Shape → ℕ → List ℕ → ℕ → ℕ → ℕ → ℕ → Type 0
 Sums sh low w r a p c =
     (firstAt sh r ≤ firstAt sh a) × (low + firstAt sh c ≤ length w) × (low + firstAt sh p ≤ length w) × (low + firstAt sh r ≤ length w) × (4 * firstAt sh r + 4 ≤ length w)
 
--- what a step's elements look to, and where their lists are
+-- What a step's elements look to, and where their lists are.
 pub record Looks (sh : Shape) (low : ℕ) (w : List ℕ) (x : Step) (base : ℕ) : Type 0 where
   pub next-in : next x ≤ sh .rank
   pub listed : (e : ℕ) → e < sizeAt sh (at x) → listAt (take low w) (base + 4 * e) ≡ neighbours (solidIn sh (take low w)) x e
@@ -159,7 +159,7 @@ module _ (sh : Shape) (low : ℕ) (w : List ℕ) (x : Step) (t : Steppable sh lo
   type-read q y h k =
       ap (λ (l : List ℕ). getD l y 0) (types-at q h) ∙ getD-take (sizeAt sh q) (drop (low + firstAt sh q) w) y 0 k ∙ getD-drop (low + firstAt sh q) w y 0
 
-  -- as the paper has them, and as the program does
+  -- As the paper has them, and as the program does.
   paper : ℕ → List ℕ
   paper e = key (typesAt S (next x)) (typeOf S (at x) e) (neighbours s x e)
 

@@ -63,7 +63,7 @@ pub record Swept (sh : Shape) (low : ℕ) (w v : List ℕ) (xs ys : List Step) :
 pub swept-first : (sh : Shape) (low : ℕ) (w : List ℕ) (xs : List Step) → Swept sh low w w xs xs
 swept-first sh low w xs = record { long = refl; kept = refl; state = refl }
 
--- the lists and the length are all that a step asks of the words
+-- The lists and the length are all that a step asks of the words.
 pub sweepable-kept : (sh : Shape) (low : ℕ) (w v : List ℕ) → length v ≡ length w → take low v ≡ take low w → Sweepable sh low w → Sweepable sh low v
 unfolding needed
 sweepable-kept sh low w v e k a = record {
@@ -76,11 +76,11 @@ pub steppable : (sh : Shape) (low : ℕ) (w : List ℕ) → Sweepable sh low w �
 steppable sh low w a x b c = record { held = a .held; above = b; under = c; room = a .room x b c; small = a .small x b c }
 
 module _ (sh : Shape) (low : ℕ) (w v : List ℕ) (xs ys : List Step) (i : Swept sh low w v xs ys) where
-  -- any step can be done
+  -- Any step can be done.
   pub swept-ready : Sweepable sh low w → (x : Step) → 1 ≤ at x → at x < sh .rank → Steppable sh low v x
   swept-ready a = steppable sh low v (sweepable-kept sh low w v (i .long) (i .kept) a)
 
-  -- the first of those left leaves the others
+  -- The first of those left leaves the others.
   pub swept-next : (x : Step) (zs : List Step) → xs ≡ x ∷ zs → (u : List ℕ) → length u ≡ length v → take low u ≡ take low v
       → stateIn sh low u ≡ step (solidIn sh (take low v)) (stateIn sh low v) x → Swept sh low w u zs ys
   unfolding play

@@ -80,7 +80,7 @@ module _ (w : List ℕ) (from n : ℕ) (inside : from + n ≤ length w) where
   run-at : (j : ℕ) → j < n → getD l j 0 ≡ getD w (from + j) 0
   run-at j h = getD-take n (drop from w) j 0 h ∙ getD-drop from w j 0
 
-  -- no more types than elements
+  -- No more types than elements.
   pub types-few : k ≤ n
   types-few = rw length-run at (pigeons eqb numbers (distinct eqb l) l (once-distinct eqb numbers l) (λ t m. of-distinct eqb numbers t l m))
 
@@ -90,7 +90,7 @@ module _ (w : List ℕ) (from n : ℕ) (inside : from + n ≤ length w) where
         let m : In (getD w (from + j) 0) l = rw (run-at j h) at (in-getD 0 l j (rw length-run h)) in
         omega (arith, of-range 0 k (getD w (from + j) 0) (rw first at (in-distinct eqb numbers (getD w (from + j) 0) l m)))
 
-    -- every number below k is some element's
+    -- Every number below k is some element's.
     type-met : (q : ℕ) → q < k → (j : ℕ) × (j < n) × (getD w (from + j) 0 ≡ q)
     type-met q h =
         let m : In q (distinct eqb l) = rw first (in-range 0 k q (omega arith) (omega arith)) in
@@ -118,7 +118,7 @@ module _ (w : List ℕ) (from n : ℕ) (inside : from + n ≤ length w) where
 unfoldable pub countIn : Shape → ℕ → List ℕ → ℕ → ℕ
 countIn sh low w r = length (distinct eqb (typesIn sh low w r))
 
--- those of rank r and above
+-- Those of rank r and above.
 unfoldable pub countsFrom : Shape → ℕ → List ℕ → ℕ → ℕ
 countsFrom sh low w r = sum (map (countIn sh low w) (range r (sh .rank - r)))
 
@@ -153,7 +153,7 @@ tally-first sh low w = record { proper = omega arith; few = omega arith; rest = 
 
 module _ (sh : Shape) (low : ℕ) (w : List ℕ) (a : Countable sh low w) (n r : ℕ) (i : Tally sh low w n r) where
   module _ (h : r < sh .rank) where
-    -- the ranks' offsets
+    -- The ranks' offsets.
     pub offsets : (firstAt sh r < firstAt sh (r + 1)) × (firstAt sh (r + 1) ≤ total sh) × (r + 1 < 7)
     offsets =
         let e : suc r + (sh .rank - r) ≡ suc (sh .rank) = omega arith in

@@ -79,7 +79,7 @@ module _ (sh : Shape) (w : List ℕ) (st : Stored sh w) (d : diamond (solidIn sh
   facets-end : suc (sh .rank - 1) ≡ sh .rank
   facets-end = omega arith
 
-  -- the facets are elements
+  -- The facets are elements.
   pub facet-in : (e : ℕ) → e < sizeAt sh (sh .rank - 1) → g + e < total sh
   facet-in e h = omega (arith, first-le sh w st (suc (sh .rank - 1)) (suc (sh .rank)) (omega arith) (omega arith))
 
@@ -89,7 +89,7 @@ module _ (sh : Shape) (w : List ℕ) (st : Stored sh w) (d : diamond (solidIn sh
   other-in : 4 * (g + f) + 1 < length w
   other-in = omega (arith, facet-in f low, st .room)
 
-  -- what stands behind the starts and lengths
+  -- What stands behind the starts and lengths.
   rest : drop (4 * total sh) w′ ≡ drop (4 * total sh) w
   rest = lists-drop w g (g + f) (4 * total sh) (omega (arith, facet-in f low)) (omega (arith, facet-in f low))
 
@@ -105,7 +105,7 @@ module _ (sh : Shape) (w : List ℕ) (st : Stored sh w) (d : diamond (solidIn sh
       let q : getD w′ (suc (4 * k)) 0 ≡ getD w (suc (4 * j)) 0 = rw (add-one (4 * k), add-one (4 * j)) at (e .1) in
       rw (q, e .0) (ap (take (getD w (suc (4 * j)) 0)) (past (getD w (4 * j) 0) (st .apart j h)))
 
-  -- where an element's list came from
+  -- Where an element's list came from.
   came : (k : ℕ) → k < total sh → (j : ℕ) × (j < total sh) × Came w w′ k j
   came k h = go (ℕ-discrete k g) (ℕ-discrete k (g + f))
     where
@@ -272,7 +272,7 @@ module _ (sh : Shape) (low : ℕ) (ws : List ℕ) (l : Laid sh low ws) (f : ℕ)
       len₁ : length ws₁ ≡ length ws
       len₁ = rw e₁ (lists-length ws a (a + f))
 
-      -- below base the exchanged solid stands
+      -- Below base the exchanged solid stands.
       low₁ : take base ws₁ ≡ swappedLists v (firstAt sh (sh .rank - 1)) (firstAt sh (sh .rank - 1) + f)
       low₁ = rw (e₁, ← ea) (lists-take ws a (a + f) base (omega (arith, facet-low, heads-fit)) (omega (arith, facet-low, heads-fit)))
 
@@ -291,7 +291,7 @@ module _ (sh : Shape) (low : ℕ) (ws : List ℕ) (l : Laid sh low ws) (f : ℕ)
           × (2 * n + low / 2 + length (pairs sh (solidIn sh (take (2 * n + low / 2) ws₁))) < 2 ^ 32))
       derive-call = rw base-is (stored₁, (omega (arith, low-is, b .words-in, len₁), omega (arith, low-is, low-small b)))
 
-      -- the sups are derived
+      -- The sups are derived.
       module _ (ws₂ : List ℕ) (len₂ : length ws₂ ≡ length ws₁)
           (h′ : Held sh (take (2 * n + low / 2 + length (pairs sh (solidIn sh (take (2 * n + low / 2) ws₁)))) ws₂))
           (s′ : solidIn sh (take (2 * n + low / 2 + length (pairs sh (solidIn sh (take (2 * n + low / 2) ws₁)))) ws₂) ≡ solidIn sh (take (2 * n + low / 2) ws₁))

@@ -95,7 +95,7 @@ module _ (w : List ℕ) (g h : ℕ) where
         swapped-take one (4 * g + 1) (4 * h + 1) n hg hh
         ∙ ap (λ (v : List ℕ). swapped v (4 * g + 1) (4 * h + 1)) (swapped-take w (4 * g) (4 * h) n (omega arith) (omega arith))
 
--- one swap after the other
+-- One swap after the other.
 pub lists-are : (w w₁ w₂ : List ℕ) (g h : ℕ) → w₁ ≡ swapped w (4 * g) (4 * h) → w₂ ≡ swapped w₁ (4 * g + 1) (4 * h + 1) → w₂ ≡ swappedLists w g h
 unfolding swappedLists
 lists-are w w₁ w₂ g h e₁ e₂ = rw (← e₁) e₂

@@ -26,7 +26,7 @@ use Rattle.flag.specs.Reading.{firstIn, otherIn}
 
 -- ---- the first flag
 
--- a list of subs is not empty, and its first is of the rank below
+-- A list of subs is not empty, and its first is of the rank below.
 module _ (sh : Shape) (w : List ℕ) (h : Held sh w) where
   pub some-sub : (r e : ℕ) → 0 < r → r ≤ sh .rank → e < sizeAt sh r → 0 < length (subs (solidIn sh w) r e)
   some-sub zero e a b k = absurd (omega arith)
@@ -37,7 +37,7 @@ module _ (sh : Shape) (w : List ℕ) (h : Held sh w) where
       sub-in sh w h r e (getD (subs (solidIn sh w) (suc r) e) 0 0) b
       (in-getD 0 (subs (solidIn sh w) (suc r) e) 0 (h .filled r e (rw (size-is sh w (suc r) b) k)))
 
--- the elements above rank r are found, and e is the one at r
+-- The elements above rank r are found, and e is the one at r.
 pub record Down (sh : Shape) (w goal els : List ℕ) (r e : ℕ) : Type 0 where
   pub low : r ≤ sh .rank
   pub inside : e < sizeAt sh r
@@ -46,7 +46,7 @@ pub record Down (sh : Shape) (w goal els : List ℕ) (r e : ℕ) : Type 0 where
   pub done : firstTo (solidIn sh w) r e ++ take (sh .rank - r) (drop (suc r) els) ≡ goal
 
 module _ (sh : Shape) (w : List ℕ) (h : Held sh w) where
-  -- nothing stands above the top
+  -- Nothing stands above the top.
   pub top-down : (els : List ℕ) → getD els (sh .rank) 0 ≡ 0
       → firstTo (solidIn sh w) (sh .rank) (getD els (sh .rank) 0) ++ take (sh .rank - sh .rank) (drop (suc (sh .rank)) els) ≡ firstFlag (solidIn sh w)
   unfolding firstFlag
@@ -122,7 +122,7 @@ module _ (e : ℕ) (p : ℕ → Bool) where
   unfolding keep otherIn firstIn
   other-end l k h inv = rw (drop-of-length-le l h) at inv
 
--- what the definition gives in the two cases
+-- What the definition gives in the two cases.
 module _ (e : ℕ) (l : List ℕ) where
   first-or : (m : List ℕ) → ((y : ℕ) → some y ≡ firstIn m → y ≡ getD m 0 e) × (none ≡ firstIn m → e ≡ getD m 0 e)
   unfolding firstIn

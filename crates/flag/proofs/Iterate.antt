@@ -31,7 +31,7 @@ module _ (sh : Shape) (w : List ℕ) (h : Held sh w) (els : List ℕ) (r : ℕ) 
   pub word-fits : 4 * (firstAt sh (r + 1) + getD els (r + 1) 0) + 2 ≤ length w + 2
   word-fits = omega (arith, above-at, subs-lie sh w h (suc r) (getD els (suc r) 0) b up .head)
 
-  -- the list that the element at r moves on in, at word i
+  -- The list that the element at r moves on in, at word i.
   module _ (i : ℕ) (word : i ≡ 4 * (firstAt sh (r + 1) + getD els (r + 1) 0)) where
     pub above-lies : Lies w i
     above-lies = rw (word ∙ above-at) (subs-lie sh w h (suc r) (getD els (suc r) 0) b up)
@@ -76,7 +76,7 @@ module _ (sh : Shape) (w : List ℕ) (h : Held sh w) (els : List ℕ) (long : le
   abbrev F : Flag
   F = take (suc (sh .rank)) els
 
-  -- the elements up to rank r are the last flag of the one at r
+  -- The elements up to rank r are the last flag of the one at r.
   abbrev pub Ended : ℕ → Type 0
   Ended r = Last (take (suc r) els) (flagsTo s r (getD els r 0))
 
@@ -93,7 +93,7 @@ module _ (sh : Shape) (w : List ℕ) (h : Held sh w) (els : List ℕ) (long : le
   unfolding flagsTo
   ended-first = record { front = []; is = ap (λ (l : Flag). l ∷ []) (sym (take-suc els 0 0 (omega (arith, fits)))) }
 
-  -- the flags are those up to the top, whose only element is 0
+  -- The flags are those up to the top, whose only element is 0.
   flags-are : flagsTo s (sh .rank) (getD els (sh .rank) 0) ≡ flags s
   unfolding flags
   flags-are =

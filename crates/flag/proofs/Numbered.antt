@@ -18,13 +18,13 @@ some-in : {A : Type 0} (x : A) (l : List A) → In x l → 0 < length l
 some-in x (y ∷ l) m = omega arith
 
 module _ (sh : Shape) (w : List ℕ) (h : Held sh w) where
-  -- the first flag is flag 0
+  -- The first flag is flag 0.
   pub nth-first : (F : Flag) → F ≡ firstFlag (solidIn sh w) → Nth (solidIn sh w) F 0
   nth-first F e =
       let f = every-first (solidIn sh w) (h .sound) (h .filled) in
       record { low = some-in (firstFlag (solidIn sh w)) (flags (solidIn sh w)) (every-flag-once (solidIn sh w) (h .sound) .exact (firstFlag (solidIn sh w)) .1 (f .0)); is = e ∙ sym (f .1) }
 
-  -- a flag of the list is a flag
+  -- A flag of the list is a flag.
   pub nth-flag : (F : Flag) (i : ℕ) → Nth (solidIn sh w) F i → IsFlag (solidIn sh w) F
   nth-flag F i n = rw (n .is) (every-flag-once (solidIn sh w) (h .sound) .exact _ .0 (in-getD [] (flags (solidIn sh w)) i (n .low)))
 

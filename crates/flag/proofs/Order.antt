@@ -117,17 +117,17 @@ module _ (s : Solid) (r e : ℕ) (a : List ℕ) (f : ℕ) (b : List ℕ) (q : su
   abbrev ups : ℕ → List Flag
   ups x = map (λ H. H ++ (e ∷ [])) (flagsTo s r x)
 
-  -- the same step one rank up
+  -- The same step one rank up.
   pub after-up : After F G (flagsTo s r f) → After (F ++ (e ∷ [])) (G ++ (e ∷ [])) (flagsTo s (suc r) e)
   unfolding flagsTo
   after-up t = rw q (after-join ups a f b (up F) (up G) (after-map up F G (flagsTo s r f) t))
 
-  -- the last of the last sub's flags is the last
+  -- The last of the last sub's flags is the last.
   pub last-up : b ≡ [] → Last F (flagsTo s r f) → Last (F ++ (e ∷ [])) (flagsTo s (suc r) e)
   unfolding flagsTo
   last-up z t = rw q (last-join ups a f b (up F) (up G) (last-map up F G (flagsTo s r f) t) z)
 
-  -- and of another sub's, the first of the next sub's comes after it
+  -- And of another sub's, the first of the next sub's comes after it.
   pub cross-up : (g : ℕ) (c : List ℕ) → b ≡ g ∷ c → Last F (flagsTo s r f) → Starts G (flagsTo s r g)
       → After (F ++ (e ∷ [])) (G ++ (e ∷ [])) (flagsTo s (suc r) e)
   unfolding flagsTo

@@ -65,7 +65,7 @@ beside-rows d m h =
     sym (zip-maps (λ x e. x ++ e) (λ i. take d (row m i)) (unit d) (range 0 d))
     ∙ ap (λ (a : Matrix). zip (λ x e. x ++ e) a (map (unit d) (range 0 d))) (over-corner (λ x. x) d m h ∙ map-id (corner d m))
 
--- the half that was a row of the identity, and how long it is
+-- The half that was a row of the identity, and how long it is.
 pub drop-take : {A : Type 0} (d n : ℕ) (l : List A) → d ≤ length l → drop d (take (d + n) l) ≡ take n (drop d l)
 drop-take d n l h = rw (take-add d n l) (drop-at (take d l) (take n (drop d l)) d (length-take-le d l h))
 

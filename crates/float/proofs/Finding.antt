@@ -26,7 +26,7 @@ pub nothing-is : {n x : ℕ} → n ≤ x → Nothing ≡ foundAt n x
 unfolding foundAt
 nothing-is {n} {x} h = rw (le-ltb x n h, foundAt)
 
--- the number is the answer's, and below n
+-- The number is the answer's, and below n.
 pub at-number : {n x k : ℕ} → foundAt n x ≡ At k → (x ≡ k) × (k < n)
 unfolding foundAt
 at-number {n} {x} {k} e = go (ltb x n) refl e
@@ -35,7 +35,7 @@ at-number {n} {x} {k} e = go (ltb x n) refl e
     go true t z = let i : x ≡ k = cc in (i, omega (arith, ltb-true x n t))
     go false t z = let i : _≡_ {A = ℕ} 0 1 = cc in absurd (omega arith)
 
--- the number is past the last
+-- The number is past the last.
 pub nothing-number : {n x : ℕ} → foundAt n x ≡ Nothing → n ≤ x
 unfolding foundAt
 nothing-number {n} {x} e = go (ltb x n) refl e
@@ -44,7 +44,7 @@ nothing-number {n} {x} e = go (ltb x n) refl e
     go true t z = let i : _≡_ {A = ℕ} 0 1 = cc in absurd (omega arith)
     go false t z = ltb-false x n t
 
--- whether a point is found among n points, by the answer of the scan
+-- Whether a point is found among n points, by the answer of the scan.
 module _ (ps : List Vector) (q : Vector) {n : ℕ} (all : length ps ≡ n) where
   pub is-found : {k : ℕ} → foundAt n (find ps q) ≡ At k → found ps q ≡ true
   is-found {k} e = go (found ps q) refl

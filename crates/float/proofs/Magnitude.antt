@@ -20,7 +20,7 @@ below-zero (inf true) h = refl
 below-zero (fin false m e) h = absurd (omega (arith, ltb-true (m * up e * 1) (0 * down e) h, zero-mul (down e)))
 below-zero (fin true m e) h = refl
 
--- a zero that fits is written with the exponent 0
+-- A zero that fits is written with the exponent 0.
 zero-is : (s : Bool) (e : ℤ) → fits binary64 (fin s 0 e) ≡ true → e ≡ pos 0
 unfolding fits
 zero-is s (pos zero) h = refl
@@ -31,7 +31,7 @@ and-left : (p q : Bool) → p && q ≡ true → p ≡ true
 and-left false q h = h
 and-left true q h = refl
 
--- the magnitude of a number that is not zero is not zero
+-- The magnitude of a number that is not zero is not zero.
 some : (m : ℕ) (e : ℤ) → 0 < suc m * up e
 some m e = mul-pos (zero-lt-suc m) (up-pos e)
 
@@ -53,7 +53,7 @@ above-zero (fin true (suc m) e) h k = absurd (omega (arith, ltb-false 0 (suc m *
 
 -- ---- at most a bound, by one comparison on each side of 0
 
--- what is below 0 or 0 is at most what is not below 0
+-- What is below 0 or 0 is at most what is not below 0.
 under : (a b : ℕ) → (ltb 0 (a + b) || (eqb a b && (false || eqb a 0))) ≡ true
 under zero zero = refl
 under zero (suc b) = rw (lt-ltb 0 (zero + suc b) (omega arith))

@@ -16,7 +16,7 @@ use Rattle.spec.specs.Float.{eps, absF, minus, finite, inRange}
 use Rattle.spec.specs.Matrix.{Vector}
 use Rattle.spec.specs.Copying.{near, find, parts}
 
--- what is not finite is not at most the largest magnitude
+-- What is not finite is not at most the largest magnitude.
 pub in-range-is : (x : Float) → le (absF x) maxMagnitude ≡ inRange x
 unfolding inRange finite absF le maxMagnitude ofBits
 in-range-is nan = refl
@@ -29,7 +29,7 @@ in-range-is (fin s m e) = refl
 abbrev pub axisNear : Vector → Vector → ℕ → Bool
 axisNear p q i = le (absF (minus (getD p i nan) (getD q i nan))) eps
 
--- the axes before i are near
+-- The axes before i are near.
 pub record NearTo (p q : Vector) (i : ℕ) : Type 0 where
   pub is : near (drop i p) (drop i (take (length p) q)) ≡ near p (take (length p) q)
 
@@ -59,7 +59,7 @@ module _ {p q : Vector} where
 
 -- ---- the lowest of a list
 
--- none before k is near
+-- None before k is near.
 pub record FoundFrom (ps : List Vector) (q : Vector) (k : ℕ) : Type 0 where
   pub is : k + find (drop k ps) q ≡ find ps q
 
@@ -106,7 +106,7 @@ unfolding find place near parts
 find-flat zero l q = refl
 find-flat (suc n) l q = refl
 
--- what a comparison with a slice tells of point k
+-- What a comparison with a slice tells of point k.
 pub near-part : (d : ℕ) (l q : Vector) (k : ℕ) (p : Vector) → k * d + d ≤ length l → p ≡ take d (drop (k * d) l) →
     near p (take (length p) q) ≡ near (take d (drop (k * d) l)) (take d q)
 near-part d l q k p h e =

@@ -27,14 +27,14 @@ module _ {A : Type 0} where
   part-at (suc n) d l zero h = rw zero-mul
   part-at (suc n) d l (suc k) h = part-at n d (drop d l) k (omega arith) ∙ ap (take d) (further k d l)
 
-  -- one part more
+  -- One part more.
   pub parts-more : (n d : ℕ) (l : List A) → parts (suc n) d l ≡ parts n d l ++ (take d (drop (n * d) l) ∷ [])
   unfolding parts
   parts-more zero d l = rw zero-mul
   parts-more (suc n) d l =
       ap (λ (x : List (List A)). take d l ∷ x) (parts-more n d (drop d l) ∙ ap (λ (x : List A). parts n d (drop d l) ++ (take d x ∷ [])) (further n d l))
 
-  -- one after another they are what they were cut from
+  -- One after another they are what they were cut from.
   pub join-parts : (n d : ℕ) (l : List A) → join (parts n d l) ≡ take (n * d) l
   unfolding parts join
   join-parts zero d l = rw zero-mul
@@ -45,7 +45,7 @@ module _ {A : Type 0} where
   drop-take (suc d) n [] = ap (drop (suc d)) (take-nil (suc d + n)) ∙ drop-nil (suc d) ∙ sym (take-nil n)
   drop-take (suc d) n (x ∷ l) = rw suc-add (drop-take d n l)
 
-  -- only the cells that are cut count
+  -- Only the cells that are cut count.
   pub parts-take : (n d : ℕ) (l : List A) → parts n d (take (n * d) l) ≡ parts n d l
   unfolding parts
   parts-take zero d l = refl
@@ -55,7 +55,7 @@ module _ {A : Type 0} where
       (ap (λ (k : ℕ). take d (take k l)) e ∙ take-take d (d + n * d) l (omega arith))
       (ap (λ (k : ℕ). parts n d (drop d (take k l))) e ∙ ap (parts n d) (drop-take d (n * d) l) ∙ parts-take n d (drop d l))
 
-  -- the parts, by their numbers
+  -- The parts, by their numbers.
   pub parts-table : (n d : ℕ) (l : List A) → map (λ i. take d (drop (i * d) l)) (range 0 n) ≡ parts n d l
   parts-table n d l =
       let t = length-table (λ i. take d (drop (i * d) l)) n in
@@ -64,15 +64,15 @@ module _ {A : Type 0} where
   pub parts-same : (n d : ℕ) (l m : List A) → take (n * d) l ≡ take (n * d) m → parts n d l ≡ parts n d m
   parts-same n d l m e = sym (parts-take n d l) ∙ ap (parts n d) e ∙ parts-take n d m
 
--- the end of part k
+-- The end of part k.
 pub part-end : (n d k : ℕ) → k < n → k * d + d ≤ n * d
 part-end n d k h = rw suc-mul at (mul-le-mul-right d h)
 
--- each part is d long
+-- Each part is d long.
 pub part-long : {A : Type 0} (n d : ℕ) (l : List A) (k : ℕ) → k < n → n * d ≤ length l → length (take d (drop (k * d) l)) ≡ d
 part-long n d l k h f = length-take-le d (drop (k * d) l) (omega (arith, length-drop (k * d) l, part-end n d k h))
 
--- a list of d cells that others follow, of which it is the first
+-- A list of d cells that others follow, of which it is the first.
 pub first-of : {A : Type 0} (d : ℕ) (p r rest : List A) → length p ≡ d → r ≡ p ++ rest → take d r ≡ p
 first-of d p r rest h e = ap (take d) e ∙ take-at p rest d h
 

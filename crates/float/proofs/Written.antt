@@ -36,7 +36,7 @@ module _ {A B : Type 0} {f : A → B} {g : ℕ → B} {l : List A} where
     rest = drop-set-lt (n + 1) r n x (omega arith) ∙ sym (drop-drop 1 n r) ∙ ap (drop 1) (w .rest) ∙ drop-drop 1 n l;
   }
 
-  -- as the loop ends, its count is n
+  -- As the loop ends, its count is n.
   pub end : {r : List A} {i : ℕ} (n : ℕ) → i ≤ n → n ≤ i → Written f g l r i → map f (take n r) ≡ map g (range 0 n)
   end {r} {i} n p q w = let k : i ≡ n = omega arith in rw k at (w .read)
 
@@ -44,7 +44,7 @@ module _ {A : Type 0} {g : ℕ → A} {l : List A} where
   pub end-plain : {r : List A} {i : ℕ} (n : ℕ) → i ≤ n → n ≤ i → Written (λ x. x) g l r i → take n r ≡ map g (range 0 n)
   end-plain {r} n p q w = sym (map-id (take n r)) ∙ end n p q w
 
-  -- where the loop went through every cell
+  -- Where the loop went through every cell.
   pub all : {r : List A} {i : ℕ} (n : ℕ) → length l ≡ n → i ≤ n → n ≤ i → Written (λ x. x) g l r i → r ≡ map g (range 0 n)
   all {r} {i} n h p q w = sym (take-all n r (omega (arith, w .long))) ∙ end-plain n p q w
 
@@ -88,7 +88,7 @@ zip-shift f a zero l = refl
 zip-shift f a (suc n) [] = refl
 zip-shift {C = C} f a (suc n) (y ∷ l) = ap (λ (z : List C). f (suc a) y ∷ z) (zip-shift f (suc a) n l)
 
--- with the cell's number as an argument
+-- With the cell's number as an argument.
 pub table-count : {B C : Type 0} (f : ℕ → B → C) (y : B) (l : List B) (n : ℕ) → n ≤ length l →
     map (λ i. f i (getD l i y)) (range 0 n) ≡ zip f (range 0 n) (take n l)
 unfolding range zip
@@ -99,7 +99,7 @@ table-count {C = C} f y (x ∷ l) (suc n) h =
     (λ (z : List C). f 0 x ∷ z)
     (shift (λ i. f i (getD (x ∷ l) i y)) 0 n ∙ table-count (λ i. f (suc i)) y l n (omega arith) ∙ sym (zip-shift f 0 n (take n l)))
 
--- a list copied into an array of k equal cells
+-- A list copied into an array of k equal cells.
 pub copied : {A : Type 0} (p r : List A) (x z : A) (k i n : ℕ) → n ≤ length p → i ≤ n → n ≤ i → Written (λ y. y) (λ j. getD p j x) (replicate k z) r i →
     r ≡ take n p ++ replicate (k - n) z
 copied p r x z k i n h a b w =

@@ -48,7 +48,7 @@ part-is d at l = rw (add-sub-cancel-left at d)
 pub vector-long : (d k n : ℕ) (l : List Float) → d ≤ maxDimension → k < n → n ≤ maxDimension → length l ≡ maxDimension * maxDimension → length (vectorAt d l k) ≡ d
 vector-long d k n l hd hk hn e = length-take-le d (drop (k * maxDimension) l) (rw (length-drop (k * maxDimension) l) (omega arith))
 
--- what a turn makes of q, where the part b that is lent is the vector v
+-- What a turn makes of q, where the part b that is lent is the vector v.
 pub moved-is : {d : ℕ} {b v : Vector} (q r : Vector) (s : Float) → b ≡ v → length v ≡ d →
     take (length b) r ≡ zip (by s) (take (length b) q) b → take d r ≡ zip (by s) (take d q) v
 moved-is {d} {b} {v} q r s e n h =

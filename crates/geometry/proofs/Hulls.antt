@@ -26,7 +26,7 @@ agree n a d r l h hr hl e =
     ∙ ap (drop a) (sym (take-take (a + d) n r h) ∙ ap (take (a + d)) e ∙ take-take (a + d) n l h)
     ∙ drop-take a d l (omega arith)
 
--- one vector more
+-- One vector more.
 pub one-more : (d n : ℕ) (b r : List Float) (v : Vector) → d ≤ maxDimension → n < maxDimension →
     length b ≡ maxDimension * maxDimension → length r ≡ maxDimension * maxDimension →
     take (n * maxDimension) r ≡ take (n * maxDimension) b → vectorAt d r n ≡ v →
@@ -39,7 +39,7 @@ one-more d n b r v hd hn lb lr e ev =
     (map-same (vectorAt d r) (vectorAt d b) (range 0 n) (λ k m. let o = of-range 0 n k m in agree (n * maxDimension) (k * maxDimension) d r b (omega arith) (omega arith) (omega arith) e))
     ev
 
--- the two cases, by the length of what is left of p
+-- The two cases, by the length of what is left of p.
 module _ (h : Hull) (p : Vector) (l : Float) (e : l ≡ norm (rest h p)) where
   pub joins-far : lt eps l ≡ true → joined l ≡ joins h p
   unfolding joins

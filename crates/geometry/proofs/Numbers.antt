@@ -54,7 +54,7 @@ module _ {A : Type 0} (same : A → A → Bool) (laws : Partial same) where
   alike k j e x =
       both-ways (same x k) (same x j) (λ h. laws .transitive x k j h e) (λ h. laws .transitive x j k h (laws .symmetric k j e))
 
-  -- what fails at itself fails everywhere
+  -- What fails at itself fails everywhere.
   stranger : (k : A) → same k k ≡ false → (x : A) → same x k ≡ false
   stranger k e x = go (same x k) refl
     where
@@ -85,7 +85,7 @@ module _ {A : Type 0} (same : A → A → Bool) (laws : Partial same) where
   place-stranger k e [] = refl
   place-stranger k e (x ∷ l) = place-no same k x l (stranger k e x) ∙ ap suc (place-stranger k e l)
 
-  -- what l holds has its place there
+  -- What l holds has its place there.
   place-held : (k d : A) (l : List A) → holds same k l ≡ true → (place same k l < length l) × (same (getD l (place same k l) d) k ≡ true)
   unfolding holds
   place-held k d [] h = absurd (false≢true h)
@@ -106,7 +106,7 @@ module _ {A : Type 0} (same : A → A → Bool) (laws : Partial same) where
       go true h ih = holds-yes same k x l h
       go false h ih = holds-no same k x l h ∙ ih
 
-  -- what is x may go, where k is not
+  -- What is x may go, where k is not.
   holds-without : (k x : A) → same x k ≡ false → (l : List A) → holds same k (without same x l) ≡ holds same k l
   unfolding without
   holds-without k x e [] = refl

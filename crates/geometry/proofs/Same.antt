@@ -55,11 +55,11 @@ level-sym {s} {a} {t} {b} l = record { size = sym (l .size); sign = go (l .sign)
     go (inl e) = inl (sym e)
     go (inr e) = inr (sym (l .size) ∙ e)
 
--- a product with a number above 0 is 0 only where the other factor is
+-- A product with a number above 0 is 0 only where the other factor is.
 factor : (a c : ℕ) → 0 < c → a * c ≡ 0 → a ≡ 0
 factor a c h e = eq-of-mul-eq-mul-right c h a 0 (e ∙ sym (zero-mul c))
 
--- a / x = b / y = c / z, as products
+-- A / x = b / y = c / z, as products.
 level-trans : (s : Bool) (a x : ℕ) (t : Bool) (b y : ℕ) (u : Bool) (c z : ℕ) → 0 < x → 0 < y → 0 < z →
     Level s (a * y) t (b * x) → Level t (b * z) u (c * y) → Level s (a * z) u (c * x)
 level-trans s a x t b y u c z hx hy hz l m = record { size = size; sign = go (l .sign) (m .sign) }

@@ -78,11 +78,11 @@ module _ (s : Solid) (v : Sound s) where
       (pigeons eqb numbers (subs s (suc r) e) (range 0 (size s r)) (rising-once (subs s (suc r) e) (v .rising (suc r) e))
       (λ x m. in-range 0 (size s r) x (omega arith) (omega (arith, v .below r e x m))))
 
-  -- one rank up
+  -- One rank up.
   next : (r k : ℕ) → ((f : ℕ) → many r f ≤ k) → (e : ℕ) → many (suc r) e ≤ length (subs s (suc r) e) * k
   next r k h e = rw (many-sum r e) (sum-under (many r) k (subs s (suc r) e) (λ f m. h f))
 
-  -- two ranks up: each pair of an element between and a sub of it is met once
+  -- Two ranks up: each pair of an element between and a sub of it is met once.
   over : (r k : ℕ) → ((f : ℕ) → many r f ≤ k) → (e : ℕ) → many (suc (suc r)) e ≤ sum (map length (getD s (suc r) [])) * k
   unfolding subs
   over r k h e =

@@ -86,7 +86,7 @@ found-count (passed y) m h =
     let l = fitting m (y .0 .dimension) (length (y .0 .points)) 0 (y .1) in
     omega (arith, kept-count (y .1) l, fitting-few m (y .0 .dimension) (length (y .0 .points)) 0 (y .1), h y refl)
 
--- the flags of a solid as it is searched
+-- The flags of a solid as it is searched.
 exchanged-few : (b : List ℕ) (words floats : ℕ) (c : Concrete) → preflight b words floats ≡ passed c → 2 ≤ top (c .abs)
     → (f : ℕ) → f < size (c .abs) (top (c .abs) - 1) → length (flags (exchangedIn (c .abs) f)) ≤ 2 ^ 30
 exchanged-few b words floats c e tall f low =
@@ -100,7 +100,7 @@ exchanged-few b words floats c e tall f low =
     (omega (arith, entries-same s tall f low))
     (omega (arith, p .tall))
 
--- what a search goes through is the solid that was read, with a facet in the first's place
+-- What a search goes through is the solid that was read, with a facet in the first's place.
 searched-is : (c : Concrete) (w : Setting) → setting c ≡ passed w → (2 ≤ top (c .abs)) × ((f : ℕ) × (f < size (c .abs) (top (c .abs) - 1)) × (w .searched ≡ exchanged c f))
 unfolding setting full
 searched-is c w e =

@@ -41,7 +41,7 @@ kept-done (x ∷ l) kept n e = go (ltb (length kept) (length (x ∷ l))) e
     go true e = absurd (apart ShortSheet (length kept) n e)
     go false e = counted (length kept) n e
 
--- the sheet passed, and n members are written
+-- The sheet passed, and n members are written.
 found-done : (o : Judged (Concrete × List Member)) (m : Room) (n : ℕ) → outcome o m .answer ≡ Done n
     → (y : Concrete × List Member) × (o ≡ passed y) × (length (outcome o m .members) ≡ n)
 unfolding outcome
@@ -56,7 +56,7 @@ refused-line : (f : Outcome) (why : Refusal) (k : ℕ) → f .answer ≡ Refused
 unfolding lastLine
 refused-line f why k e = rw (e, lastLine) refl
 
--- the solid's D is the sheet's
+-- The solid's D is the sheet's.
 dimension-is : (b : List ℕ) (words floats : ℕ) (y : Concrete × List Member) → membersIn b words floats ≡ passed y
     → (y .0 .dimension ≡ (judgementOf (readSheet b)) .header .dimension) × (y .0 .dimension ≤ maxDimension)
 unfolding judgementOf headerOf

@@ -25,7 +25,7 @@ pub cut-text : (b : List ℕ) → longest < length b → refusedLine CutSheet �
 unfolding kitText
 cut-text b h = rw (lt-ltb longest (length b) h, kitText) refl
 
--- of a sheet that is not too long, whose types call answered a
+-- Of a sheet that is not too long, whose types call answered a.
 module _ (b : List ℕ) (old new : TypesOut) (a : Answer) (words floats : ℕ) (e : (a, new) ≡ typesCall b words floats old) (short : length b ≤ longest)
     (w : words ≡ workWords) (f : floats ≡ workFloats) (m : length (old .elements) ≡ elementCells) (t : length (old .types) ≡ typeRecords) where
   abbrev judged : Judged Given

@@ -14,7 +14,7 @@ use Rattle.spec.proofs.CopyLaws.{not-found, not-lower}
 use Rattle.lookup.specs.Points.{Apart}
 use Rattle.lookup.proofs.Swap.{near-swap}
 
--- what is not held is near none
+-- What is not held is near none.
 not-held : (l : List Vector) (x : Vector) → holds near x l ≡ false → (k : ℕ) → k < length l → near x (getD l k []) ≡ false
 unfolding found
 not-held l x h k g = near-swap x (getD l k []) ∙ not-lower l x k (omega (arith, not-found l x h))

@@ -11,7 +11,7 @@ use lib.Ieee.{Float, nan}
 use Rattle.spec.specs.Matrix.{Vector}
 use Rattle.float.proofs.Nearness.{part-wide}
 
--- the axes before i are the same
+-- The axes before i are the same.
 pub record SameTo (p q : Vector) (i : ℕ) : Type 0 where
   pub is : take i p ≡ take i q
 
@@ -29,6 +29,6 @@ module _ {p q : Vector} where
       let k : i ≡ length p = omega arith in
       sym (take-length p) ∙ (rw k at (s .is))
 
--- what a comparison with a slice tells of point k
+-- What a comparison with a slice tells of point k.
 pub same-part : (d : ℕ) (l q : Vector) (k : ℕ) (p : Vector) → k * d + d ≤ length l → p ≡ take d (drop (k * d) l) → p ≡ take (length p) q → take d (drop (k * d) l) ≡ take d q
 same-part d l q k p h e f = sym e ∙ f ∙ ap (λ (w : ℕ). take w q) (ap length e ∙ part-wide d l k h)

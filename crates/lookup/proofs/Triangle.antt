@@ -21,7 +21,7 @@ use Rattle.spec.specs.Matrix.{Vector}
 use Rattle.spec.specs.Copying.{near}
 use Rattle.lookup.specs.Points.{wideF, within}
 
--- the magnitude of the float x - y is at most w
+-- The magnitude of the float x - y is at most w.
 unfoldable pub closeTo : Float → Float → Float → Bool
 closeTo w x y = le (absF (minus x y)) w
 
@@ -34,11 +34,11 @@ near-within (x ∷ xs) (y ∷ ys) = ap (λ (r : Bool). elim (le (absF (minus x y
 
 -- ---- how far apart two numbers with signs are
 
--- of two numbers
+-- Of two numbers.
 unfoldable pub apart : ℕ → ℕ → ℕ
 apart a b = (a - b) + (b - a)
 
--- of ±a and ±b, negative where the sign is true
+-- Of ±a and ±b, negative where the sign is true.
 unfoldable pub gap : Bool → ℕ → Bool → ℕ → ℕ
 gap false a false b = apart a b
 gap false a true b = a + b
@@ -101,7 +101,7 @@ round-abs : (f : Format) (s : Bool) (a c : ℕ) → absF (round f s a c) ≡ rou
 unfolding round
 round-abs f s a c = units-abs f s _ _
 
--- the two branches of a difference of magnitudes
+-- The two branches of a difference of magnitudes.
 pick-abs : (f : Format) (s t : Bool) (a b c : ℕ) → absF (cond (ltb a b) (round f s (b - a) c) (round f t (a - b) c)) ≡ round f false (apart a b) c
 unfolding apart
 pick-abs f s t a b c = go (ltb a b) (ltb→lt a b) (nltb→le a b)
@@ -110,7 +110,7 @@ pick-abs f s t a b c = go (ltb a b) (ltb→lt a b) (nltb→le a b)
     go true h k = let less = h tt in round-abs f s (b - a) c ∙ ap (λ (n : ℕ). round f false n c) (omega arith)
     go false h k = let most = k tt in round-abs f t (a - b) c ∙ ap (λ (n : ℕ). round f false n c) (omega arith)
 
--- the magnitude of a difference is the exact one, rounded
+-- The magnitude of a difference is the exact one, rounded.
 sum-abs : (f : Format) (s : Bool) (a : ℕ) (t : Bool) (b c : ℕ) → absF (sum f s a (not t) b c) ≡ round f false (gap s a t b) c
 unfolding sum gap
 sum-abs f false a true b c = round-abs f false (a + b) c
@@ -163,7 +163,7 @@ add-fractions s t u x y z p q r a b c Q h k =
     let all : q * gap s (x * r) u (z * p) ≤ r * gap s (x * q) t (y * p) + p * gap u (z * q) t (y * r) = rw (xz, xy, zy) at (gap-triangle s t u X Y Z) in
     le-of-mul-le-mul-right (bound (gap s (x * r) u (z * p)) (gap s (x * q) t (y * p)) (gap u (z * q) t (y * r)) a b c p q r all h k) Q
 
--- two numbers near a third
+-- Two numbers near a third.
 pub apart-add : {a b c : ℕ} {x y z : Float} → AtMost a b x y → AtMost c b z y → AtMost (a + c) b x z
 apart-add {a} {b} {c} {x} {y} {z} h k = record {
   first = h .first;
@@ -188,7 +188,7 @@ round-back f w a b g c B C W P more h = nltb→le (a * c) (g * b) (not-T (ltb (a
     let low : T (le lo z) = round-mono f a b g c B C (le-of-lt (ltb→lt (a * c) (g * b) l)) in
     true≢false (sym (true-of (le lo w) (le-trans-positive lo z w P (between lo z w P W low h) W low h)) ∙ more))
 
--- a difference is finite only of finite numbers
+-- A difference is finite only of finite numbers.
 sub-finite : (f : Format) (x y : Float) → T (finite (sub f x y)) → T (finite x) × T (finite y)
 unfolding sub
 sub-finite f nan y h = absurd h
@@ -202,7 +202,7 @@ sub-finite f (fin s m e) nan h = absurd h
 sub-finite f (fin s m e) (inf t) h = absurd h
 sub-finite f (fin s m e) (fin t n d) h = (tt, tt)
 
--- only a finite number's magnitude is at most a finite w
+-- Only a finite number's magnitude is at most a finite w.
 finite-below : (z w : Float) → T (positive w) → T (le (absF z) w) → T (finite z)
 unfolding le absF
 finite-below nan w W h = absurd h
@@ -250,7 +250,7 @@ pub eps-apart : (x y : Float) → closeTo eps x y ≡ true → AtMost 1 (2 ^ 23)
 unfolding eps ofBits round le
 eps-apart x y h = close-apart eps 1 (2 ^ 23) (pow-pos 23) tt tt refl x y h
 
--- and numbers that are at most twice as far apart are within 2 ^ -22
+-- And numbers that are at most twice as far apart are within 2 ^ -22.
 pub apart-wide : (x y : Float) → AtMost 2 (2 ^ 23) x y → closeTo wideF x y ≡ true
 unfolding wideF ofBits round
 apart-wide x y h = apart-close 2 (2 ^ 23) (pow-pos 23) x y h
@@ -260,7 +260,7 @@ close-triangle a q k h g = apart-wide a k (apart-add (eps-apart a q h) (eps-apar
 
 -- ---- points
 
--- an axis is within, and then the others are
+-- An axis is within, and then the others are.
 pub within-split : (w x y : Float) (xs ys : Vector) → within w (x ∷ xs) (y ∷ ys) ≡ true → (closeTo w x y ≡ true) × (within w xs ys ≡ true)
 unfolding within closeTo
 within-split w x y xs ys h = go (closeTo w x y) h

@@ -87,7 +87,7 @@ module _ {sh : Shape} {w row : List ℕ} (a : Row sh w row) where
 
 -- ---- classes
 
--- the cells say who shares a class
+-- The cells say who shares a class.
 pub class-cells : (sh : Shape) (w : List ℕ) (fs : List Float) → Held sh w → ClassesIn sh w fs → (r e g : ℕ) → 1 ≤ r → r < sh .rank → e < sizeAt sh r → g < sizeAt sh r
     → eqb (classesOn sh w fs r g) (classesOn sh w fs r e)
     ≡ sameClass (getD fs (coordinates sh w + proper sh + (before sh r + g)) nan) (getD fs (coordinates sh w + proper sh + (before sh r + e)) nan)
@@ -105,7 +105,7 @@ class-cells sh w fs h c r e g low high he hg =
         let i : before sh r + k < proper sh = omega arith in
         rw (b, ← c .cells) (getD-take (proper sh) (drop (coordinates sh w + proper sh) fs) (before sh r + k) nan i ∙ getD-drop (coordinates sh w + proper sh) fs (before sh r + k) nan)
 
--- the cell of a class lies in the floats
+-- The cell of a class lies in the floats.
 pub ranks-lie : (sh : Shape) (w : List ℕ) → Held sh w → (r : ℕ) → 1 ≤ r → r < sh .rank
     → (r < 7) × (sh .rank < 7) × (firstAt sh 1 ≤ firstAt sh (sh .rank)) × (firstAt sh 1 ≤ firstAt sh r)
 ranks-lie sh w h r low high =
@@ -160,7 +160,7 @@ module _ {sh : Shape} {w row : List ℕ} {cls : Classes} {cells₀ : List ℕ} {
   many-in : n ≡ size (solidIn sh w) r
   many-in = t .many ∙ sym (size-is sh w r (omega (arith, t .rank .high)))
 
-  -- an element of the rank, by the code's number of them
+  -- An element of the rank, by the code's number of them.
   pub turn-in : {x : ℕ} → x < size (solidIn sh w) r → x < n
   turn-in h = omega (arith, many-in)
 
@@ -185,7 +185,7 @@ module _ {sh : Shape} {w row : List ℕ} {cls : Classes} {cells₀ : List ℕ} {
         b : Rank sh w row cells r
         b = t .rank
 
-        -- the rank below stands before
+        -- The rank below stands before.
         below : 2 ≤ r → Images sh w row (set cells (base + e) x) (r - 1)
         below two f m =
             let z : suc (r - 1) ≡ r = omega arith in
@@ -209,7 +209,7 @@ module _ {sh : Shape} {w row : List ℕ} {cls : Classes} {cells₀ : List ℕ} {
 
 -- ---- the ranks
 
--- the ranks below r are carried, and the one just below has its cells
+-- The ranks below r are carried, and the one just below has its cells.
 pub record Round (sh : Shape) (w row : List ℕ) (cls : Classes) (cells₀ : List ℕ) (cells : List ℕ) (r : ℕ) : Type 0 where
   pub low : 1 ≤ r
   pub long : length cells ≡ length cells₀

@@ -45,7 +45,7 @@ module _ (p : ℕ → Bool) where
   unfolding keep
   kept-yes x l e = rw (e, keep)
 
-  -- after k elements, what is left gives what the whole gives
+  -- After k elements, what is left gives what the whole gives.
   abbrev pub First : List ℕ → ℕ → Type 0
   First l k = firstOf (keep p (drop k l)) ≡ firstOf (keep p l)
 
@@ -73,7 +73,7 @@ module _ (sh : Shape) (w : List ℕ) (h : Held sh w) (cells : List ℕ) (r e : �
   pub sub-cell : (f : ℕ) → In f (listAt w (subsWord (firstAt sh (suc r)) e)) → firstAt sh r + f < length cells
   sub-cell f m = omega (arith, number-in sh w h r f (omega arith) (sub-in sh w h r e f high (rw list-is at m)))
 
-  -- the first sub, and where it goes
+  -- The first sub, and where it goes.
   module _ (f y : ℕ) (f-is : f ≡ getD (listAt w (subsWord (firstAt sh (suc r)) e)) 0 0) (y-is : y ≡ getD cells (firstAt sh r + f) 0) where
     sub-low : f < sizeAt sh r
     sub-low = sub-in sh w h r e f high (rw (f-is, list-is) (in-getD 0 (subs (solidIn sh w) (suc r) e) 0 (rw list-is at some-sub)))

@@ -153,7 +153,7 @@ module _ (s : Solid) (ok : Sound s) (filled : (r e : ℕ) → e < size s (suc r)
           ∙ order-same (size s (suc q)) (subs s (suc (suc q)) g) (map (goes s row (suc q)) (subs s (suc (suc q)) e)) (λ v b m. h v .0 m) (λ v b m. h v .1 m) in
           (sym z, k, class-left (suc q) e g k z l)
 
-      -- what a carried element goes to passes the test
+      -- What a carried element goes to passes the test.
       passes : carriesElement s cls row (suc (suc q)) e ≡ true → (g : ℕ) × (g < size s (suc (suc q))) × Same (subs s (suc (suc q)) g) (map to (subs s (suc (suc q)) e))
       passes c =
           let f = fit-of s cls row (suc (suc q)) e c in

@@ -55,7 +55,7 @@ permutes-of row p = rw (every-of (λ v. ltb v (length row)) row (λ v m. lt-ltb 
 
 -- ---- the loop
 
--- the first k entries were met, and they are marked
+-- The first k entries were met, and they are marked.
 pub record Seen (row seen : List ℕ) (n k : ℕ) : Type 0 where
   pub n-is : n ≡ length row
   pub room : n ≤ length seen

@@ -36,7 +36,7 @@ rising-rest : (x : ℕ) (l : List ℕ) → RisingAbove x l → Rising l
 rising-rest x [] h = tt
 rising-rest x (y ∷ l) h = h .1
 
--- a rising list is what a test that passes on it alone keeps
+-- A rising list is what a test that passes on it alone keeps.
 keep-self : (p : ℕ → Bool) (a n : ℕ) (l : List ℕ) → Rising l → ((x : ℕ) → In x l → (a ≤ x) × (x < a + n))
     → ((x : ℕ) → a ≤ x → p x ≡ true → In x l) → ((x : ℕ) → In x l → p x ≡ true) → keep p (range a n) ≡ l
 unfolding keep range
@@ -82,7 +82,7 @@ pub sets-same : (n : ℕ) (l m : List ℕ) → Same (inOrder n l) (inOrder n m) 
 sets-same n l m h =
     order-same n l m (λ v b k. of-order n m v (h v .0 (in-order n l v b k)) .1) (λ v b k. of-order n l v (h v .1 (in-order n m v b k)) .1)
 
--- a list without repeats that lies in one that is no longer holds all of it
+-- A list without repeats that lies in one that is no longer holds all of it.
 full : (l m : List ℕ) → Once l → length m ≤ length l → ((x : ℕ) → In x l → In x m) → (x : ℕ) → In x m → In x l
 full l m o n h x k = go (in? eqb numbers x l)
   where

@@ -75,7 +75,7 @@ module _ (s : Solid) (cls : Classes) (row : List ℕ) where
 
 -- ---- images of images
 
--- where h is g and then f, the set of h's values is that of f's on the set of g's
+-- Where h is g and then f, the set of h's values is that of f's on the set of g's.
 order-then : (n : ℕ) (f g h : ℕ → ℕ) (l : List ℕ) → ((x : ℕ) → In x l → (g x < n) × (h x ≡ f (g x))) → inOrder n (map h l) ≡ inOrder n (map f (inOrder n (map g l)))
 order-then n f g h l k = order-same n (map h l) (map f (inOrder n (map g l))) there back
   where
@@ -99,7 +99,7 @@ module _ (s : Solid) (a b : List ℕ) (q : Permutes s b) where
       (λ v m. let k = of-order (size s 1) (reach s r e) v m .0 in (row-low s b q v k, getD-map (λ u. getD a u 0) 0 0 b v (rw (q .full) k)))
       ∙ ap (λ (l : List ℕ). inOrder (size s 1) (map (λ v. getD a v 0) l)) (sym (goes-vertices s b r e p h))
 
-  -- the product takes an element where a takes what b takes it to
+  -- The product takes an element where a takes what b takes it to.
   goes-composed : (r e : ℕ) → goes s b r e < size s r → goes s (composed a b) r e ≡ goes s a r (goes s b r e)
   goes-composed r e h = go (proper? s r)
     where
@@ -137,7 +137,7 @@ module _ (s : Solid) (w : Sound s) (cls : Classes) (a b : List ℕ) (ca : Confir
   below zero e x p m = absurd (not-suc-le-zero (p .0))
   below (suc r) e x p m = w .below r e x m
 
-  -- the set of where e's subs go is a's of b's
+  -- The set of where e's subs go is a's of b's.
   subs-composed : (r e : ℕ) → Proper s r
       → inOrder (size s (pred r)) (map (goes s (composed a b) (pred r)) (subs s r e))
       ≡ inOrder (size s (pred r)) (map (goes s a (pred r)) (inOrder (size s (pred r)) (map (goes s b (pred r)) (subs s r e))))

@@ -20,14 +20,14 @@ use Rattle.products.specs.Products.{composed}
 use Rattle.products.specs.Marking.{markIn, rowAt, Factored}
 use Rattle.products.proofs.Composed.{marked-composed}
 
--- a row has v entries
+-- A row has v entries.
 pub row-long : (v k : ℕ) (rows : List ℕ) → k * v + v ≤ length rows → length (rowAt v rows k) ≡ v
 row-long v k rows h = length-take-le v (drop (k * v) rows) (omega (arith, length-drop (k * v) rows))
 
 -- ---- entry by entry
 
 module _ (row a g : List ℕ) where
-  -- the first i entries are the product's
+  -- The first i entries are the product's.
   abbrev pub SameTo : ℕ → Type 0
   SameTo i = (j : ℕ) → j < i → getD row j 0 ≡ getD a (getD g j 0) 0
 
@@ -57,7 +57,7 @@ module _ (c : Concrete) where
   unfolding markIn
   marked-one row e = rw (markIn, e)
 
-  -- the mark of a row before k is its mark
+  -- The mark of a row before k is its mark.
   mark-is : (v k j : ℕ) (rows marks : List ℕ) → marks ≡ map (markIn c) (parts k v rows) → j < k → getD marks j 0 ≡ markIn c (rowAt v rows j)
   mark-is v k j rows marks e h =
       ap (λ (l : List ℕ). getD l j 0) e

@@ -14,14 +14,14 @@ use Rattle.float.proofs.Parts.{length-parts, parts-more}
 use Rattle.float.proofs.Tails.{part-written}
 use Rattle.products.specs.Marking.{markIn, rowAt}
 
--- one cell, written first
+-- One cell, written first.
 pub one-written : {A : Type 0} (x : A) (l : List A) → 0 < length l → set l 0 x ≡ written (x ∷ []) l
 unfolding written
 one-written x [] h = absurd (omega arith)
 one-written x (y ∷ l) h = refl
 
 module _ (c : Concrete) (v : ℕ) (rows : List ℕ) where
-  -- the marks of k rows
+  -- The marks of k rows.
   abbrev pub marksTo : ℕ → List ℕ
   marksTo k = map (markIn c) (parts k v rows)
 
@@ -39,7 +39,7 @@ module _ (c : Concrete) (v : ℕ) (rows : List ℕ) where
   unfolding written
   marks-taken k old now e = ap (take k) e ∙ take-at (marksTo k) _ k (marks-long k)
 
-  -- the loop's invariant: the first k of n rows have their marks
+  -- The loop's invariant: the first k of n rows have their marks.
   abbrev pub MarkedTo : ℕ → List ℕ → List ℕ → List ℕ → List ℕ → ℕ → Type 0
   MarkedTo n goes₀ marks₀ goes marks k = (k ≤ n) × (length goes ≡ length goes₀) × (length marks ≡ length marks₀) × (marks ≡ written (marksTo k) marks₀)
 
@@ -48,7 +48,7 @@ module _ (c : Concrete) (v : ℕ) (rows : List ℕ) where
     unfolding parts written
     loop-first = (omega arith, refl, refl, refl)
 
-    -- a cell is left for the next mark
+    -- A cell is left for the next mark.
     pub loop-left : (goes marks : List ℕ) (k : ℕ) → MarkedTo n goes₀ marks₀ goes marks k → k < n → n ≤ length marks₀ → 0 < length (midOf k (length marks - k) marks)
     loop-left goes marks k i h room =
         let e : k < length marks = omega (arith, i .2) in

@@ -28,7 +28,7 @@ module _ (sh : Shape) (w : List ℕ) (h : Held sh w) where
   abbrev s : Solid
   s = solidIn sh w
 
-  -- how many elements lie below rank r
+  -- How many elements lie below rank r.
   below : (r : ℕ) → r ≤ suc (sh .rank) → firstAt sh r ≡ running 0 (λ q. size s q) r
   unfolding running
   below zero k = h .start
@@ -61,7 +61,7 @@ module _ (sh : Shape) (w : List ℕ) (h : Held sh w) where
           omega (arith, h .start, least-one)
       go (suc q) e = omega (arith, total-some (omega arith))
 
-  -- a proper rank's elements are among E
+  -- A proper rank's elements are among E.
   pub proper-few : (r : ℕ) → 0 < r → r < sh .rank → size s r ≤ elements s
   unfolding running
   proper-few r a b =
@@ -107,16 +107,16 @@ module _ {sh : Shape} {low : ℕ} {ws : List ℕ} {fs : List Float} (b : Bench s
   unfolding baseOf lowOf
   base-in = omega (arith, b .low-is)
 
-  -- all subs, and as many sups after them
+  -- All subs, and as many sups after them.
   pub base-pairs : base + length (pairs sh bench-solid) ≡ low
   unfolding baseOf lowOf
   base-pairs = omega (arith, b .low-is, pairs-are sh (take low ws) (b .held .sound) (b .held .filled))
 
-  -- the coordinates
+  -- The coordinates.
   pub points-in : size bench-solid 1 * sh .dimension ≤ length fs
   points-in = omega (arith, mul-le-mul-left (size bench-solid 1) (b .held .wide), vertices-few sh (take low ws) (b .held), b .floats)
 
-  -- two words for each element, and one for each vertex, after the solid's own
+  -- Two words for each element, and one for each vertex, after the solid's own.
   pub rows-in : low + 2 * total sh + size bench-solid 1 ≤ length ws
   unfolding lowOf
   rows-in =
@@ -138,7 +138,7 @@ module _ {sh : Shape} {low : ℕ} {ws : List ℕ} {fs : List Float} (b : Bench s
       let p : length (pairs sh bench-solid) < 2 ^ 30 = rw (b .subs-alone) at (b .stored .entries) in
       omega (arith, base-pairs, pairs-are sh (take low ws) (b .held .sound) (b .held .filled), elements-few)
 
--- whatever else changes
+-- Whatever else changes.
 pub bench-kept : {sh : Shape} {low : ℕ} {ws vs : List ℕ} {fs gs : List Float} → Bench sh low ws fs → take low vs ≡ take low ws → length vs ≡ length ws
     → length gs ≡ length fs → Bench sh low vs gs
 bench-kept {sh} {low} {ws} {vs} {fs} {gs} b e l m = record {
@@ -173,7 +173,7 @@ laid b = λ gs k. record {
   floats = k;
 }
 
--- a bench of just enough floats
+-- A bench of just enough floats.
 pub some-bench : (sh : Shape) (low : ℕ) (ws : List ℕ) → Laid sh low ws → Bench sh low ws (replicate (8 * (elements (solidIn sh (take low ws)) + 8)) zeroF)
 some-bench sh low ws l =
     let n = 8 * (elements (solidIn sh (take low ws)) + 8) in

@@ -81,7 +81,7 @@ module _ (s : Solid) (r e x : ℕ) where
       keep-in (λ f. holds eqb x (subs s (suc r) f)) e (range 0 (size s (suc r)))
       (in-range 0 (size s (suc r)) e (omega arith) (omega arith)) (holds-in x (subs s (suc r) e) m)
 
--- the sups of h, one rank up, that have g among their sups
+-- The sups of h, one rank up, that have g among their sups.
 unfoldable pub upward : Solid → ℕ → ℕ → ℕ → List ℕ
 upward s r g h = keep (λ x. holds eqb g (sups s (suc r) x)) (sups s r h)
 
@@ -102,7 +102,7 @@ module _ (s : Solid) (ok : Sound s) (r g h : ℕ) (k : g < size s (suc (suc r)))
       (means-sup s r x h (ok .below (suc r) g x (q .0)) (in-holds h (subs s (suc r) x) (q .1)))
       (holds-in g (sups s (suc r) x) (means-sup s (suc r) g x k (q .0)))
 
-  -- both are kept of rising lists
+  -- Both are kept of rising lists.
   pub between-upward : between s (suc r) g h ≡ upward s r g h
   unfolding between upward
   between-upward =

@@ -42,7 +42,7 @@ one-sub (x ∷ y ∷ l) r b h = absurd (omega (arith, r .0, b y (inr (inl refl))
 
 -- ---- the solid
 
--- where R is two or more
+-- Where R is two or more.
 pub sub-entries-is : (sh : Shape) (I z : ℕ) → sh .rank ≡ suc (suc z) → subEntries sh I ≡ sizeAt sh 1 + I + sizeAt sh (suc z)
 unfolding subEntries
 sub-entries-is sh I z e = rw (e, subEntries)
@@ -51,7 +51,7 @@ module _ (sh : Shape) (w : List ℕ) (v : Sound (solidIn sh w)) (full : (r e : �
   abbrev s : Solid
   s = solidIn sh w
 
-  -- the subs of a rank's elements
+  -- The subs of a rank's elements.
   abbrev count : ℕ → ℕ
   count r = length (join (getD s r []))
 

@@ -30,7 +30,7 @@ unfolding keep
 keep-same p q [] f = refl
 keep-same p q (x ∷ l) f = rw (f x (inl refl), keep) (ap (λ (m : List ℕ). elim (q x) [ true ↦ x ∷ m | false ↦ m ]) (keep-same p q l (λ y m. f y (inr m))))
 
--- what fails among the later numbers of a range fails among all
+-- What fails among the later numbers of a range fails among all.
 range-later : (p : ℕ → Bool) (k a m b n : ℕ) → b ≡ k + a → n ≡ k + m → every p (range b m) ≡ false → every p (range a n) ≡ false
 unfolding every range
 range-later p zero a m b n eb en e = let x : b ≡ a = omega arith in let y : n ≡ m = omega arith in rw y (rw x at e)
@@ -77,7 +77,7 @@ module _ (sh : Shape) (w : List ℕ) (h : Held sh w) where
     middle : 4 * at + 2 ≤ length w
     middle = omega (arith, sups-lie sh w h (suc q) 0 (omega arith) (omega (arith, h .some (suc q) (omega arith))) .head)
 
-    -- a rank's lists, from its first element's on
+    -- A rank's lists, from its first element's on.
     subs-word : (y : ℕ) → 4 * at + 4 * y ≡ subsWord at y
     subs-word y = omega arith
 
@@ -97,7 +97,7 @@ module _ (sh : Shape) (w : List ℕ) (h : Held sh w) where
       sub-g : (f : ℕ) → In f (listAt w (subsWord above g)) → f < sizeAt sh (suc q)
       sub-g f m = sub-in sh w h (suc q) g f (omega arith) (rw subs-g at m)
 
-      -- from above
+      -- From above.
       pub down-is : (x : ℕ) → holding w (subsWord above g) (4 * at) x ≡ between s (suc q) g x
       unfolding holding between
       down-is x =
@@ -111,7 +111,7 @@ module _ (sh : Shape) (w : List ℕ) (h : Held sh w) where
         sup-x : (y : ℕ) → In y (listAt w (supsWord below x)) → y < sizeAt sh (suc q)
         sup-x y m = sup-in sh w h q x y (omega arith) (rw sups-x at m)
 
-        -- from below
+        -- From below.
         up-is : holding w (supsWord below x) (4 * at + 2) g ≡ upward s q g x
         unfolding holding upward
         up-is =
@@ -174,7 +174,7 @@ module _ (sh : Shape) (w : List ℕ) (h : Held sh w) where
       go zero a b = absurd (omega arith)
       go (suc q) a b = mitre-is q b
 
-  -- the whole, and a part of it
+  -- The whole, and a part of it.
   pub diamond-whole : twoFrom sh w 0 ≡ diamond s
   unfolding twoFrom
   diamond-whole = let q : sh .rank - 1 - 0 ≡ sh .rank - 1 = omega arith in rw q (sym diamond-is)

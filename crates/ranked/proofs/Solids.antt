@@ -43,7 +43,7 @@ module _ (sh : Shape) (w : List ℕ) where
   pub size-is : (r : ℕ) → r ≤ sh .rank → size (solidIn sh w) r ≡ sizeAt sh r
   size-is r h = ap length (rank-is r h) ∙ length-table (subsIn sh w r) (sizeAt sh r)
 
-  -- no rank stands above the top
+  -- No rank stands above the top.
   pub size-past : (r : ℕ) → sh .rank < r → size (solidIn sh w) r ≡ 0
   unfolding solidIn
   size-past r h = ap length (List·getD-eq-default (solidIn sh w) [] (rw (length-table (λ q. map (subsIn sh w q) (range 0 (sizeAt sh q)))) h))
@@ -53,12 +53,12 @@ module _ (sh : Shape) (w : List ℕ) where
   subs-is r e h k = ap (λ (l : List (List ℕ)). getD l e []) (rank-is r h) ∙ getD-table (subsIn sh w r) [] (sizeAt sh r) e k
 
 module _ (sh : Shape) (w : List ℕ) (h : Held sh w) where
-  -- the ranks up to r, and so the top's, lie one after another
+  -- The ranks up to r, and so the top's, lie one after another.
   below-total : (n r : ℕ) → r + n ≡ sh .rank → firstAt sh (suc r) ≤ total sh
   below-total zero r e = let q : suc r ≡ suc (sh .rank) = omega arith in rw q (omega arith)
   below-total (suc n) r e = omega (arith, below-total n (suc r) (omega arith), h .some (suc r) (omega arith))
 
-  -- an element's number over all ranks
+  -- An element's number over all ranks.
   pub number-in : (r e : ℕ) → r ≤ sh .rank → e < sizeAt sh r → firstAt sh r + e < total sh
   number-in r e q k = omega (arith, below-total (sh .rank - r) r (omega arith))
 
@@ -75,7 +75,7 @@ module _ (sh : Shape) (w : List ℕ) (h : Held sh w) where
   pub sups-is : (r e : ℕ) → r ≤ sh .rank → e < sizeAt sh r → sups (solidIn sh w) r e ≡ supsIn sh w r e
   sups-is r e q k = sym (h .derived r e q k)
 
-  -- the lists in the words
+  -- The lists in the words.
   pub subs-listed : (r e : ℕ) → r ≤ sh .rank → e < sizeAt sh r → listAt w (subsWord (firstAt sh r) e) ≡ subs (solidIn sh w) r e
   unfolding subsIn
   subs-listed r e q k = sym (subs-is sh w r e q k)

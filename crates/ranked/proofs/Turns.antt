@@ -15,11 +15,11 @@ use Rattle.spec.proofs.Lists.{length-range, getD-range, in-getD}
 
 -- ---- what a reader finds
 
--- the entry that was read is in the list
+-- The entry that was read is in the list.
 pub entry-in : (l : List ℕ) (k y : ℕ) → k < length l → y ≡ getD l k 0 → In y l
 entry-in l k y h e = rw e (in-getD 0 l k h)
 
--- a count that was read, held to 0
+-- A count that was read, held to 0.
 pub none-read : (n m : ℕ) → m ≡ n → m ≡ 0 → ltb 0 n ≡ false
 none-read n m e z = le-ltb 0 n (omega arith)
 
@@ -51,7 +51,7 @@ module _ {A : Type 0} (p : A → Bool) where
   unfolding every
   every-end l k h inv = rw (drop-of-length-le l h) at inv
 
--- the same over a, a + 1, .., a + n - 1, k numbers in, at the number x
+-- The same over a, a + 1, .., a + n - 1, k numbers in, at the number x.
 module _ (p : ℕ → Bool) (a n k x : ℕ) (at : x ≡ a + k) (more : k < n) (inv : Every p (range a n) k) where
   here : getD (range a n) k 0 ≡ x
   here = getD-range a n 0 k more ∙ sym at

@@ -88,7 +88,7 @@ module _ {sh : Shape} {low : ℕ} {ws : List ℕ} {fs : List Float} (b : Bench s
   pub classed-bench : Bench sh low ws gs
   classed-bench = bench-kept b refl refl (c .long)
 
-  -- what the marks need, once the prints of the same solid are written and its sets compared
+  -- What the marks need, once the prints of the same solid are written and its sets compared.
   pub markable : (vs : List ℕ) → take low vs ≡ take low ws → (apart : Bool)
       → apart ≡ setsApart (solidIn sh (take low vs)) → (m : ℕ) → 8194 ≤ m → Markable sh (take low vs) gs apart m
   markable vs e apart q m h = record {
@@ -101,6 +101,6 @@ module _ {sh : Shape} {low : ℕ} {ws : List ℕ} {fs : List Float} (b : Bench s
   pub classed-solid : (vs : List ℕ) → take low vs ≡ take low ws → solidAt sh low vs gs ≡ solidAt sh low ws fs
   classed-solid vs e = solid-kept sh low ws vs fs gs e (c .same)
 
--- where the prints stand, as the program counts
+-- Where the prints stand, as the program counts.
 pub after-types : (sh : Shape) (low : ℕ) → low + firstAt sh (sh .rank + 1) ≡ low + total sh
 after-types sh low = ap (λ (k : ℕ). low + firstAt sh k) (add-one (sh .rank))

@@ -16,7 +16,7 @@ use Rattle.search.specs.Reading.{callOf}
 use Rattle.search.specs.Demand3.{Demand3Told}
 
 module _ (b : List ℕ) (c : Concrete) (S z : State) where
-  -- what holds of a call's definition holds of what it answers
+  -- What holds of a call's definition holds of what it answers.
   answered : (call : List ℕ → ℕ → ℕ → SearchOut → Answer × SearchOut) → ListedMembers call b c S z → (words floats : ℕ) (old : SearchOut) (y : Answer × SearchOut) → y ≡ call b words floats old
       → (k : ℕ) → k < answerCount (y .0) → getD (y .1 .marks) k 0 ≡ 1 → (q e : ℕ) → e < size (c .abs) q → KeepsType (c .abs) S z (rowAt (length (c .points)) k (y .1 .rows)) q e
   answered call l words floats old y p =
@@ -28,7 +28,7 @@ module _ (b : List ℕ) (c : Concrete) (S z : State) where
   either d false words floats old new r p = answered searchCall (d .searches) words floats old (r, new) p
   either d true words floats old new r p = answered rotationsCall (d .rotations) words floats old (r, new) p
 
--- both promises of a call, from its equation
+-- Both promises of a call, from its equation.
 pub told : (rot : Bool) (b : List ℕ) (words floats : ℕ) (old new : SearchOut) (r : Answer) → (r, new) ≡ callOf rot b words floats old
     → ((r, new) ≡ callOf rot b words floats old) × Demand3Told b (answerCount r) (new .rows) (new .marks)
 told rot b words floats old new r e = (

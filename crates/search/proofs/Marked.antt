@@ -33,7 +33,7 @@ parts-join {A} d (x ∷ ls) rest h =
     (ap₂ (λ (y : List A) (z : List (List A)). y ∷ z) (take-at x (join ls ++ rest) d (h x (inl refl)))
     (ap (parts (length ls) d) (drop-at x (join ls ++ rest) d (h x (inl refl))) ∙ parts-join d ls rest (λ y i. h y (inr i))))
 
--- the marks of the rows of some members are the members' marks
+-- The marks of the rows of some members are the members' marks.
 marks-are : (w : Setting) (c : Concrete) (v : ℕ) (ms : List Member) (old : List ℕ) → ((row : List ℕ) → markIn c row ≡ markOf w row)
     → ((x : Member) → In x ms → (length (x .row) ≡ v) × Marked w x)
     → map (markIn c) (parts (length ms) v (written (rowCells ms) old)) ≡ map (λ x. x .mark) ms
@@ -47,7 +47,7 @@ marks-are w c v ms old e h =
     ∙ map-map row (markIn c) ms
     ∙ map-same (λ x. markIn c (x .row)) (λ x. x .mark) ms (λ x i. e (x .row) ∙ sym (h x i .1))
 
--- a member is what some flag's candidate gives
+-- A member is what some flag's candidate gives.
 member-from : (w : Setting) (l : List Flag) (x : Member) → In x (membersOf w l) → (F : Flag) × (tested w (candidate w F) ≡ some x)
 unfolding membersOf
 member-from w (F ∷ l) x h = go (sameTypes w F) (tested w (candidate w F)) refl h (λ k. member-from w l x k)
@@ -60,7 +60,7 @@ member-from w (F ∷ l) x h = go (sameTypes w F) (tested w (candidate w F)) refl
     go true (some m) e (inl q) f = (F, rw q e)
     go true (some m) e (inr k) f = f k
 
--- those that fit have room
+-- Those that fit have room.
 fitting-room : (m : Room) (d v n : ℕ) (l : List Member) → Holds m d v n → Holds m d v (length (fitting m d v n l) + n)
 unfolding fitting
 fitting-room m d v n [] h = let q : 0 + n ≡ n = omega arith in rw q h
@@ -73,7 +73,7 @@ fitting-room m d v n (x ∷ l) h = go (haveRoom m d v (suc n)) refl (λ k. fitti
         rw q (f (fits-holds m d v (suc n) e))
     go false e f = let q : 0 + n ≡ n = omega arith in rw q h
 
--- its row has an entry for each vertex
+-- Its row has an entry for each vertex.
 tested-row : (w : Setting) (m : Matrix) (x : Member) → tested w m ≡ some x → length (x .row) ≡ length (w .searched .points)
 unfolding tested rowOf
 tested-row w m x = go (every (λ v. ltb v (length (w .searched .points))) (rowOf (w .searched .points) m) && examplesGo (w .searched .abs) (w .types) (rowOf (w .searched .points) m))
@@ -109,7 +109,7 @@ module _ (w : Setting) (rot : Bool) (m : Room) (Fs : List Flag) where
       let q : length (fitting m d v 0 l) + 0 ≡ length (fitting m d v 0 l) = omega arith in
       rw q at (fitting-room m d v 0 l (none-held m d v))
 
-  -- and their marks are those of the rows that are written
+  -- And their marks are those of the rows that are written.
   pub kept-marks : (c : Concrete) (old : List ℕ) → ((row : List ℕ) → markIn c row ≡ markOf w row)
       → map (markIn c) (parts (length kept) v (written (rowCells kept) old)) ≡ map (λ x. x .mark) kept
   kept-marks c old e = marks-are w c v kept old e (λ x i.

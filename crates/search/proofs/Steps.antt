@@ -74,7 +74,7 @@ module _ (sh : Shape) (low : ℕ) (ws : List ℕ) (fs : List Float) (rot : Bool)
   read = solidAt sh low ws fs
 
   module _ (b : Bool) (e : b ≡ leb 2 (sh .rank) && eqb (sh .dimension) (sh .rank - 1)) where
-    -- there are two ranks, and an axis
+    -- There are two ranks, and an axis.
     pub tall : b ≡ true → (2 ≤ sh .rank) × (1 ≤ sh .dimension)
     tall t =
         let h = both (leb 2 (sh .rank)) (eqb (sh .dimension) (sh .rank - 1)) (sym e ∙ t) in
@@ -188,7 +188,7 @@ module _ (c d : Concrete) (z : State) where
   unfolding from11
   solid-is i q n = wanted-yes Flat inverted _ i q ∙ judge-yes Flat (allFinite i) _ n
 
--- an inverse that passes was found, and is finite
+-- An inverse that passes was found, and is finite.
 regular-found : (f : Bool) (m : Matrix) → regular (ifRegular f m) ≡ true → (ifRegular f m ≡ some m) × (allFinite m ≡ true)
 unfolding regular ifRegular
 regular-found true m e = (refl, e)
@@ -233,7 +233,7 @@ module _ (d : Concrete) (f : ℕ) (z : State) (i : Matrix) (rot : Bool) (old : S
     unfolding settingOf exchanged outsOf
     ended ks q = rw (e, l .count, l .matrices, l .rows, q) (sym (ends-listed set rot as-read old (r .short) refl refl (l .short)))
 
-    -- none is listed
+    -- None is listed.
     pub end-none : r .count ≡ 0 → (a, outOf ms rs (old .marks)) ≡ ends rot as-read (passed set) old
     unfolding written
     end-none n = ended (old .marks) (none kept (sym (l .count) ∙ n))
@@ -242,12 +242,12 @@ module _ (d : Concrete) (f : ℕ) (z : State) (i : Matrix) (rot : Bool) (old : S
         none [] h = refl
         none (x ∷ k) h = absurd (omega (arith, h))
 
-    -- there is room for the marks
+    -- There is room for the marks.
     pub marks-in : Holds (roomOf old) (d .dimension) (length (d .points)) (r .count)
     unfolding settingOf
     marks-in = rw (l .count) (kept-room set rot (roomOf old) (flags (d .abs)))
 
-    -- the marks of the rows that are written
+    -- The marks of the rows that are written.
     pub end-some : (ks : List ℕ) → ks ≡ written (map (markIn as-read) (parts (r .count) (length (d .points)) rs)) (old .marks) → (a, outOf ms rs ks) ≡ ends rot as-read (passed set) old
     unfolding settingOf markOf markIn
     end-some ks q = ended ks (q ∙ ap (λ (m : List ℕ). written m (old .marks)) (rw (l .count, l .rows) (kept-marks set rot (roomOf old) (flags (d .abs)) as-read (old .rows) (λ row. refl))))

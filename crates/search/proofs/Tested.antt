@@ -28,13 +28,13 @@ use Rattle.distances.specs.Solids.{solidOn, coordinates}
 
 -- ---- the solid in words and floats
 
--- only the coordinates count
+-- Only the coordinates count.
 pub solid-on : (sh : Shape) (low : ℕ) (ws : List ℕ) (fs : List Float) → solidOn sh (take low ws) fs (sh .dimension) ≡ solidAt sh low ws fs
 solid-on sh low ws fs =
     let s = solidIn sh (take low ws) in
     ap {B = Concrete} (λ (ps : List (List Float)). record { dimension = sh .dimension; points = ps; abs = s }) (sym (parts-take (size s 1) (sh .dimension) fs))
 
--- the solid stays while its words and its coordinates do
+-- The solid stays while its words and its coordinates do.
 pub solid-kept : (sh : Shape) (low : ℕ) (ws vs : List ℕ) (fs gs : List Float) → take low vs ≡ take low ws
     → take (coordinates sh (take low ws)) gs ≡ take (coordinates sh (take low ws)) fs → solidAt sh low vs gs ≡ solidAt sh low ws fs
 solid-kept sh low ws vs fs gs e p = rw (e, p)
@@ -44,7 +44,7 @@ pub full-is : (sh : Shape) (low : ℕ) (ws : List ℕ) (fs : List Float) → ful
 unfolding full
 full-is sh low ws fs = rw (top-is sh (take low ws))
 
--- the facets
+-- The facets.
 pub facets-are : (sh : Shape) (w : List ℕ) → 2 ≤ sh .rank → size (solidIn sh w) (top (solidIn sh w) - 1) ≡ sizeAt sh (sh .rank - 1)
 facets-are sh w h = rw (top-is sh w) (size-is sh w (sh .rank - 1) (omega arith))
 
@@ -84,7 +84,7 @@ module _ (c : Concrete) where
   unfolding firstFar
   far-end n k h inv = let l : length (range 0 n) ≤ k = omega (arith, length-range 0 n) in rw (drop-of-length-le (range 0 n) {i = k} l) at inv
 
-  -- the facet that is found is one of those asked for
+  -- The facet that is found is one of those asked for.
   far-in : (fs : List ℕ) (f : ℕ) → firstFar c fs ≡ some f → In f fs
   unfolding firstFar
   far-in [] f e = absurd (Option·none-ne-some f e)
@@ -97,7 +97,7 @@ module _ (c : Concrete) where
   pub far-low : (n f : ℕ) → firstFar c (range 0 n) ≡ some f → f < n
   far-low n f e = omega (arith, of-range 0 n f (far-in (range 0 n) f e) .1)
 
--- the test, as the program makes it
+-- The test, as the program makes it.
 pub test-is : (sh : Shape) (w : List ℕ) (fl : List Float) (f : ℕ) (x : Float) (b : Bool)
     → x ≡ distanceOf (solidOn sh w fl (sh .dimension)) (sh .rank - 1) f → lt eps x ≡ b → lt eps (distanceOf (solidOn sh w fl (sh .dimension)) (top (solidIn sh w) - 1) f) ≡ b
 test-is sh w fl f x b e t = rw (top-is sh w, ← e) t

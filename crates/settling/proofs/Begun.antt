@@ -33,13 +33,13 @@ use Rattle.settling.specs.Start.{cellAt, Shares, Fitting, ByClass, Start
 -- ---- a rank's types
 
 module _ (sh : Shape) (low : ℕ) where
-  -- those of a rank with one element
+  -- Those of a rank with one element.
   type-one : (v : List ℕ) (q x : ℕ) → sizeAt sh q ≡ 1 → low + firstAt sh q < length v → getD v (low + firstAt sh q) 0 ≡ x → typesIn sh low v q ≡ x ∷ []
   unfolding typesIn
   type-one v q x one h e =
       ap (λ (n : ℕ). take n (drop (low + firstAt sh q) v)) one ∙ ap (take 1) (drop-cons v (low + firstAt sh q) 0 h) ∙ ap (λ (y : ℕ). y ∷ []) e
 
-  -- those of a rank where no word changed
+  -- Those of a rank where no word changed.
   types-kept : (w v : List ℕ) → length v ≡ length w → (q : ℕ) → ((i : ℕ) → low + firstAt sh q ≤ i → i < low + firstAt sh q + sizeAt sh q → getD v i 0 ≡ getD w i 0)
       → typesIn sh low v q ≡ typesIn sh low w q
   unfolding typesIn
@@ -50,7 +50,7 @@ module _ (sh : Shape) (low : ℕ) where
       (λ e h. let b : e < n = omega (arith, h, length-take n (drop a v)) in
       getD-take n (drop a v) e 0 b ∙ getD-drop a v e 0 ∙ k (a + e) (omega arith) (omega arith) ∙ sym (getD-take n (drop a w) e 0 b ∙ getD-drop a w e 0))
 
--- a word that is 0 stays so
+-- A word that is 0 stays so.
 zero-kept : (l : List ℕ) (i j : ℕ) → j < length l → getD l j 0 ≡ 0 → getD (set l i 0) j 0 ≡ 0
 zero-kept l i j h e = go (ℕ-discrete j i)
   where
@@ -86,7 +86,7 @@ module _ (s : Solid) (cls : Classes) (r : ℕ) where
 
 -- ---- the loop
 
--- the proper ranks below r have their types, and the least and the top those they had
+-- The proper ranks below r have their types, and the least and the top those they had.
 pub record Begun (sh : Shape) (low : ℕ) (w v : List ℕ) (cells : List Float) (r : ℕ) : Type 0 where
   pub above : 1 ≤ r
   pub long : length v ≡ length w
@@ -95,7 +95,7 @@ pub record Begun (sh : Shape) (low : ℕ) (w v : List ℕ) (cells : List Float) 
   pub types : (fs : List Float) → take (proper sh) cells ≡ classes (distances (solidAt sh low w fs)) → (q : ℕ) → 1 ≤ q → q < r → q < sh .rank
       → typesIn sh low v q ≡ startAt (solidIn sh (take low w)) (byTable (classTable (solidAt sh low w fs))) q
 
--- the least and the top have type 0
+-- The least and the top have type 0.
 abbrev pub opened : Shape → ℕ → List ℕ → List ℕ
 opened sh low w = set (set w low 0) (low + firstAt sh (sh .rank)) 0
 
@@ -173,7 +173,7 @@ module _ (sh : Shape) (low : ℕ) (w : List ℕ) (cells : List Float) (a : Start
     n-is : n ≡ sizeAt sh r
     n-is = ap (λ (j : ℕ). firstAt sh j - firstAt sh r) (add-one r)
 
-    -- the rank's offsets
+    -- The rank's offsets.
     pub offsets : (firstAt sh 1 ≤ firstAt sh r) × (firstAt sh r < firstAt sh (r + 1)) × (firstAt sh (r + 1) ≤ firstAt sh (sh .rank)) × (low + firstAt sh (r + 1) ≤ length w) × (r + 1 < 7)
     offsets =
         let b = rank-in r (omega arith) in

@@ -30,7 +30,7 @@ use Rattle.settling.specs.Typed.{AtStart, Typed}
 -- ---- offsets
 
 module _ (sh : Shape) (w : List ℕ) (h : Held sh w) where
-  -- where the least is the top, no element is proper
+  -- Where the least is the top, no element is proper.
   pub none-proper : sh .rank ≡ 0 → (0 ≡ proper sh) × (0 ≡ coordinates sh w + proper sh)
   none-proper e =
       let a : firstAt sh (sh .rank) ≡ 0 = ap (firstAt sh) e ∙ h .start in
@@ -50,7 +50,7 @@ module _ (sh : Shape) (w : List ℕ) (h : Held sh w) where
       let a = mul-le-mul-left (sizeAt sh 1) (h .wide) in
       omega (arith, h .few 1 (omega arith), proper-is sh w h, elements-few sh w h)
 
--- the floats from the classes on
+-- The floats from the classes on.
 pub rest-is : (gs : List Float) (cell k : ℕ) → cell ≡ k → take (length gs - cell) (drop cell gs) ≡ drop k gs
 rest-is gs cell k e = take-all (length gs - cell) (drop cell gs) (omega (arith, length-drop cell gs)) ∙ ap (λ (i : ℕ). drop i gs) e
 
@@ -63,7 +63,7 @@ module _ (sh : Shape) (low : ℕ) (w : List ℕ) (fs : List Float) (b : Bench sh
   can-sweep : Sweepable sh low w
   can-sweep = sweepable sh low w h (b .low-is) (b .words)
 
-  -- the least has rank 0 to itself, and the top rank R
+  -- The least has rank 0 to itself, and the top rank R.
   least-size : sizeAt sh 0 ≡ 1
   least-size = sym (size-is sh (take low w) 0 (omega arith)) ∙ ap length (h .sound .least)
 
@@ -118,7 +118,7 @@ module _ (sh : Shape) (low : ℕ) (w : List ℕ) (fs : List Float) (b : Bench sh
         };
       }
 
--- the sweeps, from the start
+-- The sweeps, from the start.
 pub typed : (sh : Shape) (low : ℕ) (w v u : List ℕ) (fs gs : List Float) (ending : Ending) → AtStart sh low w v fs gs → length u ≡ length v → Settles sh low v u ending
     → Typed sh low w u fs gs ending
 unfolding typesOf

@@ -69,7 +69,7 @@ module _ (sh : Shape) (low : ℕ) (w : List ℕ) (cls : Classes) (a : Swept sh l
   pub first-countable : Countable sh low w
   first-countable = countable w refl refl (a .good)
 
-  -- one more
+  -- One more.
   module _ (v : List ℕ) (count all left : ℕ) (i : Settling sh low w v count all left) where
     pub ready : Sweepable sh low v
     ready = sweepable-kept sh low w v (i .long) (i .lists) (a .sweepable)
@@ -117,7 +117,7 @@ module _ (sh : Shape) (low : ℕ) (w : List ℕ) (cls : Classes) (a : Swept sh l
 
 module _ (sh : Shape) (low : ℕ) (z : List ℕ) (a : Started sh low z) (w : List ℕ) (long : length w ≡ length z) (lists : take low w ≡ take low z)
     (state : stateIn sh low w ≡ sweep (solidIn sh (take low z)) (stateIn sh low z)) where
-  -- the first sweep
+  -- The first sweep.
   pub once : Swept sh low w (a .classes)
   once = record {
     sweepable = sweepable-kept sh low z w long lists (a .sweepable);
@@ -125,7 +125,7 @@ module _ (sh : Shape) (low : ℕ) (z : List ℕ) (a : Started sh low z) (w : Lis
     good = rw (lists, state, a .state) (good-sweep (solidIn sh (take low z)) (a .classes) (start (solidIn sh (take low z)) (a .classes)) (start-good (solidIn sh (take low z)) (a .classes)));
   }
 
-  -- and those after it
+  -- And those after it.
   pub ended : (E : ℕ) → E ≡ proper sh → (v : List ℕ) (ending : Ending) → take low v ≡ take low w → Countable sh low v
       → settle (solidIn sh (take low w)) (E + 1) (stateIn sh low w) ≡ endOf ending (stateIn sh low v) → Settles sh low z v ending
   unfolding result

@@ -29,7 +29,7 @@ module _ {A : Type 0} (same : A → A → Bool) (k : A) where
       go true e ih = rw (place-yes x l e) zero-le
       go false e ih = rw (place-no x l e) (omega arith)
 
-  -- what is left from j on has it where all have it
+  -- What is left from j on has it where all have it.
   abbrev pub Sought : List A → ℕ → Type 0
   Sought l j = j + place same k (drop j l) ≡ place same k l
 
@@ -44,7 +44,7 @@ module _ {A : Type 0} (same : A → A → Bool) (k : A) where
     unfolding place
     sought-end h = omega (arith, s, ap (place same k) (drop-of-length-le l {i = j} h))
 
--- two tests that agree on what is compared
+-- Two tests that agree on what is compared.
 pub place-alike : {A B C : Type 0} (p : A → A → Bool) (q : B → B → Bool) (f : C → A) (g : C → B) (x : A) (y : B) (l : List C)
     → ((c : C) → In c l → p (f c) x ≡ q (g c) y) → place p x (map f l) ≡ place q y (map g l)
 unfolding place

@@ -79,7 +79,7 @@ module _ (w : List ℕ) (to reps n : ℕ) (cells : List Float) (from : ℕ) (f :
       let q : e ≡ n = omega (arith, s .bound) in
       record { long = s .long; others = rw q at (s .others); numbers = λ cls k. rw q at (s .met cls k .types) }
 
-  -- what finding the class asks, and what a turn writes
+  -- What finding the class asks, and what a turn writes.
   module _ (v : List ℕ) (m e : ℕ) (s : Scan w v to reps n cells from m e) (h : e < n) where
     pub reps-in : (reps + m ≤ length v) × ((j : ℕ) → j < m → from + getD v (reps + j) 0 < length cells)
     reps-in = (omega (arith, s .long, s .few, f .room), λ j k. omega (arith, s .slots j k, f .inside))
@@ -113,7 +113,7 @@ module _ (w : List ℕ) (to reps n : ℕ) (cells : List Float) (from : ℕ) (f :
       more : map cls (range 0 (e + 1)) ≡ done ++ cls e ∷ []
       more = ap (λ (i : ℕ). map cls (range 0 i)) (add-one e) ∙ table-snoc cls 0 e e (omega arith)
 
-      -- its place among what was met
+      -- Its place among what was met.
       place-is : p ≡ place eqb (cls e) (distinct eqb done)
       unfolding repCells
       place-is =

@@ -22,7 +22,7 @@ use Rattle.spec.specs.Float.{absF, finite, inRange}
 
 -- ---- tests on numbers
 
--- two tests are one if each number order goes with the other
+-- Two tests are one if each number order goes with the other.
 same-leb : (a b c d : ℕ) → (a ≤ b → c ≤ d) → (b < a → d < c) → leb a b ≡ leb c d
 same-leb a b c d f g = go (leb a b) refl
   where
@@ -48,7 +48,7 @@ greatest : maxMagnitude ≡ fin false 1 (pos 20)
 unfolding evaluate
 greatest = refl
 
--- a / c of it, as the two sides of the comparison have it
+-- A / c of it, as the two sides of the comparison have it.
 crossed : (x a d u g : ℕ) → 0 < d → 0 < u → x * u ≡ a * d → leb (x * 1) (1 * g * d) ≡ leb a (g * u)
 crossed x a d u g p q e =
     same-leb (x * 1) (1 * g * d) a (g * u)
@@ -76,7 +76,7 @@ low-fields s t h =
     ∙ le-leb (t * 2 ^ 0) (2 ^ 1094) (le-trans (le-of-eq (mul-one t)) (le-trans (le-of-lt h) (pow-mono {i = 52} {j = 1094} (lit≤ tt))))
     ∙ sym (le-leb (0 * 2 ^ 52 + t) most (omega arith))
 
--- with a leading digit
+-- With a leading digit.
 shifted : (k t : ℕ) → t < 2 ^ 52 → leb ((2 ^ 52 + t) * 2 ^ k) (2 ^ 1094) ≡ leb (suc k * 2 ^ 52 + t) most
 shifted k t h = go (compare k 1042) (cmp k 1042)
   where
@@ -121,7 +121,7 @@ by-fields s (suc k) t l h = go (eq-or-lt-of-le l)
     go (inl e) = let q : suc k ≡ 2047 = omega arith in last-fields s (suc k) t q
     go (inr g) = high-fields s k t (omega arith) h
 
--- the test of the pattern n is the test of its value
+-- The test of the pattern n is the test of its value.
 pub on-board : (n : ℕ) → inRange (ofBits binary64 n) ≡ leb (n % 2 ^ 63) 0x4130_0000_0000_0000
 unfolding ofBits
 on-board n =

@@ -25,7 +25,7 @@ module _ (b : List ℕ) (i : ℕ) where
   field-lt zero = rw (pow-zero 2) (lit< tt)
   field-lt (suc w) = let h = field-lt w in let k = bit-lt b (i + w) in let p : 2 ^ suc w ≡ 2 ^ w * 2 = pow-suc 2 w in omega arith
 
-  -- a field of at most 64 bits, and what the loop makes of it on the way, fit 64 bits
+  -- A field of at most 64 bits, and what the loop makes of it on the way, fit 64 bits.
   pub field-fits : (w : ℕ) → w ≤ 64 → field b i w < 2 ^ 64
   field-fits w h = lt-of-lt-of-le (field-lt w) (pow-mono h)
 
@@ -33,7 +33,7 @@ module _ (b : List ℕ) (i : ℕ) where
   unfolding field
   next-fits w h = field-fits (suc w) h
 
--- as many whole bytes as the bits up to n need
+-- As many whole bytes as the bits up to n need.
 pub by-bytes : (n l : ℕ) → leb ((n + 7) / 8) l ≡ leb n (8 * l)
 by-bytes n l = go (leb n (8 * l)) refl
   where
@@ -55,17 +55,17 @@ module _ (b : List ℕ) (i : ℕ) where
       go true = refl
       go false = refl
 
-  -- a byte follows
+  -- A byte follows.
   pub end-follows : (i + 7) / 8 < length b → false ≡ passes (end b i)
   unfolding filling
   end-follows h = rw (le-ltb (8 * length b - i) 8 (omega arith)) at (sym end-is)
 
-  -- nothing is left
+  -- Nothing is left.
   pub end-here : 8 * length b ≤ i → true ≡ passes (end b i)
   unfolding filling field
   end-here h = let e : 8 * length b - i ≡ 0 = omega arith in rw e at (sym end-is)
 
-  -- some bits of the last byte are left
+  -- Some bits of the last byte are left.
   pub end-filled : length b ≤ (i + 7) / 8 → eqb (field b i (8 * length b - i)) 0 ≡ passes (end b i)
   unfolding filling
   end-filled h = rw (lt-ltb (8 * length b - i) 8 (omega arith)) at (sym end-is)

@@ -72,7 +72,7 @@ rank-count b c (suc n) used i y e =
     let h₂ = bound-by (listsAt b c n (used + length (h₁ .0 .0))) _ _ y (h₁ .2) in
     ap (λ z. length (z .0)) (sym (same _ y (h₂ .2))) ∙ ap suc (rank-count b c n (used + length (h₁ .0 .0)) _ (h₂ .0) (h₂ .1))
 
--- each rank has as many lists as its count says, and few enough entries
+-- Each rank has as many lists as its count says, and few enough entries.
 record Ranks (l : List ℕ) (ls : List (List (List ℕ))) : Type 0 where
   sizes : map length ls ≡ drop 1 l
   small : allEntries ls ≤ maxEntries * length l
@@ -94,7 +94,7 @@ ranks-read b (c ∷ d ∷ l) i y e =
     more : (a u n : ℕ) → 0 + a ≤ maxEntries → u ≤ maxEntries * suc n → a + u ≤ maxEntries * suc (suc n)
     more a u n h g = omega arith
 
--- of a sheet that passes
+-- Of a sheet that passes.
 record Said (p : Parsed) : Type 0 where
   low : p .rank ≤ maxRank
   flat : p .dimension ≤ maxDimension
@@ -129,7 +129,7 @@ said b p = go (sheet b 0) refl
 
 -- ---- the laws
 
--- the solid's ranks, by R and the counts
+-- The solid's ranks, by R and the counts.
 module _ (ls : List (List (List ℕ))) where
   solidBy : ℕ → List ℕ → Solid
   solidBy R counts = elim R as (λ z. Solid) [ zero ↦ ([] ∷ []) ∷ [] | suc r ↦ withTop (([] ∷ []) ∷ properLists counts ls) ]
@@ -165,7 +165,7 @@ sum-small m (x ∷ l) h =
     let c : m * suc (length l) ≡ m * length l + m = mul-suc m (length l) in
     omega arith
 
--- a header's numbers within the limits, so that what a caller works out of them fits
+-- A header's numbers within the limits, so that what a caller works out of them fits.
 pub record Small (h : Header) : Type 0 where
   pub rank : h .rank ≤ maxRank
   pub dimension : h .dimension ≤ maxDimension

@@ -56,7 +56,7 @@ end-passed b i = go (ltb (8 * length b - i) 8 && eqb (field b i (8 * length b - 
 
 -- ---- the coordinates, one after another
 
--- one reading, then a place that goes by where it ends
+-- One reading, then a place that goes by where it ends.
 thenPlace : {A : Type 0} → Judged (A × ℕ) → (ℕ → Place) → Place
 thenPlace (refused why) f = place.Refused why
 thenPlace (passed x) f = f (x .1)
@@ -96,7 +96,7 @@ module _ {A : Type 0} (m : Reader A) where
 -- ---- the coordinates, the lists and the end
 
 module _ (b : List ℕ) (n D : ℕ) (counts : List ℕ) (i : ℕ) where
-  -- once the coordinates are read
+  -- Once the coordinates are read.
   tail : Reader (List (List (List ℕ)))
   tail = lists b counts >>= λ ls. end b >> done ls
 

@@ -33,7 +33,7 @@ module _ {A B : Type 0} (m : Reader A) (i : ℕ) where
   unfolding _>>=_
   on k e = rw (e, _>>=_)
 
-  -- where the value does not matter
+  -- Where the value does not matter.
   pub stop-too : (k : Reader B) {why : Refusal} → m i ≡ refused why → (m >> k) i ≡ refused why
   unfolding _>>_
   stop-too k e = rw (e, _>>_)
@@ -42,7 +42,7 @@ module _ {A B : Type 0} (m : Reader A) (i : ℕ) where
   unfolding _>>_
   on-too k e = rw (e, _>>_)
 
--- what was read before a list
+-- What was read before a list.
 unfoldable pub after : {A : Type 0} → A → Judged (List A × ℕ) → Judged (List A × ℕ)
 after a (refused why) = refused why
 after a (passed x) = passed (a ∷ x .0, x .1)
@@ -79,7 +79,7 @@ module _ (b : List ℕ) (w i : ℕ) where
     unfolding judge _>>_
     good-field e f = on (bits b w) i _ (bits-whole e) ∙ rw f
 
--- a test, and what comes after it
+-- A test, and what comes after it.
 module _ {B : Type 0} (why : Refusal) (k : Reader B) (i : ℕ) where
   judge-bad : (t : Bool) → t ≡ false → (judge why t >> k) i ≡ refused why
   unfolding judge _>>_
@@ -193,7 +193,7 @@ unfolding judge
 judge-size why true i x e = ap (λ z. z .1) (sym (same (tt, i) x e))
 judge-size why false i x e = absurd (never why x e)
 
--- as many subs as were asked for, 11 bits each
+-- As many subs as were asked for, 11 bits each.
 pub sub-size : (b : List ℕ) (c n low i : ℕ) (y : List ℕ × ℕ) → subList b c n low i ≡ passed y → (length (y .0) ≡ n) × (y .1 ≡ i + 11 * n)
 unfolding subList done
 sub-size b c zero low i y e = subst (λ (z : List ℕ × ℕ). (length (z .0) ≡ 0) × (z .1 ≡ i + 11 * 0)) (same ([], i) y e) (refl, omega arith)
@@ -210,7 +210,7 @@ sub-size b c (suc n) low i y e =
     far : (i j k l n : ℕ) → j ≡ i + 11 → k ≡ j → l ≡ k + 11 * n → l ≡ i + 11 * suc n
     far i j k l n p q r = omega arith
 
--- a list's length and its subs; the rank's entries stay within the limit
+-- A list's length and its subs; the rank's entries stay within the limit.
 pub list-size : (b : List ℕ) (c used i : ℕ) (y : List ℕ × ℕ) → list b c used i ≡ passed y → (used + length (y .0) ≤ maxEntries) × (y .1 ≡ i + 12 + 11 * length (y .0))
 unfolding list
 list-size b c used i y e =
@@ -277,7 +277,7 @@ times-size m w f (suc n) i y e =
     ap (λ z. z .1) (sym (same _ y (h₂ .2))) ∙ times-size m w f n (h₁ .0 .1) (h₂ .0) (h₂ .1)
     ∙ ap (λ (z : ℕ). z + w * n) (f i (h₁ .0) (h₁ .1)) ∙ add-assoc i w (w * n) ∙ ap (λ (z : ℕ). i + z) (add-comm w (w * n) ∙ sym (mul-suc w n))
 
--- a judged field is as wide as the field
+-- A judged field is as wide as the field.
 field-size : {A : Type 0} (b : List ℕ) (w : ℕ) (why : Refusal) (t : ℕ → Bool) (f : ℕ → A) (i : ℕ) (y : A × ℕ) → (bits b w >>= λ n. judge why (t n) >> done (f n)) i ≡ passed y → y .1 ≡ i + w
 unfolding done
 field-size b w why t f i y e =

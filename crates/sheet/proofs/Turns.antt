@@ -28,7 +28,7 @@ use Rattle.sheet.specs.Judge.{proper, padded, rankEntries, allEntries}
 use Rattle.sheet.specs.Reading.{placeOf, countedOf, listedOf}
 use Rattle.sheet.proofs.Readers.{after, times-stop, times-on, sub-cut, sub-bad, sub-on, rank-stop, rank-on, ranks-stop, ranks-on, list-size, rank-size}
 
--- one turn less is left
+-- One turn less is left.
 less : (n k : ℕ) → k < n → n - k ≡ suc (n - (k + 1))
 less n k h = omega arith
 
@@ -40,7 +40,7 @@ unfolding placeOf after
 place-after a (refused why) = refl
 place-after a (passed x) = refl
 
--- what a place says of its reading
+-- What a place says of its reading.
 module _ {A : Type 0} where
   pub place-refused : (why : Refusal) (o : Judged (A × ℕ)) → place.Refused why ≡ placeOf o → o ≡ refused why
   unfolding placeOf
@@ -119,7 +119,7 @@ module _ (m : Reader ℕ) (n k i e : ℕ) (a : List ℕ) {w : Counted} (left : c
   unfolding countsFrom times done sum
   counts-end h = sym (ap (λ z. countsFrom a e k (times z m i)) (none n k h) ∙ rw add-zero) ∙ left
 
--- as the loop begins: zeros, and no more than they have room for
+-- As the loop begins: zeros, and no more than they have room for.
 drop-replicate : {A : Type 0} (n k : ℕ) (a : A) → drop k (replicate n a) ≡ replicate (n - k) a
 drop-replicate n zero a = rw sub-zero
 drop-replicate zero (suc k) a = rw zero-sub
@@ -136,7 +136,7 @@ counts-begin (passed x) f = rw (zero-add (sum (x .0)), filled (x .0) (f x refl))
 
 -- ---- lists
 
--- what a place is with the entries beside it
+-- What a place is with the entries beside it.
 unfoldable pub withEntries : ℕ → Place → Listed
 withEntries u (place.Refused why) = listed.Refused why
 withEntries u (place.At i) = listed.At i u
@@ -146,7 +146,7 @@ unfolding withEntries placeOf listedOf
 with-entries f used n (refused why) h = refl
 with-entries f used n (passed y) h = rw (h y refl)
 
--- one more list, or rank
+-- One more list, or rank.
 listed-after : {A : Type 0} (f : List A → ℕ) (g : A → ℕ) → ((a : A) (l : List A) → f (a ∷ l) ≡ g a + f l) → (used : ℕ) (a : A) (o : Judged (List A × ℕ)) → listedOf f used (after a o) ≡ listedOf f (used + g a) o
 unfolding listedOf after
 listed-after f g h used a (refused why) = refl
@@ -171,7 +171,7 @@ module _ {A : Type 0} (f : A → ℕ) (used : ℕ) where
   listed-at p u (refused y) e = absurd (let z : _≡_ {A = ℕ} 0 1 = cc in omega arith)
   listed-at p u (passed y) e = let q : y .1 ≡ p = cc in (y .0, ap (λ z. passed (y .0, z)) q, cc)
 
--- the lists of a rank
+-- The lists of a rank.
 module _ (b : List ℕ) (c n k used i : ℕ) {w : Listed} (left : listedOf rankEntries used (listsAt b c (n - k) used i) ≡ w) where
   pub rank-refuses : k < n → {why : Refusal} → listed.Refused why ≡ listedOf length used (list b c used i) → listed.Refused why ≡ w
   unfolding listedOf
@@ -207,7 +207,7 @@ rank-fits b c n i p u e =
     far : (l : ℕ) → p ≡ i + 12 * n + 11 * l → u ≡ 0 + l → p ≡ i + 12 * n + 11 * u
     far l q r = omega arith
 
--- the lists of all ranks
+-- The lists of all ranks.
 module _ (b : List ℕ) (c d e i : ℕ) (l : List ℕ) {w : Listed} (left : listedOf allEntries e (lists b (c ∷ d ∷ l) i) ≡ w) where
   pub ranks-refuse : {why : Refusal} → listed.Refused why ≡ listedOf rankEntries 0 (listsAt b c d 0 i) → listed.Refused why ≡ w
   unfolding listedOf
@@ -223,7 +223,7 @@ pub ranks-end : (b : List ℕ) (c e i : ℕ) {w : Listed} → listedOf allEntrie
 unfolding listedOf lists done allEntries sum
 ranks-end b c e i q = rw add-zero at q
 
--- the counts that are left, by the array that holds them
+-- The counts that are left, by the array that holds them.
 pub first-rank : (b l : List ℕ) (n i : ℕ) → lists b (getD l 0 0 ∷ drop 1 (take n l)) i ≡ lists b (take n l) i
 unfolding lists
 first-rank b l zero i = refl

@@ -132,7 +132,7 @@ module _ (s : Solid) (w : Sound s) (cls : Classes) (σ : ℕ → ℕ → ℕ) (c
         low (yes q) = absurd (n (omega arith, q))
         low (no q) = omega arith
 
-    -- the top has every element of the rank below
+    -- The top has every element of the rank below.
     all-subs : suc r ≡ top s → (u f : ℕ) → u < size s (suc r) → f < size s r → In f (subs s (suc r) u)
     all-subs q u f hu hf =
         let hu′ : u < size s (top s) = rw q at hu in

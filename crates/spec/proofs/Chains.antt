@@ -30,7 +30,7 @@ either-way (inl a) = inr a
 either-way (inr a) = inl a
 
 module _ (s : Solid) where
-  -- every element that is comparable with all of C is in C
+  -- Every element that is comparable with all of C is in C.
   abbrev Saturated : List Element → Type 0
   Saturated C = (F : Element) → IsElement s F → ((G : Element) → In G C → Comparable s F G) → In F C
 
@@ -53,7 +53,7 @@ module _ (s : Solid) where
     λ w. record { chain = w .0; largest = λ D d i F m. w .1 F (d .elements F m) (λ G n. d .comparable F G m (i G n)) },
   )
 
-  -- whether a list is a maximal chain depends only on the set that it stands for
+  -- Whether a list is a maximal chain depends only on the set that it stands for.
   same-maximal : (C D : List Element) → SameSet C D → IsMaximal s D → IsMaximal s C
   same-maximal C D e w = record {
     chain = record {
@@ -158,7 +158,7 @@ module _ (s : Solid) (v : Sound s) (full : Filled s) (b : bound s ≡ true) wher
         at L n h mH X a c (yes l) = inr (transitive (by-rank (w .chain .comparable L (h .it) n mH) (h .over-all L n l)) a)
         at L n h mH X a c (no l) = inl (transitive (over itself c) (by-rank (w .chain .comparable (element (suc r) e) L m n) (omega arith)))
 
-    -- from any member the chain goes down, rank by rank, as a flag up to that member
+    -- From any member the chain goes down, rank by rank, as a flag up to that member.
     down : (r e : ℕ) → In (element r e) C → (F : Flag) × To s r e F × ((q : ℕ) → q ≤ r → In (element q (elementAt F q)) C)
     down zero e m = (
       e ∷ [],
@@ -211,7 +211,7 @@ module _ (s : Solid) (v : Sound s) (full : Filled s) (b : bound s ≡ true) wher
     unfolding on
     on-is r h = closed s v (rw (w .peak) (top-is s v)) (climb r (top s) h (omega arith))
 
-    -- a member of the set is the flag's element of its rank
+    -- A member of the set is the flag's element of its rank.
     is-on : (G : Element) → In G (elementsOf F) → (G ≡ on (G .rank)) × (G .rank ≤ top s)
     unfolding on
     is-on G m = let k = of-flag F G m in (ap (element (G .rank)) (k .1), omega (arith, k .0, w .ranks))

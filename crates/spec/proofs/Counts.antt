@@ -97,7 +97,7 @@ module _ {A B : Type 0} (sameA : A → A → Bool) (testA : Test sameA) (sameB :
       go (inl (p, e)) ih = into s t xs p ∙ ap₂ (λ (m n : ℕ). m + n) (c t (inl refl)) ih ∙ sym (into s t ys p)
       go (inr (p, e)) ih = past s t xs p ∙ ih ∙ sym (past s t ys p)
 
--- two lists that repeat nothing and hold the same hold each as often
+-- Two lists that repeat nothing and hold the same hold each as often.
 pub as-often : {A : Type 0} (same : A → A → Bool) (test : Test same) (xs ys : List A) → Once xs → Once ys → ((t : A) → In t xs → In t ys) → ((t : A) → In t ys → In t xs)
     → (t : A) → count same t xs ≡ count same t ys
 as-often same test xs ys ox oy f h t = go (in? same test t xs)

@@ -59,11 +59,11 @@ unfolding outcome
 found-count (refused why) m = refl
 found-count (passed x) m = kept-count (x .1) (fitting m (x .0 .dimension) (length (x .0 .points)) 0 (x .1))
 
--- what is read past the last member
+-- What is read past the last member.
 no-member : Member
 no-member = record { matrix = []; row = []; mark = 0 }
 
--- of a call whose members are o, on a sheet whose solid is c
+-- Of a call whose members are o, on a sheet whose solid is c.
 module _ (b : List ℕ) (words floats : ℕ) (o : Judged (Concrete × List Member)) (shaped : Shaped o) (w : Confirms b words floats o)
     (words′ floats′ : ℕ) (c : Concrete) (e : preflight b words′ floats′ ≡ passed c) (old : SearchOut) where
   ms : List Member

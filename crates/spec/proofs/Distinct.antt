@@ -9,7 +9,7 @@ use native.Mathlib.Omega.{arith}
 use lib.ListN.{length, getD}
 use Rattle.spec.specs.Lists.{In, without, distinct, place, count}
 
--- a test that passes exactly at equals
+-- A test that passes exactly at equals.
 pub record Test {A : Type 0} (same : A → A → Bool) : Type 0 where
   pub pass : (a : A) → same a a ≡ true
   pub sound : (a b : A) → same a b ≡ true → a ≡ b
@@ -129,7 +129,7 @@ module _ {A : Type 0} (same : A → A → Bool) (test : Test same) where
   unfolding place
   place-no l e = rw (e, place)
 
-  -- it is there
+  -- It is there.
   pub place-at : {k : A} (d : A) (l : List A) → In k l → (place same k l < length l) × (getD l (place same k l) d ≡ k)
   place-at {k} d (x ∷ l) m = go (split x k) m (λ (h : In k l). place-at d l h)
     where
@@ -139,7 +139,7 @@ module _ {A : Type 0} (same : A → A → Bool) (test : Test same) where
       go (inr (p, e)) (inl q) ih = absurd (p (sym q))
       go (inr (p, e)) (inr h) ih = rw (place-no l e) (let r = ih h in (omega (arith, r .0), r .1))
 
-  -- and no lower one is it
+  -- And no lower one is it.
   pub place-low : {k : A} (d : A) (l : List A) (i : ℕ) → i < place same k l → getD l i d ≢ k
   unfolding place
   place-low d [] i h = absurd (omega arith)

@@ -33,7 +33,7 @@ in-every p (x ∷ l) f = rw (f x (inl refl), every) (in-every p l (λ y m. f y (
 pub keep-same : (p q : ℕ → Bool) → ((x : ℕ) → p x ≡ q x) → (l : List ℕ) → keep p l ≡ keep q l
 keep-same p q f l = ap (λ (r : ℕ → Bool). keep r l) (fun-ext f)
 
--- the three cases of `swap`: the number is 0, or it is f, or it is neither and stays
+-- The three cases of `swap`: the number is 0, or it is f, or it is neither and stays.
 data Swapped (f e : ℕ) : Type 0 where
   first : e ≡ 0 → swap f e ≡ f → Swapped f e
   second : e ≢ 0 → e ≡ f → swap f e ≡ 0 → Swapped f e
@@ -90,7 +90,7 @@ swap-low f e n hf he = go (swapped f e)
 swap-apart : (f x y : ℕ) → swap f x ≡ swap f y → x ≡ y
 swap-apart f x y e = sym (swap-back f x) ∙ ap (swap f) e ∙ swap-back f y
 
--- as many numbers below n pass p as pass p after a swap
+-- As many numbers below n pass p as pass p after a swap.
 count-swap : (p : ℕ → Bool) (f n : ℕ) → f < n → length (keep (λ x. p (swap f x)) (range 0 n)) ≡ length (keep p (range 0 n))
 count-swap p f n h = le-antisymm (fewer p) (rw (same) at (fewer (λ x. p (swap f x))))
   where
@@ -128,14 +128,14 @@ swap-twice l f h =
     ext-getD [] (swapWithFirst (swapWithFirst l f) f) l (swap-length (swapWithFirst l f) f ∙ n) λ e k.
     swap-at (swapWithFirst l f) f (rw n h) e ∙ swap-at l f h (swap f e) ∙ ap (λ (i : ℕ). getD l i []) (swap-back f e)
 
--- a sum over a list, one place of which is changed
+-- A sum over a list, one place of which is changed.
 sum-set : {A : Type 0} (g : A → ℕ) (d x : A) (l : List A) (i : ℕ) → i < length l → sum (map g (set l i x)) + g (getD l i d) ≡ sum (map g l) + g x
 unfolding sum
 sum-set g d x [] i h = absurd (omega arith)
 sum-set g d x (y ∷ l) zero h = omega arith
 sum-set g d x (y ∷ l) (suc i) h = omega (arith, sum-set g d x l i (omega arith))
 
--- the swapped lists have as many entries
+-- The swapped lists have as many entries.
 swap-sum : (l : List (List ℕ)) (f : ℕ) → f < length l → sum (map length (swapWithFirst l f)) ≡ sum (map length l)
 unfolding swapWithFirst
 swap-sum l f h =
@@ -208,7 +208,7 @@ module _ (s : Solid) (tall : 2 ≤ top s) (f : ℕ) (low : f < size s (top s - 1
       at r (yes p) = rw (p, at-n) (swap-sum (getD s (top s - 1) []) f low)
       at r (no n) = ap (λ (l : List (List ℕ)). sum (map length l)) (at-other r n)
 
-  -- no element gains or loses a sup
+  -- No element gains or loses a sup.
   sups-same : (r e : ℕ) → length (sups t r e) ≡ length (sups s r e)
   unfolding sups
   sups-same r e = go (ℕ-discrete (suc r) (top s - 1))
@@ -232,7 +232,7 @@ module _ (s : Solid) (tall : 2 ≤ top s) (f : ℕ) (low : f < size s (top s - 1
           ap (λ (g : ℕ → Bool). every g (range 0 (size t r))) (fun-ext (λ e. ap (ltb 0) (sups-same r e)))
           ∙ ap (λ (n : ℕ). every (λ e. ltb 0 (length (sups s r e))) (range 0 n)) (size-same r)
 
-  -- the subs of an element are those of one of its rank before
+  -- The subs of an element are those of one of its rank before.
   record Before (r e : ℕ) : Type 0 where
     was : ℕ
     subs-was : subs t r e ≡ subs s r was
@@ -258,7 +258,7 @@ module _ (s : Solid) (tall : 2 ≤ top s) (f : ℕ) (low : f < size s (top s - 1
     filled-t : (r e : ℕ) → e < size t (suc r) → 0 < length (subs t (suc r) e)
     filled-t r e h = rw (before (suc r) e .subs-was) (full r (before (suc r) e .was) (before (suc r) e .low-was (rw (size-same (suc r)) at h)))
 
-    -- below the facets
+    -- Below the facets.
     two-below : (r g h x : ℕ) → 0 < r → r < top s → r ≢ top s - 1 → g < size t (suc r) → In x (subs t (suc r) g) → In h (subs t r x) → length (between t r g h) ≡ 2
     unfolding between
     two-below r g h x k₀ k₁ n low a b =

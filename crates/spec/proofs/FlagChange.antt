@@ -113,7 +113,7 @@ diamond-at s d r k₀ k₁ g h x k a b =
 -- ---- the change
 
 module _ (s : Solid) (v : Sound s) (d : diamond s ≡ true) (q : ℕ) (high : suc q < top s) where
-  -- an element of a flag is one of its rank's
+  -- An element of a flag is one of its rank's.
   low-flag : (F : Flag) → IsFlag s F → elementAt F (suc (suc q)) < size s (suc (suc q))
   low-flag F w = go (ℕ-discrete (suc (suc q)) (top s))
     where
@@ -121,7 +121,7 @@ module _ (s : Solid) (v : Sound s) (d : diamond s ≡ true) (q : ℕ) (high : su
       go (yes p) = rw (p, w .peak, v .one) (omega arith)
       go (no n) = v .below (suc (suc q)) (elementAt F (suc (suc (suc q)))) (elementAt F (suc (suc q))) (w .chain (suc (suc q)) (omega arith))
 
-  -- the elements of rank r between g and h
+  -- The elements of rank r between g and h.
   mid : ℕ → ℕ → List ℕ
   mid g h = between s (suc q) g h
 

@@ -80,7 +80,7 @@ module _ {A B : Type 0} (g : B → List A) where
       go (inr h) f = let r = f h in (r .0, inr (r .1), r .2)
 
 module _ {A : Type 0} (g : ℕ → List A) where
-  -- where a lower number's list stands before a greater number's
+  -- Where a lower number's list stands before a greater number's.
   ordered-join : (R : A → A → Type 0) (l : List ℕ) → Rising l → ((x : ℕ) → Ordered R (g x))
       → ((x y : ℕ) (t u : A) → x < y → In t (g x) → In u (g y) → R t u) → Ordered R (join (map g l))
   unfolding join
@@ -94,14 +94,14 @@ module _ {A : Type 0} (g : ℕ → List A) where
 
 -- ---- the order of flags
 
--- past two flags' ends, what follows both is at the same places
+-- Past two flags' ends, what follows both is at the same places.
 past : (F G t : Flag) (n q : ℕ) → length F ≡ n → length G ≡ n → n ≤ q → elementAt (F ++ t) q ≡ elementAt (G ++ t) q
 past F G t n q hF hG h = at F hF ∙ sym (at G hG)
   where
     at : (H : Flag) → length H ≡ n → getD (H ++ t) q 0 ≡ getD t (q - n) 0
     at H k = let e : q ≡ length H + (q - n) = omega arith in ap (λ (i : ℕ). getD (H ++ t) i 0) e ∙ getD-append-add H t (q - n) 0
 
--- what is put after both leaves their order
+-- What is put after both leaves their order.
 before-more : (F G t : Flag) (n : ℕ) → length F ≡ n → length G ≡ n → Before F G → Before (F ++ t) (G ++ t)
 before-more F G t n hF hG b = record {
   rank = b .rank;
@@ -206,7 +206,7 @@ module _ (s : Solid) where
             above = λ q w. past (h .0) (k .0) (e ∷ []) (suc r) q (a .long) (b .long) w;
           })
 
--- a flag does not stand before itself, so that nothing is listed twice
+-- A flag does not stand before itself, so that nothing is listed twice.
 once-at : (d : Flag) (l : List Flag) → Ordered Before l → (i j : ℕ) → i < length l → j < length l → getD l i d ≡ getD l j d → i ≡ j
 once-at d l o i j hi hj e = go (decLt i j) (decLt j i)
   where

@@ -85,7 +85,7 @@ unfolding range
 once-range a zero = tt
 once-range a (suc n) = (λ h. let r = of-range (suc a) n a h in omega arith, once-range (suc a) n)
 
--- the elements of a map over 0 to n - 1
+-- The elements of a map over 0 to n - 1.
 pub getD-table : {B : Type 0} (f : ℕ → B) (b : B) (n i : ℕ) → i < n → getD (map f (range 0 n)) i b ≡ f i
 getD-table {B} f b n i h = getD-map f 0 b (range 0 n) i (rw length-range h) ∙ ap f (getD-range 0 n 0 i h ∙ omega arith)
 

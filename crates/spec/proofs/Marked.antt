@@ -82,7 +82,7 @@ keep-same p q (x ∷ l) h = go (q x) refl (keep-same p q l (λ y m. h y (inr m))
     go true e ih = rw (h x (inl refl) ∙ e, e, keep) (ap (λ (r : List ℕ). x ∷ r) ih)
     go false e ih = rw (h x (inl refl) ∙ e, e, keep) ih
 
--- two sets in order are one list when they hold the same
+-- Two sets in order are one list when they hold the same.
 pub order-same : (n : ℕ) (l m : List ℕ) → ((v : ℕ) → v < n → In v l → In v m) → ((v : ℕ) → v < n → In v m → In v l) → inOrder n l ≡ inOrder n m
 unfolding inOrder
 order-same n l m f g = keep-same (λ u. holds eqb u l) (λ u. holds eqb u m) (range 0 n) (λ v k. let b = of-range 0 n v k in go v (omega arith) (in? eqb numbers v l) (in? eqb numbers v m))
@@ -111,7 +111,7 @@ module _ (s : Solid) (row : List ℕ) where
       go true q = absurd (n (is-proper s r q))
       go false q = rw (q, goes)
 
-  -- an element of the rank is gone to: its vertices are the image
+  -- An element of the rank is gone to: its vertices are the image.
   pub goes-vertices : (r e : ℕ) → Proper s r → goes s row r e < size s r → vertices s r (goes s row r e) ≡ image s row r e
   unfolding vertexSets
   goes-vertices r e p h = go (in? eqList lists (image s row r e) (vertexSets s r))
@@ -122,7 +122,7 @@ module _ (s : Solid) (row : List ℕ) where
           ∙ place-at eqList lists [] (vertexSets s r) m .1
       go (no m) = absurd (omega (arith, h, goes-proper r e p, place-out eqList lists (vertexSets s r) (image s row r e) m, length-table (vertices s r) (size s r)))
 
--- an element of a rank with no vertex set twice is where its own stands
+-- An element of a rank with no vertex set twice is where its own stands.
 pub set-place : (s : Solid) (r : ℕ) → Once (vertexSets s r) → (i : ℕ) → i < size s r → place eqList (vertices s r i) (vertexSets s r) ≡ i
 unfolding vertexSets
 set-place s r o i h =
@@ -136,7 +136,7 @@ pub record Permutes (s : Solid) (row : List ℕ) : Type 0 where
   pub once : Once row
 
 module _ (s : Solid) (row : List ℕ) (a : Permutes s row) where
-  -- it takes a vertex to a vertex, and no two to one
+  -- It takes a vertex to a vertex, and no two to one.
   pub row-low : (v : ℕ) → v < size s 1 → getD row v 0 < size s 1
   row-low v h = a .low (getD row v 0) (in-getD 0 row v (rw (a .full) h))
 
@@ -145,7 +145,7 @@ module _ (s : Solid) (row : List ℕ) (a : Permutes s row) where
       sym (place-self eqb numbers 0 row (a .once) u (rw (a .full) hu)) ∙ ap (λ (x : ℕ). place eqb x row) e
       ∙ place-self eqb numbers 0 row (a .once) v (rw (a .full) hv)
 
-  -- one image, one vertex set
+  -- One image, one vertex set.
   back : (r e f : ℕ) → image s row r e ≡ image s row r f → (v : ℕ) → In v (vertices s r e) → In v (vertices s r f)
   unfolding image vertices
   back r e f q v m =
@@ -165,7 +165,7 @@ module _ (s : Solid) (row : List ℕ) (a : Permutes s row) where
       (λ v h m. of-order n₁ (reach s r f) v (back r e f q v (in-order n₁ (reach s r e) v h m)) .1)
       (λ v h m. of-order n₁ (reach s r e) v (back r f e (sym q) v (in-order n₁ (reach s r f) v h m)) .1)
 
-  -- no two elements go to one
+  -- No two elements go to one.
   pub goes-apart : (r e f : ℕ) → Proper s r → Once (vertexSets s r) → e < size s r → f < size s r → goes s row r e < size s r → goes s row r e ≡ goes s row r f → e ≡ f
   goes-apart r e f p o he hf h q =
       let k : goes s row r f < size s r = rw q at h in

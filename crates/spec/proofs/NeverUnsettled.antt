@@ -31,7 +31,7 @@ use Rattle.spec.proofs.Settled.{settled}
 
 -- ---- judgements that refuse with 1 to 14 only
 
--- every other refusal has a lower number than 15
+-- Every other refusal has a lower number than 15.
 abbrev Low : Refusal → Type 0
 Low why = number why < 15
 
@@ -59,7 +59,7 @@ unfolding Judging.wanted
 clear-wanted why none h = h
 clear-wanted why (some a) h = tt
 
--- what is there is not refused at all
+-- What is there is not refused at all.
 clear-there : {A : Type 0} (why : Refusal) (o : Option A) → o ≢ none → Clear (Judging.wanted why o)
 unfolding Judging.wanted
 clear-there why none n = absurd (n refl)
@@ -113,7 +113,7 @@ module _ (b : List ℕ) where
       go true = tt
       go false = lit< tt
 
-  -- a field: some bits, a judgement of them, and what they stand for
+  -- A field: some bits, a judgement of them, and what they stand for.
   reads-field : {A : Type 0} (w : ℕ) (why : Refusal) (ok : ℕ → Bool) (a : ℕ → A) → Low why → ClearReader (bits b w >>= (λ n. judge why (ok n) >> done (a n)))
   reads-field w why ok a h = reads-bind _ _ (reads-bits w) (λ n. reads-then _ _ (reads-judge why (ok n) h) (reads-done (a n)))
 

@@ -30,7 +30,7 @@ module _ {s : Solid} where
   at-most-rank itself = omega arith
   at-most-rank (over a c) = omega (arith, at-most-rank a, c .0)
 
-  -- an element is at most no other of its rank
+  -- An element is at most no other of its rank.
   pub same-rank : {F G : Element} → AtMost s F G → G .rank ≤ F .rank → F ≡ G
   same-rank itself h = refl
   same-rank (over a c) h = absurd (omega (arith, at-most-rank a, c .0))
@@ -43,7 +43,7 @@ module _ {s : Solid} where
   below-rank itself n = absurd (n refl)
   below-rank (over a c) n = omega (arith, at-most-rank a, c .0)
 
-  -- of two comparable elements the one of the lower rank is at most the other
+  -- Of two comparable elements the one of the lower rank is at most the other.
   pub by-rank : {F G : Element} → Comparable s F G → F .rank ≤ G .rank → AtMost s F G
   by-rank (inl a) h = a
   by-rank {F} {G} (inr a) h = subst (λ (H : Element). AtMost s F H) (sym (same-rank a h)) itself
@@ -80,7 +80,7 @@ module _ (s : Solid) (v : Sound s) where
       sub : IsElement s G
       sub = (omega (arith, h .0, c .0), v .below (G .rank) (H .number) (G .number) (subst (λ (r : ℕ). In (G .number) (subs s r (H .number))) (c .0) (c .1)))
 
-  -- the least and the top are the only elements of their ranks
+  -- The least and the top are the only elements of their ranks.
   one-least : size s 0 ≡ 1
   one-least = ap length (v .least)
 
@@ -104,7 +104,7 @@ module _ (s : Solid) (v : Sound s) where
         let m = in-getD 0 (subs s (suc r) e) 0 (full r e h) in
         over (from-least r (getD (subs s (suc r) e) 0 0) (v .below r e _ m)) (refl, m)
 
-    -- what the test behind refusal 5 says of one element
+    -- What the test behind refusal 5 says of one element.
     has-sup : bound s ≡ true → (r e : ℕ) → 0 < r → suc r < top s → e < size s r → (f : ℕ) × (f < size s (suc r)) × In e (subs s (suc r) f)
     unfolding bound
     has-sup b r e h₀ h₁ low =
@@ -115,7 +115,7 @@ module _ (s : Solid) (v : Sound s) where
         let w = every-sups s .derived r e (getD (sups s r e) 0 0) .0 (in-getD 0 (sups s r e) 0 k) in
         (getD (sups s r e) 0 0, w .0, w .1)
 
-    -- by induction on d, how many ranks stand above r
+    -- By induction on d, how many ranks stand above r.
     to-top : bound s ≡ true → (d r e : ℕ) → r + d ≡ top s → e < size s r → AtMost s (element r e) (topElement s)
     to-top b zero r e h low =
         let p : r ≡ top s = omega arith in
@@ -136,7 +136,7 @@ module _ (s : Solid) (v : Sound s) where
     pub top-over : bound s ≡ true → (F : Element) → IsElement s F → AtMost s F (topElement s)
     top-over b F h = to-top b (top s - F .rank) (F .rank) (F .number) (omega (arith, h .0)) (h .1)
 
-    -- where every element is at most the top, each has a sup
+    -- Where every element is at most the top, each has a sup.
     bound-of : ((F : Element) → IsElement s F → AtMost s F (topElement s)) → bound s ≡ true
     unfolding bound
     bound-of f =

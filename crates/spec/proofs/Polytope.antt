@@ -54,7 +54,7 @@ module _ (s : Solid) (r g h : ℕ) where
   middle : (x : ℕ) → In x (between s (suc r) g h) → Between s lower upper (element (suc r) x)
   middle x m = let k = of-between s (suc r) g h x m in (step (refl, k .1), step (refl, k .0))
 
-  -- an element strictly between has the rank between, is a sub of the upper and has the lower as a sub
+  -- An element strictly between has the rank between, is a sub of the upper and has the lower as a sub.
   in-middle : (H : Element) → Between s lower upper H → (H ≡ element (suc r) (H .number)) × In (H .number) (between s (suc r) g h)
   in-middle H b =
       let e : H .rank ≡ suc r = omega (arith, below-rank (b .0 .0) (b .0 .1), below-rank (b .1 .0) (b .1 .1)) in

@@ -45,7 +45,7 @@ module _ (s : Solid) (cls : Classes) where
         others = step-else s cls S g x p;
       }
 
-  -- a rank that is not proper keeps what it has at the start
+  -- A rank that is not proper keeps what it has at the start.
   improper : (S : State) → Good s cls S → (r e : ℕ) → ¬ Proper s r → r < length s → e < size s r → typeOf S r e ≡ 0
   unfolding startAt
   improper S g r e n h he = ap (λ (l : List ℕ). getD l e 0) (g .fixed r n ∙ start-at s cls r h) ∙ go (isProper s r) refl
@@ -68,7 +68,7 @@ every-step-law s cls = record {
     end r (inl e) p = omega (arith, p .0)
     end r (inr e) p = omega (arith, p .1)
 
-    -- a rank that has an element is a rank of the solid
+    -- A rank that has an element is a rank of the solid.
     there : (r e : ℕ) → e < size s r → r < length s
     there r e h = go (decLt r (length s))
       where

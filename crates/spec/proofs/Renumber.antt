@@ -25,7 +25,7 @@ module _ {A : Type 0} (same : A → A → Bool) (test : Test same) where
   unfolding renumber
   renumber-at d l i h = getD-map (λ x. place same x (distinct same l)) d 0 l i h
 
-  -- the numbers part what the keys part, and nothing else
+  -- The numbers part what the keys part, and nothing else.
   pub renumber-fine : (d : A) (l : List A) → Coarser d 0 l (renumber same l)
   renumber-fine d l i j hi hj e =
       let hi′ : i < length l = rw length-renumber at hi in
@@ -38,7 +38,7 @@ module _ {A : Type 0} (same : A → A → Bool) (test : Test same) where
   pub renumber-coarse : (d : A) (l : List A) → Coarser 0 d (renumber same l) l
   renumber-coarse d l i j hi hj e = renumber-at d l i hi ∙ ap (λ (x : A). place same x (distinct same l)) e ∙ sym (renumber-at d l j hj)
 
--- the entry of us where ts has t first
+-- The entry of us where ts has t first.
 pub glue : {A B : Type 0} → (A → A → Bool) → B → List A → List B → A → B
 glue same b ts us t = getD us (place same t ts) b
 
@@ -94,7 +94,7 @@ module _ {A B : Type 0} (sameA : A → A → Bool) (testA : Test sameA) (sameB :
       let p = place-at sameA testA a ts (in-getD a ts i h′) in
       c i (place sameA (getD ts i a) ts) h′ (p .0) (sym (p .1)) ∙ sym (getD-map (glue sameA b ts us) a b ts i h′))
 
-  -- so the numbers hang only on who shares
+  -- So the numbers hang only on who shares.
   pub renumber-pattern : (a : A) (b : B) (ts : List A) (us : List B) → length us ≡ length ts → Coarser b a us ts → Coarser a b ts us
       → renumber sameB us ≡ renumber sameA ts
   unfolding glue
@@ -108,7 +108,7 @@ module _ {A B : Type 0} (sameA : A → A → Bool) (testA : Test sameA) (sameB :
 
   -- ---- how many there are
 
-  -- if everything in the coarser one comes from d, then d is as long
+  -- If everything in the coarser one comes from d, then d is as long.
   bounded : (f : A → B) (ts : List A) (d : List A) → ((t : A) → In t ts → (u : A) × In u d × (f t ≡ f u)) → length (distinct sameB (map f ts)) ≤ length d
   bounded f ts d h =
       subst (λ (n : ℕ). length (distinct sameB (map f ts)) ≤ n) (length-map d f)
@@ -122,7 +122,7 @@ module _ {A B : Type 0} (sameA : A → A → Bool) (testA : Test sameA) (sameB :
       rw (factor a b ts us e c)
       (bounded (glue sameA b ts us) ts (distinct sameA ts) (λ t h. (t, in-distinct sameA testA t ts h, refl)))
 
-  -- as many: then they part the same
+  -- As many: then they part the same.
   pub as-many : (a : A) (b : B) (ts : List A) (us : List B) → length us ≡ length ts → Coarser b a us ts
       → length (distinct sameB us) ≡ length (distinct sameA ts) → Coarser a b ts us
   as-many a b ts us e c n i j hi hj q = go (split sameA testA (getD ts i a) (getD ts j a))

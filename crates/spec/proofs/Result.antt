@@ -29,7 +29,7 @@ near-low s w (up zero) p e f h = absurd (not-suc-le-zero (p .0))
 near-low s w (up (suc r)) p e f h = w .below r e f h
 near-low s w (down r) p e f h = omega (arith, of-range 0 (size s (suc r)) f (in-keep (λ f′. holds eqb e (subs s (suc r) f′)) f (range 0 (size s (suc r))) h .0) .1)
 
--- the step x parts nothing in T
+-- The step x parts nothing in T.
 abbrev pub Calm : Solid → State → Step → Type 0
 Calm s T x = Coarser 0 0 (typesAt (step s T x) (at x)) (typesAt T (at x))
 
@@ -182,7 +182,7 @@ module _ (s : Solid) (cls : Classes) where
       go (inl e) rest = rw e here
       go (inr k) rest = rest k
 
-  -- a sweep that leaves the number of types unchanged ends no finer than it began
+  -- A sweep that leaves the number of types unchanged ends no finer than it began.
   pub unchanged : (S : State) → Good s cls S → typeCount s (sweep s S) ≡ typeCount s S → Below (sweep s S) S
   unfolding sweep typeCount
   unchanged S g e r = go (proper? s r)
@@ -206,7 +206,7 @@ module _ (s : Solid) (cls : Classes) where
           (λ q m. fewer eqb numbers eqb numbers 0 0 (typesAt z q) (typesAt S q) (len q) (b q)) (sym e) r (proper-rank s r p))
       go (no n) = rw (gz .fixed r n, g .fixed r n) (λ i j hi hj t. t)
 
-  -- where the sweeps settle, no step changes anything
+  -- Where the sweeps settle, no step changes anything.
   pub settle-idle : (n : ℕ) (S z : State) → Good s cls S → settle s n S ≡ some z → (x : Step) → Proper s (at x) → step s z x ≡ z
   unfolding settle sweep
   settle-idle zero S z g e x p = absurd (Option·none-ne-some z e)
@@ -219,7 +219,7 @@ module _ (s : Solid) (cls : Classes) where
           (idle S (sweepSteps s) (sweep-proper s) g (unchanged S g (numbers .sound (typeCount s (sweep s S)) (typeCount s S) q)) x (proper-sweep s x p))
       go false q ih = ih (rw (q, settle) at e)
 
-  -- what every step keeps, the sweeps keep
+  -- What every step keeps, the sweeps keep.
   pub settle-kept : (P : State → Type 0) → ((S : State) (x : Step) → Proper s (at x) → P S → P (step s S x)) → (n : ℕ) (S z : State) → P S → settle s n S ≡ some z → P z
   unfolding settle sweep
   settle-kept P k zero S z h e = absurd (Option·none-ne-some z e)

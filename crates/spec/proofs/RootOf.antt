@@ -46,7 +46,7 @@ plus-zero : zeroF ≡ fin false 0 (pos 0)
 unfolding zeroF ofBits ofFields odd
 plus-zero = refl
 
--- no other number equals a zero
+-- No other number equals a zero.
 not-zero : (s : Bool) (m : ℕ) (e : ℤ) → eq (fin s (suc m) e) zeroF ≡ true → ⊥
 unfolding eq
 not-zero s m e h =
@@ -57,7 +57,7 @@ not-zero s m e h =
     let p : 0 < a = mul-pos (mul-pos (zero-lt-suc m) (up-pos e)) (zero-lt-suc 0) in
     omega (arith, zero-mul (down e))
 
--- a zero that fits has the exponent 0
+-- A zero that fits has the exponent 0.
 fits-zero : (s : Bool) (e : ℤ) → T (fits binary64 (fin s zero e)) → fin s zero e ≡ fin s 0 (pos 0)
 unfolding fits
 fits-zero s e h = whole-unique binary64 (fin s zero e) (fin s 0 (pos 0)) s 0 h tt (refl, simp zero-mul) (refl, refl)
@@ -72,7 +72,7 @@ at-zero s e h = record { isFinite = refl; sign = go s h; value = h; zeros = (λ 
     go true k = inr (fits-zero true e k)
     go false k = inl refl
 
--- of two positive values, neither is a zero
+-- Of two positive values, neither is a zero.
 of-positive : (x r : Float) → T (positive x) → T (positive r) → T (fits binary64 r) → RootFacts x r
 unfolding finite
 of-positive x r p q h = record { isFinite = whole r q; sign = inl (plus r q); value = h; zeros = (λ z. absurd (none r q z), λ z. absurd (none x p z)) }

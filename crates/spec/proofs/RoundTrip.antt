@@ -116,7 +116,7 @@ bytes-bytes n l h x m =
 -- ---- the bits of a list of bytes
 
 module _ (b : List ℕ) where
-  -- the w first bits of a byte, s of its bits left
+  -- The w first bits of a byte, s of its bits left.
   byte-field : Bytes b → (k w s : ℕ) → k < length b → w + s ≡ 8 → field b (8 * k) w ≡ getD b k 0 / 2 ^ s
   unfolding field bit
   byte-field y k zero s h e =
@@ -184,7 +184,7 @@ sheet-of b p = go (sheet b 0) refl
     go (passed x) q e = (x .1, rw (← same (x .0) p e) q)
 
 module _ (b l : List ℕ) (j : ℕ) (h : Holds b 0 l j) (z : Ended b j) where
-  -- the bits are those of b, and 0 past their end, where b's are too
+  -- The bits are those of b, and 0 past their end, where b's are too.
   same-bits : (t : ℕ) → t < 8 * length b → getD l t 0 ≡ bit b t
   same-bits t k = go (decLt t (length l))
     where
@@ -194,7 +194,7 @@ module _ (b l : List ℕ) (j : ℕ) (h : Holds b 0 l j) (z : Ended b j) where
           let e : j + (t - j) ≡ t = omega (arith, holds-length b l 0 j h) in
           List·getD-eq-default l 0 (omega arith) ∙ sym (rw e at (zero-bit b j (8 * length b - j) (z .zeros) (t - j) (omega (arith, holds-length b l 0 j h))))
 
-  -- so are the bytes
+  -- So are the bytes.
   same-bytes : Bytes b → bytesOf l ≡ b
   unfolding bytesOf
   same-bytes y =

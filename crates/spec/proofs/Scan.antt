@@ -26,7 +26,7 @@ module _ {A : Type 0} (same : A → A → Bool) (test : Test same) where
       go (inl (p, e)) ih = rw (without-yes same test (l ++ m) e, without-yes same test l e) ih
       go (inr (p, e)) ih = rw (without-no same test (l ++ m) e, without-no same test l e) (ap (λ (r : List A). x ∷ r) ih)
 
-  -- one more that is new, and one more that is there already
+  -- One more that is new, and one more that is there already.
   pub distinct-new : (l : List A) (x : A) → ¬ In x l → distinct same (l ++ x ∷ []) ≡ distinct same l ++ x ∷ []
   unfolding distinct without
   distinct-new [] x n = refl
@@ -49,7 +49,7 @@ module _ {A : Type 0} (same : A → A → Bool) (test : Test same) where
           ap (λ (r : List A). y ∷ without same y r) (distinct-new l x n)
           ∙ ap (λ (r : List A). y ∷ r) (without-append y (distinct same l) (x ∷ []) ∙ rw (e, without-yes same test {x = y} {k = y} [] (test .pass y)) (append-nil (without same y (distinct same l))))
 
-  -- what is not there would stand next
+  -- What is not there would stand next.
   pub place-out : (l : List A) (x : A) → ¬ In x l → place same x l ≡ length l
   unfolding place
   place-out [] x n = refl

@@ -18,14 +18,14 @@ use Rattle.spec.proofs.Steps.{Good, start-good}
 use Rattle.spec.proofs.Result.{sweep-proper, good-play, play-parts}
 
 module _ (s : Solid) (cls : Classes) where
-  -- the types are no more than the elements
+  -- The types are no more than the elements.
   few : (S : State) → Good s cls S → typeCount s S ≤ elements s
   unfolding typeCount elements
   few S g =
       sum-le (λ r. length (distinct eqb (typesAt S r))) (λ r. size s r) (properRanks s)
       (λ r m. rw (← g .sizes r) (pigeons eqb numbers (distinct eqb (typesAt S r)) (typesAt S r) (once-distinct eqb numbers (typesAt S r)) (λ t. of-distinct eqb numbers t (typesAt S r))))
 
-  -- a sweep loses none
+  -- A sweep loses none.
   grows : (S : State) → Good s cls S → typeCount s S ≤ typeCount s (sweep s S)
   unfolding typeCount sweep
   grows S g =
@@ -34,7 +34,7 @@ module _ (s : Solid) (cls : Classes) where
       sum-le (λ r. length (distinct eqb (typesAt S r))) (λ r. length (distinct eqb (typesAt z r))) (properRanks s)
       (λ r m. fewer eqb numbers eqb numbers 0 0 (typesAt z r) (typesAt S r) (g .sizes r ∙ sym (gz .sizes r)) (play-parts s cls S (sweepSteps s) (sweep-proper s) g r))
 
-  -- so each sweep that is not the last adds one
+  -- So each sweep that is not the last adds one.
   adds : (n : ℕ) (S : State) → Good s cls S → settle s n S ≡ none → typeCount s S + n ≤ elements s
   unfolding settle sweep
   adds zero S g e = omega (arith, few S g)

@@ -45,7 +45,7 @@ columns-length : (a : Matrix) → length (columns a) ≡ length a
 unfolding columns
 columns-length a = length-map (range 0 (length a)) _ ∙ length-range 0 (length a)
 
--- every row of a product has as many entries as the second factor has rows
+-- Every row of a product has as many entries as the second factor has rows.
 product-rows : (a b : Matrix) (r : Vector) → In r (mulMat a b) → length r ≡ length b
 unfolding mulMat
 product-rows (x ∷ a) b r (inl q) = rw q (length-map (columns b) (dot x) ∙ columns-length b)
@@ -65,7 +65,7 @@ join-length n (l ∷ ls) f =
     regroup : n + length ls * n ≡ suc (length ls) * n
     regroup = omega (arith, suc-mul (length ls) n)
 
--- a matrix of d rows of d
+-- A matrix of d rows of d.
 abbrev pub Square : ℕ → Matrix → Type 0
 Square d m = (length m ≡ d) × ((r : Vector) → In r m → length r ≡ d)
 
@@ -124,7 +124,7 @@ pub flag-columns : (c : Concrete) (F : Flag) → length (flagColumns c F) ≡ c 
 unfolding flagColumns
 flag-columns c F = columns-length _ ∙ length-map (walk (c .abs) (c .dimension) F) (pointOf c) ∙ walk-length c (c .dimension) F
 
--- of a setting for D dimensions and V vertices
+-- Of a setting for D dimensions and V vertices.
 pub record Fit (d v : ℕ) (w : Setting) : Type 0 where
   pub wide : w .searched .dimension ≡ d
   pub many : length (w .searched .points) ≡ v
@@ -244,7 +244,7 @@ fitting-holds m d v n (x ∷ l) h = go (haveRoom m d v (suc n)) refl (λ k. fitt
         rw q (f (fits-holds m d v (suc n) e))
     go false e f = let q : n + 0 ≡ n = omega arith in rw q h
 
--- the cells of some members
+-- The cells of some members.
 pub record Cells (m : Room) (l : List Member) : Type 0 where
   pub matrices : length (join (map (λ x. join (x .matrix)) l)) ≤ m .floats
   pub rows : length (join (map (λ x. x .row) l)) ≤ m .entries

@@ -119,7 +119,7 @@ module _ (b : List ℕ) where
           (field-small (suc w) i, field-holds (suc w) i (le-test _ _ q))
       read i y false q e = absurd (never CutSheet y e)
 
-  -- a field, judged, and the value f of it; g is the field of a value
+  -- A field, judged, and the value f of it; g is the field of a value.
   field-code : {A : Type 0} (w : ℕ) (why : Refusal) (t : ℕ → Bool) (f : ℕ → A) (g : A → ℕ) → ((n : ℕ) → n < 2 ^ suc w → t n ≡ true → g (f n) ≡ n)
       → Code (bits b (suc w) >>= λ n. judge why (t n) >> done (f n)) (λ x. bitsOf (suc w) (g x)) (λ x. (t (g x) ≡ true) × (g x < 2 ^ suc w) × (f (g x) ≡ x))
   unfolding done
@@ -138,7 +138,7 @@ module _ (b : List ℕ) where
         ∙ ap (λ (a : A). passed (a, y .1)) (p .2);
   }
 
-  -- the same reader n times
+  -- The same reader n times.
   module _ {A : Type 0} (m : Reader A) (k : A → List ℕ) (P : A → Type 0) (c : Code m k P) where
     Each : ℕ → List A → Type 0
     Each n l = (length l ≡ n) × ((x : A) → In x l → P x)
@@ -168,7 +168,7 @@ module _ (b : List ℕ) where
     unfolding Each
     times-code n = record { reads = times-reads n; writes = λ i y. times-writes n i (y .0) (y .1) }
 
-  -- the same values, said in another way
+  -- The same values, said in another way.
   recode : {A : Type 0} (m : Reader A) (k : A → List ℕ) (P Q : A → Type 0) → ((x : A) → P x → Q x) → ((x : A) → Q x → P x) → Code m k P → Code m k Q
   recode m k P Q f g c = record {
     reads = λ i y e. let r = c .reads i y e in (f (y .0) (r .0), r .1);
@@ -187,7 +187,7 @@ not-nan (inf s) h = tt
 not-nan (fin s m e) h = tt
 
 module _ (b : List ℕ) where
-  -- a number within a limit
+  -- A number within a limit.
   up-to-code : (w top : ℕ) → top < 2 ^ suc w → Code b (bits b (suc w) >>= λ n. judge Format (leb n top) >> done n) (bitsOf (suc w)) (λ n. n ≤ top)
   up-to-code w top h =
       recode b _ (bitsOf (suc w)) (λ n. (leb n top ≡ true) × (n < 2 ^ suc w) × (n ≡ n)) (λ n. n ≤ top) (λ n p. le-test n top (p .0)) (λ n p. (le-true n top p, omega arith, refl))
@@ -225,7 +225,7 @@ module _ (b : List ℕ) where
 
 -- ---- lists
 
--- a list that rises below c has at most c entries
+-- A list that rises below c has at most c entries.
 from-length : (low c : ℕ) (l : List ℕ) → low ≤ c → From low c l → low + length l ≤ c
 unfolding From
 from-length low c [] h w = omega arith
@@ -326,7 +326,7 @@ module _ (b : List ℕ) (c : ℕ) (small : c ≤ maxCount) where
 
 -- ---- the lists of all ranks
 
--- by the counts of ranks 1 to R - 1
+-- By the counts of ranks 1 to R - 1.
 Listed : List ℕ → List (List (List ℕ)) → Type 0
 Listed counts more = (length more ≡ length counts - 1) × ((r : ℕ) → suc r < length counts → AllowedRank (getD counts r 0) (getD counts (suc r) 0) (getD more r []))
 
@@ -383,7 +383,7 @@ module _ (b : List ℕ) where
   counts-code : (n : ℕ) → Code b (times n (count b)) (λ l. join (map (bitsOf 12) l)) (λ l. (length l ≡ n) × ((c : ℕ) → In c l → (0 < c) × (c ≤ maxCount)))
   counts-code n = times-code b (count b) (bitsOf 12) (λ c. (0 < c) × (c ≤ maxCount)) (count-code b) n
 
-  -- fewer than eight bits are left, and they are 0
+  -- Fewer than eight bits are left, and they are 0.
   pub record Ended (j : ℕ) : Type 0 where
     pub short : 8 * length b - j < 8
     pub zeros : field b j (8 * length b - j) ≡ 0

@@ -25,7 +25,7 @@ rising : List ℕ → Bool
 rising [] = true
 rising (x ∷ l) = risingAbove x l
 
--- the lists of each rank lie below the size of the rank before
+-- The lists of each rank lie below the size of the rank before.
 low : Solid → Bool
 low [] = true
 low (a ∷ []) = true
@@ -102,7 +102,7 @@ pub square-sound : Sound square
 unfolding sound low bottom rising risingAbove every subs eqList range
 square-sound = is-sound square refl
 
--- the smallest: R = 0
+-- The smallest: R = 0.
 pub point-sound : Sound point
 unfolding sound low bottom rising risingAbove every subs eqList range
 point-sound = is-sound point refl

@@ -24,7 +24,7 @@ map-at : (f g : ℕ → ℕ) (l : List ℕ) → map f l ≡ map g l → (t : ℕ
 map-at f g (x ∷ l) e t (inl q) = rw q (ap (λ (r : List ℕ). getD r 0 0) e)
 map-at f g (x ∷ l) e t (inr m) = map-at f g l (ap tail e) t m
 
--- the types that a rank's list has for the elements es
+-- The types that a rank's list has for the elements es.
 abbrev pub look : List ℕ → List ℕ → List ℕ
 look ts es = map (λ e. getD ts e 0) es
 
@@ -155,7 +155,7 @@ module _ (s : Solid) (cls : Classes) (S : State) (g : Good s cls S) (x : Step) (
       canon-at r (yes e) = rw (e, step-here) (keys-canon (keys s S x))
       canon-at r (no n) = rw (step-else r n) (g .canon r)
 
-  -- after the step, elements share a type exactly when they share a key
+  -- After the step, elements share a type exactly when they share a key.
   pub step-key : (e f : ℕ) → e < size s (at x) → f < size s (at x) → typeOf (step s S x) (at x) e ≡ typeOf (step s S x) (at x) f
       → key (typesAt S (next x)) (typeOf S (at x) e) (neighbours s x e) ≡ key (typesAt S (next x)) (typeOf S (at x) f) (neighbours s x f)
   step-key e f he hf q =
@@ -169,7 +169,7 @@ module _ (s : Solid) (cls : Classes) (S : State) (g : Good s cls S) (x : Step) (
       rw step-here
       (renumber-coarse eqList lists [] (keys s S x) e f (rw keys-length he) (rw keys-length hf) (key-at e he ∙ q ∙ sym (key-at f hf)))
 
-  -- a step only parts
+  -- A step only parts.
   pub step-parts : Below S (step s S x)
   step-parts r = go (ℕ-discrete r (at x))
     where

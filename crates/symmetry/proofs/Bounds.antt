@@ -29,7 +29,7 @@ vertices-proper s h = go (top s - 1) (omega arith)
     go (suc n) k = omega arith
 
 module _ {sh : Shape} {low : ℕ} {ws : List ℕ} {fs : List Float} {at : ℕ} (h : Searching sh low ws fs at) where
-  -- there is a vertex after the least, and how many there are
+  -- There is a vertex after the least, and how many there are.
   pub rising : firstAt sh 1 ≤ firstAt sh 2
   rising = omega (arith, h .bench .held .some 1 (omega (arith, h .tall)))
 
@@ -52,7 +52,7 @@ module _ {sh : Shape} {low : ℕ} {ws : List ℕ} {fs : List Float} {at : ℕ} (
   points-many = length-parts (size (solidIn sh (take low ws)) 1) (sh .dimension) (take (size (solidIn sh (take low ws)) 1 * sh .dimension) fs) ∙ vertices-are
 
   module _ (v : ℕ) (many : v ≡ sizeAt sh 1) where
-    -- the points, v of them as the code reads them
+    -- The points, v of them as the code reads them.
     pub points-read : solidAt sh low ws fs .points ≡ parts v (sh .dimension) fs
     points-read = points-are ∙ ap (λ n. parts n (sh .dimension) fs) (vertices-are ∙ sym many)
 

@@ -42,7 +42,7 @@ pub going-first : (w : Setting) (rot : Bool) (m : Room) (d v : ℕ) (Fs : List F
 unfolding written matrixCells rowCells join
 going-first w rot m d v Fs ms rs = record { done = []; running = running-first w rot m d v Fs; count = refl; matrices = refl; rows = refl; room = none-held m d v }
 
--- what is left of the outputs has room for one more exactly when the whole has room for n + 1
+-- What is left of the outputs has room for one more exactly when the whole has room for n + 1.
 room-left : (m : Room) (d v n : ℕ) → Holds m d v n → fits d v (m .floats - n * (d * d)) (m .entries - n * v) (m .marks - n) ≡ haveRoom m d v (suc n)
 unfolding fits haveRoom
 room-left m d v n h =
@@ -63,7 +63,7 @@ room-left m d v n h =
 module _ (w : Setting) (rot : Bool) (m : Room) (d v : ℕ) (shape : Fit d v w) (Fs : List Flag) (F : Flag) (left : List Flag)
     (ms ms′ : List Float) (rs rs′ : List ℕ) (n : ℕ) (es : m .floats ≡ length ms) (er : m .entries ≡ length rs)
     (g : Going w rot m d v Fs (F ∷ left) ms ms′ rs rs′ n) where
-  -- the parts after the finished members
+  -- The parts after the finished members.
   abbrev pub matrixPart : List Float
   matrixPart = midOf (n * (d * d)) (length ms′ - n * (d * d)) ms′
 
@@ -76,7 +76,7 @@ module _ (w : Setting) (rot : Bool) (m : Room) (d v : ℕ) (shape : Fit d v w) (
   long : length rs′ ≡ length rs
   long = ap length (g .rows) ∙ written-length (rowCells (g .done)) rs (rw (g .running .entries, ← g .count, ← er) (g .room .rows))
 
-  -- the parts start within the outputs
+  -- The parts start within the outputs.
   pub floats-in : n * (d * d) ≤ length ms′
   unfolding many
   floats-in = rw (many, ← es) (g .room .matrices)
@@ -85,7 +85,7 @@ module _ (w : Setting) (rot : Bool) (m : Room) (d v : ℕ) (shape : Fit d v w) (
   unfolding long
   entries-in = rw (long, ← er) (g .room .rows)
 
-  -- what trying the flag came to
+  -- What trying the flag came to.
   module _ (t : Tried) (p : List Float) (q : List ℕ)
       (e : _≡_ {A = Tried × List Float × List ℕ} (t, p, q) (tried (gives w rot F) (fits d v (length matrixPart) (length rowPart) (m .marks - n)) matrixPart rowPart)) where
     abbrev pub matricesThen : List Float
@@ -94,7 +94,7 @@ module _ (w : Setting) (rot : Bool) (m : Room) (d v : ℕ) (shape : Fit d v w) (
     abbrev pub rowsThen : List ℕ
     rowsThen = putMid (n * v) (length rs′ - n * v) rs′ q
 
-    -- what stands then
+    -- What stands then.
     unfoldable pub Then : Tried → Type 0
     Then Skipped = Going w rot m d v Fs left ms matricesThen rs rowsThen n
     Then Added = Going w rot m d v Fs left ms matricesThen rs rowsThen (suc n)
@@ -127,7 +127,7 @@ module _ (w : Setting) (rot : Bool) (m : Room) (d v : ℕ) (shape : Fit d v w) (
         go true h = passing (tested w (candidate w F)) refl h
         go false h = absurd (Option·none-ne-some x h)
 
-    -- the three cases, of a member and of the room
+    -- The three cases, of a member and of the room.
     module _ (k : _≡_ {A = Tried × List Float × List ℕ} (t, p, q) (tried none true matrixPart rowPart)) (o : gives w rot F ≡ none) where
       skipped : Going w rot m d v Fs left ms matricesThen rs rowsThen n
       unfolding tried same-matrices same-rows

@@ -28,14 +28,14 @@ use Rattle.symmetry.proofs.Bounds.{points-many}
 use Rattle.symmetry.proofs.Going.{Going, going-first, floats-in, entries-in, Then, after}
 use Rattle.symmetry.proofs.Ends.{all-listed, short-listed}
 
--- the setting, whatever solid was read; and the room that is lent
+-- The setting, whatever solid was read; and the room that is lent.
 abbrev pub settingAt : Shape → ℕ → List ℕ → List Float → List (List Float) → Concrete → Setting
 settingAt sh low ws fs inv c = settingOf c (solidAt sh low ws fs) (stateIn sh low ws) (corner (sh .dimension) inv)
 
 abbrev pub lent : List Float → List ℕ → ℕ → Room
 lent ms rs room = record { floats = length ms; entries = length rs; marks = room }
 
--- the flags Fs are to come, n members are listed, and the outputs ms and rs are ms′ and rs′ now
+-- The flags Fs are to come, n members are listed, and the outputs ms and rs are ms′ and rs′ now.
 abbrev pub Tally : Shape → ℕ → List ℕ → List Float → List (List Float) → Bool → ℕ → ℕ → ℕ → List Float → List Float → List ℕ → List ℕ → ℕ → List Flag → Type 0
 Tally sh low ws fs inv rot room d v ms ms′ rs rs′ n Fs =
     (c : Concrete) → Going (settingAt sh low ws fs inv c) rot (lent ms rs room) d v (flags (solidIn sh (take low ws))) Fs ms ms′ rs rs′ n
@@ -60,7 +60,7 @@ module _ {sh : Shape} {low : ℕ} {ws : List ℕ} {fs : List Float} {at : ℕ} (
     tally-end g c = all-listed (settingAt sh low ws fs inv c) rot (lent ms rs room) d v (shape c) Fs ms ms′ rs rs′ n (g c)
 
     module _ (F : Flag) (left : List Flag) (g : Tally sh low ws fs inv rot room d v ms ms′ rs rs′ n (F ∷ left)) where
-      -- the parts after the members start within the outputs
+      -- The parts after the members start within the outputs.
       pub inside : (n * (d * d) ≤ length ms′) × (n * v ≤ length rs′) × (n ≤ room)
       inside = let c = solidAt sh low ws fs in (
         floats-in (settingAt sh low ws fs inv c) rot (lent ms rs room) d v (shape c) Fs F left ms ms′ rs rs′ n refl refl (g c),
@@ -68,7 +68,7 @@ module _ {sh : Shape} {low : ℕ} {ws : List ℕ} {fs : List Float} {at : ℕ} (
         g c .room .marks,
       )
 
-      -- the flag is tried, with those parts lent
+      -- The flag is tried, with those parts lent.
       abbrev pub matrixPart : List Float
       matrixPart = midOf (n * (d * d)) (length ms′ - n * (d * d)) ms′
 

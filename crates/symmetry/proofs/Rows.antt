@@ -11,7 +11,7 @@ use Rattle.spec.specs.Lists.{join}
 use Rattle.float.specs.Reading.{leading}
 use Rattle.ranked.proofs.store.Listing.{join-append}
 
--- one row more
+-- One row more.
 pub rows-next : (d i : ℕ) (m : List (List Float)) → i < length m → join (leading i d m) ++ take d (getD m i []) ≡ join (leading (i + 1) d m)
 unfolding leading join
 rows-next d i m h =

@@ -38,23 +38,23 @@ pub from8 : (c : Concrete) → setting c ≡ judge NotFull (full c) >> from9 c
 unfolding setting from9 from10 from15 from11 settingOf _>>=_
 from8 c = refl
 
--- a refusal leaves every output as it was
+-- A refusal leaves every output as it was.
 pub refusal-ends : (rot : Bool) (c : Concrete) (why : Refusal) (old : SearchOut) → ends rot c (refused why) old ≡ (Refused why 0, old)
 unfolding ends listed outcome searchWritten written join _>>=_
 refusal-ends rot c why old = refl
 
--- what either call gives, by what preflight says of the sheet
+-- What either call gives, by what preflight says of the sheet.
 unfoldable pub after : Bool → Judged Concrete → SearchOut → Answer × SearchOut
 after rot (refused why) old = (Refused why 0, old)
 after rot (passed c) old = ends rot c (setting c) old
 
--- the members of a solid, by the setting that its search has
+-- The members of a solid, by the setting that its search has.
 from-setting : (c : Concrete) (j : Judged Setting) → setting c ≡ j → (search c >>= (λ ms. passed (c, ms))) ≡ listed false c (setting c)
 unfolding search listed wantedOf _>>=_
 from-setting c (refused why) e = rw e refl
 from-setting c (passed w) e = rw e refl
 
--- the search call goes by preflight, and so does the rotations call
+-- The search call goes by preflight, and so does the rotations call.
 pub search-after : (b : List ℕ) (words floats : ℕ) (old : SearchOut) → searchCall b words floats old ≡ after false (preflight b words floats) old
 unfolding searchCall membersIn after ends listed _>>=_
 search-after b words floats old = go (preflight b words floats) refl

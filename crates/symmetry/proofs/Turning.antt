@@ -26,7 +26,7 @@ pub record Turn (s : Solid) (F : Flag) (P : List Flag → Type 0) : Type 0 where
 pub turn-first : (s : Solid) (P : List Flag → Type 0) (F : Flag) → Nth s F 0 → P (flags s) → Turn s F P
 turn-first s P F n p = record { from = 0; flag = n; stands = p }
 
--- the measure: how many flags are to come
+-- The measure: how many flags are to come.
 unfoldable pub toCome : Solid → Flag → ℕ
 toCome s F = length (flags s) - place eqList F (flags s)
 
@@ -48,7 +48,7 @@ module _ (sh : Shape) (w : List ℕ) (h : Held sh w) (P : List Flag → Type 0) 
   abbrev s : Solid
   s = solidIn sh w
 
-  -- the flags after F
+  -- The flags after F.
   abbrev pub later : List Flag
   later = drop (suc (t .from)) (flags s)
 
@@ -61,7 +61,7 @@ module _ (sh : Shape) (w : List ℕ) (h : Held sh w) (P : List Flag → Type 0) 
       (λ j k e. let q = every-flag-once s (h .sound) .once j i (omega (arith, k, n .low)) (n .low) (sym e ∙ n .is) in omega (arith, q, k))
 
   module _ (more : Bool) (G : Flag) (f : Follows s F more G) where
-    -- there is more, and G is the flag after F
+    -- There is more, and G is the flag after F.
     pub turn-next : more ≡ true → (Q : List Flag → Type 0) → Q later → Turn s G Q
     turn-next e Q q = record { from = suc (t .from); flag = nth-next sh w h F more G f (t .from) (t .flag) e; stands = q }
 

@@ -37,7 +37,7 @@ count-no : (m : Matrix) (ms : List Matrix) → lt zeroF (determinant m) ≡ fals
 unfolding rotationCount
 count-no m ms e = rw (e, rotationCount)
 
--- one matrix
+-- One matrix.
 pub count-one : (m : Matrix) → lt zeroF (determinant m) ≡ true → 1 ≡ rotationCount (m ∷ [])
 unfolding rotationCount
 count-one m e = sym (count-yes m [] e)
@@ -65,7 +65,7 @@ count-most (m ∷ ms) = go (lt zeroF (determinant m)) refl (count-most ms)
     go true e ih = omega (arith, count-yes m ms e)
     go false e ih = omega (arith, count-no m ms e)
 
--- the matrices that a slice begins with, one more at a time
+-- The matrices that a slice begins with, one more at a time.
 module _ (l : List Float) (d : ℕ) where
   abbrev pub counted : ℕ → ℕ
   counted n = rotationCount (map (parts d d) (parts n (d * d) l))
@@ -86,7 +86,7 @@ kept-no : (m : Member) (ms : List Member) → isRotation m ≡ false → rotatio
 unfolding rotationsOf
 kept-no m ms e = rw (e, rotationsOf)
 
--- of members, whose matrices these are
+-- Of members, whose matrices these are.
 pub count-rotations : (ms : List Member) → rotationCount (map (λ x. x .matrix) ms) ≡ length (rotationsOf ms)
 unfolding rotationCount rotationsOf isRotation
 count-rotations [] = refl
@@ -97,7 +97,7 @@ count-rotations (m ∷ ms) = go (isRotation m) refl (count-rotations ms)
     go true e ih = count-yes (m .matrix) (map (λ x. x .matrix) ms) e ∙ ap suc ih ∙ sym (ap length (kept-yes m ms e))
     go false e ih = count-no (m .matrix) (map (λ x. x .matrix) ms) e ∙ ih ∙ sym (ap length (kept-no m ms e))
 
--- the line of members is that of the numbers
+-- The line of members is that of the numbers.
 pub members-line : (ms : List Member) → membersLine ms ≡ membersText (length ms) (sum (map (λ x. x .mark) ms)) (length (rotationsOf ms))
 unfolding membersLine membersText
 members-line ms = refl

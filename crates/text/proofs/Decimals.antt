@@ -25,7 +25,7 @@ digits-more k n h = rw (le-ltb n 10 h, digits)
 tenth : (n : ℕ) → 10 ≤ n → n / 10 < n
 tenth n h = omega arith
 
--- any bound on the digits' number that is above n serves
+-- Any bound on the digits' number that is above n serves.
 digits-enough : (k m n : ℕ) → n < k → n < m → digits k n ≡ digits m n
 digits-enough zero m n h g = absurd (omega arith)
 digits-enough (suc k) zero n h g = absurd (omega arith)
@@ -48,7 +48,7 @@ decimal-more n h =
     let l = tenth n h in
     digits-more n n h ∙ ap (λ (x : List ℕ). x ++ ((48 + n % 10) ∷ [])) (digits-enough n (suc (n / 10)) (n / 10) l (omega arith))
 
--- a number below 10 to the k, k at least 1, has at most k digits
+-- A number below 10 to the k, k at least 1, has at most k digits.
 pub decimal-long : (k n : ℕ) → n < 10 ^ suc k → length (decimal n) ≤ suc k
 decimal-long zero n h = omega (arith, ap length (decimal-small n (omega arith)))
 decimal-long (suc k) n h = go (ltb n 10) refl (decimal-long k (n / 10))
@@ -60,7 +60,7 @@ decimal-long (suc k) n h = go (ltb n 10) refl (decimal-long k (n / 10))
         let q = ih (div-lt-iff-lt-mul {k = 10} {x = n} {y = 10 ^ suc k} (omega arith) .1 (rw (pow-suc 10 (suc k)) at h)) in
         omega (arith, ap length (decimal-more n t), length-append (decimal (n / 10)) ((48 + n % 10) ∷ []))
 
--- a word has at most 20 digits, a cell of 16 bits at most 5
+-- A word has at most 20 digits, a cell of 16 bits at most 5.
 pub decimal-word : (n : ℕ) → n < 2 ^ 64 → length (decimal n) ≤ 20
 decimal-word n h = decimal-long 19 n (omega arith)
 
@@ -75,7 +75,7 @@ room-small at n old h g = omega (arith, ap length (decimal-small n h))
 pub puts-small : (at n x : ℕ) (old : List ℕ) → n < 10 → at + length (decimal n) ≤ length old → x ≡ 48 + n → Puts at (decimal n) old (set old at x) (at + 1)
 puts-small at n x old h g e = puts-is (puts-byte at x old (room-small at n old h g)) (ap (λ (y : ℕ). y ∷ []) e ∙ sym (decimal-small n h))
 
--- there is room for a tenth's digits, and then for one more
+-- There is room for a tenth's digits, and then for one more.
 pub room-tenth : (at n : ℕ) (old : List ℕ) → 10 ≤ n → at + length (decimal n) ≤ length old → at + length (decimal (n / 10)) ≤ length old
 room-tenth at n old h g = omega (arith, ap length (decimal-more n h), length-append (decimal (n / 10)) ((48 + n % 10) ∷ []))
 

@@ -17,7 +17,7 @@ pub puts-byte : (at x : ℕ) (old : List ℕ) → at < length old → Puts at (x
 puts-byte at x old h = record { room = omega arith; bytes = rw add-one (set-split old at x h ∙ sym (append-assoc (take at old) (x ∷ []) (drop (suc at) old))); stop = omega arith }
 
 module _ {at end : ℕ} {l old new : List ℕ} (p : Puts at l old new end) where
-  -- the buffer up to the text's end
+  -- The buffer up to the text's end.
   front : length (take at old ++ l) ≡ end
   front = length-append (take at old) l ∙ ap (λ (k : ℕ). k + length l) (length-take-le at old (omega (arith, p .room))) ∙ sym (p .stop)
 
@@ -29,7 +29,7 @@ module _ {at end : ℕ} {l old new : List ℕ} (p : Puts at l old new end) where
       ap length split ∙ length-append (take at old ++ l) (drop end old)
       ∙ omega (arith, front, length-drop end old, p .stop, p .room)
 
-  -- there is room for what follows
+  -- There is room for what follows.
   pub room-then : (m : List ℕ) → at + length (l ++ m) ≤ length old → end + length m ≤ length new
   room-then m h = omega (arith, length-append l m, p .stop, puts-long)
 

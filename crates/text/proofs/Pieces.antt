@@ -13,7 +13,7 @@ use Rattle.spec.specs.KitText.{decimal, refusedLine, typeLine}
 use Rattle.text.specs.Members.{membersText}
 use Rattle.text.proofs.Decimals.{decimal-long, decimal-word}
 
--- a number behind its label
+-- A number behind its label.
 abbrev pub part : List ℕ → ℕ → List ℕ
 part label n = label ++ decimal n
 

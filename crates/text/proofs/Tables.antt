@@ -17,13 +17,13 @@ use Rattle.text.specs.Cells.{typesFrom, linesTo}
 use Rattle.text.proofs.Decimals.{decimal-word, decimal-cell}
 use Rattle.text.proofs.Pieces.{part, less}
 
--- what a call of types wrote is what is read
+-- What a call of types wrote is what is read.
 pub types-back : (ks : List ElementType) → typesFrom (join (map typeCells ks)) ≡ ks
 unfolding typesFrom join typeCells
 types-back [] = refl
 types-back (k ∷ ks) = ap (λ (l : List ElementType). k ∷ l) (types-back ks)
 
--- the type whose cells a list begins with
+-- The type whose cells a list begins with.
 abbrev pub typeOf : List ℕ → ElementType
 typeOf l = record { rank = getD l 0 0; number = getD l 1 0; example = getD l 2 0; count = getD l 3 0 }
 
@@ -55,13 +55,13 @@ lines-next t i h =
     ∙ ap join (map-append typeLine (typesFrom (take (4 * i) t)) (typeOf (drop (4 * i) t) ∷ []))
     ∙ join-snoc (map typeLine (typesFrom (take (4 * i) t))) (typeLine (typeOf (drop (4 * i) t)))
 
--- the cells that the code reads
+-- The cells that the code reads.
 pub type-read : (t : List ℕ) (p r n e c : ℕ) → r ≡ getD t p 0 → n ≡ getD t (p + 1) 0 → e ≡ getD t (p + 2) 0 → c ≡ getD t (p + 3) 0
     → typeLine (typeOf (drop p t)) ≡ typeLine (record { rank = r; number = n; example = e; count = c })
 type-read t p r n e c hr hn he hc =
     rw (hr, hn, he, hc, getD-drop p t 0 0, getD-drop p t 1 0, getD-drop p t 2 0, getD-drop p t 3 0, add-zero p)
 
--- fewer types have no longer lines
+-- Fewer types have no longer lines.
 lines-more : (t : List ℕ) (i k : ℕ) → 4 * (i + k) ≤ length t → length (linesTo t i) ≤ length (linesTo t (i + k))
 lines-more t i zero h = rw add-zero (omega arith)
 lines-more t i (suc k) h =

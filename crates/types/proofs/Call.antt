@@ -96,7 +96,7 @@ module _ (sh : Shape) (low : ℕ) (w : List ℕ) (a : Countable sh low w) (old :
   abbrev z : State
   z = stateIn sh low w
 
-  -- no more types than elements
+  -- No more types than elements.
   pub types-few : typeCount s z ≤ length w
   unfolding typeCount elements
   types-few =

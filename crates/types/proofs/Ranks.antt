@@ -117,7 +117,7 @@ module _ (sh : Shape) (low : ℕ) (w : List ℕ) (a : Countable sh low w) where
           let p : 1 + (sh .rank - 1) ≡ sh .rank = omega arith in
           runs 1 (sh .rank - 1) (omega arith) ∙ ap (λ (k : ℕ). take (firstAt sh k - firstAt sh 1) (drop (low + firstAt sh 1) w)) p
 
-  -- they stand in the words
+  -- They stand in the words.
   pub types-in : low + firstAt sh 1 + proper sh ≤ length w
   types-in =
       let u = in-order sh (take low w) (a .held) 1 (suc (sh .rank)) (omega arith) (omega arith) in

@@ -25,7 +25,7 @@ use Rattle.types.proofs.Sets.{join-append, sets-append, set-sets, getD-
 
 -- ---- numbers by first appearance, in a list's front
 
--- what a list's front holds comes first
+-- What a list's front holds comes first.
 distinct-front : (l m : List ℕ) → (rest : List ℕ) × (distinct eqb (l ++ m) ≡ distinct eqb l ++ rest)
 distinct-front l [] = ([], ap (distinct eqb) (append-nil l) ∙ sym (append-nil (distinct eqb l)))
 distinct-front l (x ∷ m) = go (distinct-front (l ++ x ∷ []) m) (in? eqb numbers x l)
@@ -56,11 +56,11 @@ module _ (l m : List ℕ) (o : InOrder (l ++ m)) where
 order-in : (l : List ℕ) → InOrder l → (t : ℕ) → In t l → t < many l
 order-in l o t h = omega (arith, of-range 0 (many l) t (rw o at (in-distinct eqb numbers t l h)))
 
--- no number is above the last
+-- No number is above the last.
 pub order-low : (l : List ℕ) → InOrder l → (t : ℕ) → In t l → t < length l
 order-low l o t h = omega (arith, order-in l o t h, many-few l)
 
--- one more that is new has the next number
+-- One more that is new has the next number.
 order-new : (l : List ℕ) (t : ℕ) → InOrder (l ++ t ∷ []) → ¬ In t l → t ≡ many l
 order-new l t o h =
     let d = distinct-new eqb numbers l t h in
@@ -117,7 +117,7 @@ cellsIn ks = join (map typeCells ks)
 pub cells-append : (a b : List ElementType) → cellsIn (a ++ b) ≡ cellsIn a ++ cellsIn b
 cells-append a b = ap join (map-append typeCells a b) ∙ join-append (map typeCells a) (map typeCells b)
 
--- the count is the last of a record's four cells
+-- The count is the last of a record's four cells.
 module _ (o : ElementType) where
   count-cell : (ks : List ElementType) (i : ℕ) → i < length ks → getD (cellsIn ks) (4 * i + 3) 0 ≡ getD ks i o .count
   unfolding join typeCells
@@ -125,7 +125,7 @@ module _ (o : ElementType) where
   count-cell (k ∷ ks) zero h = refl
   count-cell (k ∷ ks) (suc i) h = let e : 4 * suc i + 3 ≡ suc (suc (suc (suc (4 * i + 3)))) = omega arith in rw e (count-cell ks i (omega arith))
 
-  -- with another count
+  -- With another count.
   abbrev recount : ElementType → ℕ → ElementType
   recount k x = record { rank = k .rank; number = k .number; example = k .example; count = x }
 
@@ -215,7 +215,7 @@ cells-all r l o = ap (λ (d : List ℕ). cellsIn (map (describe r l) d)) (sym o)
 
 -- ---- the pass
 
--- of the n elements e were passed, which have the types below k
+-- Of the n elements e were passed, which have the types below k.
 pub record Rows (w : List ℕ) (from n r m : ℕ) (old table : List ℕ) (k e : ℕ) : Type 0 where
   pub bound : e ≤ n
   pub met : k ≡ length (distinct eqb (take e (take n (drop from w))))

@@ -28,7 +28,7 @@ module _ {sh : Shape} {w : List ℕ} (h : Held sh w) where
   pub few-vertices : 1 ≤ sh .rank → size (solidIn sh w) 1 ≤ 2048
   few-vertices k = rw (size-is sh w 1 k) (h .few 1 k)
 
-  -- an element's vertices can be listed
+  -- An element's vertices can be listed.
   pub can-list : (r e : ℕ) → Element sh r e → (r ≤ sh .rank × (e < sizeAt sh r)) × (size (solidIn sh w) 1 ≤ 2048)
   can-list r e m = ((omega (arith, m .high), m .inside), few-vertices (omega (arith, m .low, m .high)))
 
@@ -38,11 +38,11 @@ module _ {sh : Shape} {w : List ℕ} (h : Held sh w) where
   pub many-is : (r : ℕ) → r < sh .rank → firstAt sh (r + 1) - firstAt sh r ≡ size (solidIn sh w) r
   many-is r k = rw (add-one r) (sym (size-is sh w r (omega arith)))
 
-  -- no rank has more than 2,048
+  -- No rank has more than 2,048.
   pub few-here : (r e : ℕ) → r < sh .rank → e < firstAt sh (r + 1) - firstAt sh r → e < 2048
   few-here r e k i = let j : e < sizeAt sh r = rw (add-one r) at i in omega (arith, h .few r (omega arith))
 
--- an element as a loop over a rank comes to it
+-- An element as a loop over a rank comes to it.
 pub element : (sh : Shape) (r e : ℕ) → 1 ≤ r → r < sh .rank → e < firstAt sh (r + 1) - firstAt sh r → Element sh r e
 element sh r e l k i = record { low = l; high = k; inside = rw (add-one r) at i }
 
@@ -64,7 +64,7 @@ module _ {sh : Shape} {low : ℕ} {words : List ℕ} {at : ℕ} (a : Ready sh lo
   pub front-long : low ≡ length (take low words)
   front-long = sym (length-take-le low words low-in)
 
-  -- the word of an element's print
+  -- The word of an element's print.
   pub print-in : (r e : ℕ) → Element sh r e → at + firstAt sh r + e < length words
   print-in r e m = omega (arith, number-in sh (take low words) (a .held) r e (omega (arith, m .high)) (m .inside), a .printed .room)
 
@@ -73,7 +73,7 @@ module _ {sh : Shape} {low : ℕ} {words : List ℕ} {at : ℕ} (a : Ready sh lo
   print-differs r e m q p x i j d =
       prints-part _ x (λ k. d (i ∙ a .printed .prints r e (m .low) (m .high) (m .inside) ∙ k ∙ sym j))
 
-  -- no element has more than 2,048 vertices
+  -- No element has more than 2,048 vertices.
   pub too-long : (r n : ℕ) (list : List ℕ) → 1 ≤ r → r < sh .rank → n ≤ length list → 2048 < n → false ≡ holds eqList (take n list) (vertexSets (solidIn sh (take low words)) r)
   too-long r n list l k room h =
       none-longer (take n list) (vertexSets s r) (λ x m. go x (in-place [] x (vertexSets s r) m))
@@ -88,14 +88,14 @@ module _ {sh : Shape} {low : ℕ} {words : List ℕ} {at : ℕ} (a : Ready sh lo
 
 -- ---- words that are ready
 
--- as they stand when the prints are written
+-- As they stand when the prints are written.
 pub ready-written : (sh : Shape) (low at : ℕ) (old new : List ℕ) → Held sh (take low old) → low ≤ at → take at new ≡ take at old → Printed sh (take low old) at new
     → Ready sh low new at
 ready-written sh low at old new h b k p =
     let e : take low new ≡ take low old = take-kept new old at low k b in
     record { held = rw e h; behind = b; printed = rw e p }
 
--- and as long as nothing up to the prints' end changes
+-- And as long as nothing up to the prints' end changes.
 pub ready-kept : (sh : Shape) (low at : ℕ) (old new : List ℕ) → Ready sh low old at → at + total sh ≤ length new → take (at + total sh) new ≡ take (at + total sh) old
     → Ready sh low new at
 ready-kept sh low at old new a room k =

@@ -7,7 +7,7 @@ use native.Mathlib.Omega.{arith}
 use Rattle.spec.specs.Lists.{range, every}
 use Rattle.ranked.proofs.Turns.{Every, range-yes, range-no, range-end}
 
--- the ranks from a up to r pass
+-- The ranks from a up to r pass.
 pub record Passed (p : ℕ → Bool) (a n r : ℕ) : Type 0 where
   pub low : a ≤ r
   pub rest : Every p (range a n) (r - a)

@@ -16,13 +16,13 @@ use Rattle.element_types.proofs.Parts.{getD-kept, take-kept}
 use Rattle.element_types.proofs.Room.{rising}
 use Rattle.vertex_sets.specs.Prints.{printOf, Printed, Element}
 
--- the print of element e of rank r stands where it should
+-- The print of element e of rank r stands where it should.
 abbrev pub Stands : Shape → List ℕ → ℕ → List ℕ → ℕ → ℕ → Type 0
 Stands sh w at words r e = getD words (at + firstAt sh r + e) 0 ≡ printOf (vertices (solidIn sh w) r e)
 
 -- ---- a rank's elements
 
--- those of the first e stand
+-- Those of the first e stand.
 pub record Row (sh : Shape) (low at r first many : ℕ) (old new : List ℕ) (e : ℕ) : Type 0 where
   pub first-is : first ≡ firstAt sh r
   pub many-is : many ≡ sizeAt sh r
@@ -66,7 +66,7 @@ module _ {sh : Shape} {low at r first many : ℕ} {old new : List ℕ} {e : ℕ}
 
 -- ---- the proper ranks
 
--- those below rank r stand
+-- Those below rank r stand.
 pub record Round (sh : Shape) (low at : ℕ) (old new : List ℕ) (r : ℕ) : Type 0 where
   pub proper : 1 ≤ r
   pub long : length new ≡ length old

@@ -38,7 +38,7 @@ pub vertices-few : (s : Solid) (r e : ℕ) → length (vertices s r e) ≤ size 
 unfolding vertices inOrder
 vertices-few s r e = omega (arith, length-keep (λ u. holds eqb u (reach s r e)) (range 0 (size s 1)), length-range 0 (size s 1))
 
--- as a buffer holds them
+-- As a buffer holds them.
 module _ (s : Solid) (r e n : ℕ) (old list : List ℕ) (f : Front (vertices s r e) old list n) where
   pub listed : take n list ≡ vertices s r e
   listed = ap (take n) (f .cells) ∙ take-at (vertices s r e) (drop n old) n (sym (f .many))
@@ -71,7 +71,7 @@ prints-part l m h = go (split eqList lists l m)
     go (inl (p, _)) = absurd (h (ap printOf p))
     go (inr (_, e)) = sym e
 
--- what is left from e on holds x exactly where what was left from `from` on did
+-- What is left from e on holds x exactly where what was left from `from` on did.
 module _ (s : Solid) (r : ℕ) (x : List ℕ) (from : ℕ) where
   abbrev pub Sought : ℕ → Type 0
   Sought e = holds eqList x (drop e (vertexSets s r)) ≡ holds eqList x (drop from (vertexSets s r))
@@ -88,7 +88,7 @@ module _ (s : Solid) (r : ℕ) (x : List ℕ) (from : ℕ) where
   unfolding holds
   sought-end e h i = sym (ap (holds eqList x) (drop-of-length-le (vertexSets s r) {i = e} (rw length-sets h))) ∙ i
 
--- what is left from e on repeats no set exactly where the whole repeats none
+-- What is left from e on repeats no set exactly where the whole repeats none.
 module _ (s : Solid) (r : ℕ) where
   abbrev pub Alone : ℕ → Type 0
   Alone e = noRepeats eqList (drop e (vertexSets s r)) ≡ noRepeats eqList (vertexSets s r)
@@ -108,7 +108,7 @@ module _ (s : Solid) (r : ℕ) where
   unfolding noRepeats
   alone-end e h i = sym (ap (noRepeats eqList) (drop-of-length-le (vertexSets s r) {i = e} (rw length-sets h))) ∙ i
 
--- a list that is longer than every set is none of them
+-- A list that is longer than every set is none of them.
 pub none-longer : (x : List ℕ) (ls : List (List ℕ)) → ((l : List ℕ) → In l ls → length l < length x) → false ≡ holds eqList x ls
 unfolding holds
 none-longer x [] h = refl

@@ -68,7 +68,7 @@ unfolding range printOf
 range-less a zero m = omega arith
 range-less a (suc n) m = let e : suc n + m ≡ suc (n + m) = omega arith in rw e (omega (arith, range-less (suc a) n m))
 
--- with 2,048 vertices
+-- With 2,048 vertices.
 whole : printOf (range 0 2048) ≡ 2861214720
 unfolding range printOf
 whole = refl

@@ -17,7 +17,7 @@ Inv points d n i₀ i = (i ≤ n) × Apart (parts n d points) i
 abbrev μ : tie.MeasureT-loop
 μ points d n i₀ i = n - i
 
--- the later points lie in the slice
+-- The later points lie in the slice.
 start : (c : tie.After-loaded Inv μ) → let a = c .before .before .before .before .args in (c .before .before .loop .i + 1) * a .d ≤ length (a .points .now)
 start c = let s = c .before .before .before .before in let a = s .args in start-in (a .n) (a .d) (c .before .before .loop .i) (a .points .now) (c .before .loop-test .taken) (s .pre .1)
 

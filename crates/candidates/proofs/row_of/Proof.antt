@@ -24,7 +24,7 @@ Inv points d n lone places m row₀ k₀ row k = (length row ≡ length row₀) 
 abbrev μ : tie.MeasureT-loop
 μ points d n lone places m row₀ k₀ row k = n - k
 
--- what is found is the image of vertex k
+-- What is found is the image of vertex k.
 image-is : (c : tie.After-found Inv μ) → let a = c .before .before .before .before .before .before .before .args in
     c .found .result ≡ foundAt (a .n) (find (parts (a .n) (a .d) (a .points .now)) (mulVec (corner (a .d) (a .m)) (getD (parts (a .n) (a .d) (a .points .now)) (c .before .before .before .before .loop .k) [])))
 image-is c =

@@ -7,7 +7,7 @@ use Rattle.copying.proofs.Outcome.{call-refused, call-passed}
 use Rattle.copying.proofs.copy.Statement.{statement}
 use Rattle.copying.proofs.copy.Tie as tie
 
--- the judgement, where the code's is known
+-- The judgement, where the code's is known.
 copied-requires : tie.Need-copied-requires
 copied-requires c κs = sym (c .before .before .before .before .judged .ensures) ∙ ap judgementOf (c .before .before .enum-told .given .1)
 

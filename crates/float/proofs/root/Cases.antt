@@ -37,7 +37,7 @@ above (inf false) e = inl refl
 above (fin true m d) e = absurd (true≢false (sym e))
 above (fin false m d) e = let l = ltb→lt (0 * down d) (m * up d * 1) (yes-of e) in inr (lt→ltb 0 m (first-pos m (up d) (omega arith)))
 
--- below zero
+-- Below zero.
 pub below : (x : Float) → lt x zeroOf ≡ true → nan ≡ root x
 unfolding lt ofBits root
 below nan e = absurd (true≢false (sym e))
@@ -124,7 +124,7 @@ positive-no-nan nan p = absurd p
 positive-no-nan (inf s) p = tt
 positive-no-nan (fin s m d) p = tt
 
--- what `root_bits` gives is the root's pattern
+-- What `root_bits` gives is the root's pattern.
 module _ (x : Float) (f : T (fits binary64 x)) (p : T (positive x)) (r : ℕ) (e : ofBits binary64 r ≡ rootUnits (inUnits (ofBits binary64 (toBits binary64 x)) * 2 ^ 1074)) where
   pub pattern-is : ofBits binary64 r ≡ root x
   pattern-is = e ∙ ap (λ (y : Float). rootUnits (inUnits y * 2 ^ 1074)) (ofBits-toBits binary64 x f) ∙ root-units x f p

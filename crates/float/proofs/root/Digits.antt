@@ -13,7 +13,7 @@ use Rattle.spec.proofs.RootIs.{sq-twice, sq-suc, rootDown-is, sq-le}
 
 -- ---- one digit more
 
--- twice the root of a quarter, or one more
+-- Twice the root of a quarter, or one more.
 abbrev pick : ℕ → ℕ → ℕ
 pick r a = elim (leb (suc r * suc r) a) [ true ↦ suc r | false ↦ r ]
 
@@ -53,7 +53,7 @@ below-square : (q : ℕ) → q ≤ q * q
 below-square zero = le-refl 0
 below-square (suc q) = let p = sq-suc q in omega arith
 
--- both parts are at most the number
+-- Both parts are at most the number.
 pub parts-le : (i a q c : ℕ) → Root i a q c → (q ≤ a) × (c ≤ a)
 parts-le i a q c h =
     let b = below-square q in
@@ -67,7 +67,7 @@ rest-le i a q c l h =
     let v = h .1 in
     omega arith
 
--- a number between two squares has its root between theirs
+-- A number between two squares has its root between theirs.
 root-least : (q c a b : ℕ) → q * q + c ≡ a → c ≤ 2 * q → b * b ≤ a → b ≤ q
 root-least q c a b e l h =
     let p = sq-suc q in
@@ -78,7 +78,7 @@ root-least q c a b e l h =
 root-most : (q c a b : ℕ) → q * q + c ≡ a → a < b * b → q < b
 root-most q c a b e h = lt-of-not-le (λ (k : b ≤ q). let s = sq-le k in let z : a < a = omega arith in lt-irrefl a z)
 
--- it is the only one
+-- It is the only one.
 pub root-same : (i a q c : ℕ) → a < 4 ^ i → q * q + c ≡ a → c ≤ 2 * q → Root i a q c
 root-same i a q c l e h =
     let r = rootDown i a in

@@ -17,7 +17,7 @@ use Rattle.jidwaleb.proofs.jidwaleb_copy.Tie as tie
 abbrev answer : Answer × List Float × List ℕ → Answer
 answer x = x .0
 
--- the call's count fits
+-- The call's count fits.
 counted : (w : tie.After-copy) →
     let a = w .before .before .before .before .before .before .before .args in
     answerCount (copyCall (a .dimension) (a .points .now) (a .turns .now) (a .copies .now) (a .table .now) .0) < 2 ^ 32

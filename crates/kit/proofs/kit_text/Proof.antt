@@ -17,7 +17,7 @@ kit-text-spec =
     -- refused-requires, returns: the sheet is too long
     (λ c κs. omega (arith, refused-long CutSheet))
     (λ c. puts-is (c .refused .ensures) (cut-text _ (c .before .before .if1 .taken)))
-    -- what the types call is lent
+    -- What the types call is lent.
     (λ c. search needs)
     (λ c. search needs)
     (λ c. search needs)

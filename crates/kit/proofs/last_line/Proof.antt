@@ -20,7 +20,7 @@ unfolding searched entry
 last-line-spec =
     tie.close
     (tie.spec
-    -- what the search is lent
+    -- What the search is lent.
     (λ c. search needs)
     (λ c. search needs)
     (λ c. search needs)

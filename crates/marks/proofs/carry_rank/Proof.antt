@@ -19,14 +19,14 @@ Inv w sh floats row goes₀ r n base e₀ goes e = Turn sh w row (classesOn sh w
 abbrev μ : tie.MeasureT-loop
 μ w sh floats row goes₀ r n base e₀ goes e = n - e
 
--- the turn, and where the function starts
+-- The turn, and where the function starts.
 abbrev turn : (c : tie.After-known-told Inv μ) → tie.In-loop Inv μ
 turn c = c .before .before .before .before .before
 
 abbrev start : (c : tie.In-loop Inv μ) → tie.Start Inv μ
 start c = c .before .before .before .before .before .before .before
 
--- the cell to write, and what is written
+-- The cell to write, and what is written.
 lies : (c : tie.After-known-told Inv μ) → firstAt (start (turn c) .args .sh) (start (turn c) .args .r) + turn c .before .loop .e < length (turn c .before .loop .goes)
 lies c =
     let t = turn c in

@@ -12,11 +12,11 @@ use Rattle.marks.proofs.Carried.{class-cells, ranks-lie, class-in, lies
 use Rattle.marks.proofs.image_of.Statement.{statement}
 use Rattle.marks.proofs.image_of.Tie as tie
 
--- where the function starts
+-- Where the function starts.
 abbrev start : (c : tie.After-known-told) → tie.Start
 start c = c .before .before .before .before .before .before .before .before
 
--- where the element goes
+-- Where the element goes.
 gone : (c : tie.After-known-told) →
     (let a = start c .args in Reached (solidIn (a .sh) (a .w .now)) (classesOn (a .sh) (a .w .now) (a .floats .now)) (a .row .now) (a .r) (a .e) (At (c .before .x .given .0 .0)))
 gone c =
@@ -24,7 +24,7 @@ gone c =
     let cls = classesOn (a .sh) (a .w .now) (a .floats .now) in
     subst (λ (x : Found). Reached (solidIn (a .sh) (a .w .now)) cls (a .row .now) (a .r) (a .e) x) (c .before .x .given .1) (c .before .before .before .reach .ensures cls)
 
--- the cells say whether the class is shared
+-- The cells say whether the class is shared.
 shared : (c : tie.After-one-class) → let a = start (c .before) .args in
     c .one-class .result ≡ eqb (classesOn (a .sh) (a .w .now) (a .floats .now) (a .r) (c .before .before .x .given .0 .0)) (classesOn (a .sh) (a .w .now) (a .floats .now) (a .r) (a .e))
 shared c =

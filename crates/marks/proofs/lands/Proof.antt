@@ -24,7 +24,7 @@ Inv w goes base i j n k₀ k = (k ≤ n) × (n ≡ length (listAt w i)) × Every
 abbrev μ : tie.MeasureT-loop
 μ w goes base i j n k₀ k = n - k
 
--- the entry has a cell
+-- The entry has a cell.
 lies : (c : tie.After-entry-at Inv μ) → let a = c .before .before .before .before .before .before .args in a .base + c .entry-at .result < length (a .goes .now)
 lies c =
     let l = c .before .before in

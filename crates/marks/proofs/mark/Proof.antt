@@ -12,7 +12,7 @@ use Rattle.marks.proofs.Confirmed.{no-sets, no-row, all-else}
 use Rattle.marks.proofs.mark.Statement.{statement}
 use Rattle.marks.proofs.mark.Tie as tie
 
--- what the first two tests showed
+-- What the first two tests showed.
 apart-is : (c : tie.Else1) → let s = c .before .before .before .before .before in setsApart (solidIn (s .args .sh) (s .args .w .now)) ≡ true
 apart-is c = let s = c .before .before .before .before .before in sym (s .pre .1 .0) ∙ not-false _ (c .if1 .left)
 

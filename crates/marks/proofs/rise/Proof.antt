@@ -14,11 +14,11 @@ use Rattle.marks.proofs.Found.{some-sub, sub-cell, over-lie, each-lie, 
 use Rattle.marks.proofs.rise.Statement.{statement}
 use Rattle.marks.proofs.rise.Tie as tie
 
--- the element's subs lie in the words, by the number that the program has for them
+-- The element's subs lie in the words, by the number that the program has for them.
 word : (s : tie.Start) → subsWord (firstAt (s .args .sh) (s .args .r + 1)) (s .args .e) ≡ subsWord (firstAt (s .args .sh) (suc (s .args .r))) (s .args .e)
 word s = rw (add-one (s .args .r))
 
--- its first sub, which has a cell
+-- Its first sub, which has a cell.
 first : (c : tie.After-entry-at) → let a = c .before .before .before .before .before .args in c .entry-at .result ≡ getD (listAt (a .w .now) (subsWord (firstAt (a .sh) (suc (a .r))) (a .e))) 0 0
 first c = rw (c .before .subs-at .ensures, word (c .before .before .before .before .before)) at (c .entry-at .ensures)
 

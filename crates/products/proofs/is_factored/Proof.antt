@@ -15,7 +15,7 @@ use Rattle.products.proofs.is_factored.Tie as tie
 start : tie.Else4 → tie.Start
 start e = e .before .before .before .before .before .before .before .before
 
--- the factors lie within the rows
+-- The factors lie within the rows.
 a-in : (e : tie.Else4) → let s = start e in s .args .a * s .args .v + s .args .v ≤ length (s .args .rows .now)
 unfolding start
 a-in e = let s = start e in omega (arith, part-end (s .args .k) (s .args .v) (s .args .a) (e .before .before .before .before .if2 .left), s .pre .0)

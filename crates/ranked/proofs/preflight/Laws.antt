@@ -175,7 +175,7 @@ ready-is : (r : Ready) {v : Verdict} {h : Shape} {n : ℕ} → r .verdict ≡ v 
 ready-is r x y z = rw (← x, ← y, ← z)
 
 module _ (b : List ℕ) (n m : ℕ) (r : Ready) (ws : List ℕ) (fs : List Float) (same-words : length ws ≡ n) (same-floats : length fs ≡ m) where
-  -- a refusal
+  -- A refusal.
   refusal : (why : Refusal) → preflight b n m ≡ refused why → r ≡ unreadyOf why → Preflighted b n m r ws fs
   unfolding verdictOf readyOf
   refusal why e v = record {
@@ -248,7 +248,7 @@ module _ (b : List ℕ) (n m : ℕ) (r : Ready) (ws : List ℕ) (fs : List Float
                 let f = z .kept a .shape in
                 rw (← accepted b n m p e c k) (ready-is r (z .verdict ∙ a) f (z .low a ∙ ap (λ (h : Shape). lowOf h (entries (solidOf p))) f))
 
--- what storing asks
+-- What storing asks.
 pub asked : (b : List ℕ) (n m : ℕ) (p : Parsed) (e : readSheet b ≡ passed p) (h : Header) (eh : h ≡ headerOf p) (t : Bool)
     → t ≡ (leb (16 * (h .elements + h .entries + 4)) n && leb (8 * (h .elements + 8)) m) → t ≡ true
     → (readSheet b ≡ passed (parsedOf b)) × ((h ≡ headerOf (parsedOf b)) × (roomy (solidOf (parsedOf b)) n m ≡ true))

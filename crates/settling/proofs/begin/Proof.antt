@@ -11,11 +11,11 @@ use Rattle.settling.proofs.Benched.{cells-in, rest-is, startable, at-st
 use Rattle.settling.proofs.begin.Statement.{statement}
 use Rattle.settling.proofs.begin.Tie as tie
 
--- the words and floats as they were lent
+-- The words and floats as they were lent.
 entry : (c : tie.After-all-classes) → tie.Start
 entry c = c .before .before .before .before .before
 
--- the classes lie within the floats
+-- The classes lie within the floats.
 inside : (c : tie.After-class-cells) → c .class-cells .result ≤ length (c .before .before .before .all-classes .last .1 .1 .0)
 unfolding entry
 inside c =

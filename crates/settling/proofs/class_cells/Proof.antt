@@ -15,7 +15,7 @@ class-cells-spec =
     (tie.spec
     -- returns
     (λ c w h. none-proper _ w h (c .if1 .taken) .1)
-    -- two reads, sub-result, mul-result
+    -- Two reads, sub-result, mul-result.
     (λ c. search needs)
     (λ c. search needs)
     (λ c. let p = c .before .before .pre in some-proper _ (p .0) (p .1) (omega (arith, c .before .if1 .left)) .1)

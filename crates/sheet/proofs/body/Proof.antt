@@ -15,17 +15,17 @@ use Rattle.sheet.proofs.Parts.{body-refuses, lists-refuse, end-refuses,
 use Rattle.sheet.proofs.body.Statement.{statement}
 use Rattle.sheet.proofs.body.Tie as tie
 
--- the coordinates are read
+-- The coordinates are read.
 points : (c : tie.After-known-told2) → let r = c .before .before .before in let a = r .before .before .args in
     place.At (c .before .at .given .0 .0) ≡ placeOf (times (a .vertices * a .dimension) (coordinate (a .sheet .now)) (a .start))
 points c = sym (c .before .at .given .1) ∙ c .before .before .before .coordinates .ensures
 
--- and the lists
+-- And the lists.
 read : (c : tie.After-known-told4) → let r = c .before .before .before in let t = r .before in let a = t .before .before .before .before .before .args in
     listed.At (c .before .end .given .0 .0) (c .before .end .given .0 .1 .0) ≡ listedOf allEntries 0 (form.lists (a .sheet .now) (take (a .n) (a .counts)) (t .before .at .given .0 .0))
 read c = sym (c .before .end .given .1) ∙ c .before .before .before .lists .ensures
 
--- where the coordinates end
+-- Where the coordinates end.
 near : (c : tie.After-known-told2) → c .before .at .given .0 .0 < 2 ^ 20
 near c =
     let st = c .before .before .before .before .before in

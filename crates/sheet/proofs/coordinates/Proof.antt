@@ -22,7 +22,7 @@ Inv sheet start n at₀ k₀ at k = (k ≤ n) × (at ≡ start + 64 * k) × (pla
 abbrev μ : tie.MeasureT-loop
 μ sheet start n at₀ k₀ at k = n - k
 
--- past the first test the field is whole, and past the second it is on the board
+-- Past the first test the field is whole, and past the second it is on the board.
 fine : (c : tie.Else1 Inv μ) → leb (c .before .before .before .loop .at + 64) (8 * length (c .before .before .before .before .before .args .sheet .now)) ≡ true
 fine c = sym (c .before .whole .ensures) ∙ not-false _ (c .if1 .left)
 

@@ -27,7 +27,7 @@ Inv sheet start n counts₀ elements₀ at₀ k₀ counts elements at k =
 abbrev μ : tie.MeasureT-loop
 μ sheet start n counts₀ elements₀ at₀ k₀ counts elements at k = n - k
 
--- past the first test the field is whole
+-- Past the first test the field is whole.
 fine : (c : tie.Else1 Inv μ) → leb (c .before .before .before .loop .at + 12) (8 * length (c .before .before .before .before .before .args .sheet .now)) ≡ true
 fine c = sym (c .before .whole .ensures) ∙ not-false _ (c .if1 .left)
 

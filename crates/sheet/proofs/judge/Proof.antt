@@ -14,14 +14,14 @@ use Rattle.sheet.proofs.Made.{rank-cut, rank-high, dimension-cut, dimen
 use Rattle.sheet.proofs.judge.Statement.{statement}
 use Rattle.sheet.proofs.judge.Tie as tie
 
--- past the first test R is whole, and past the third D is
+-- Past the first test R is whole, and past the third D is.
 whole-rank : (c : tie.Else1) → leb 3 (8 * length (c .before .before .before .args .sheet .now)) ≡ true
 whole-rank c = sym (c .before .whole .ensures) ∙ not-false _ (c .if1 .left)
 
 whole-dimension : (c : tie.Else3) → leb 6 (8 * length (c .before .before .before .before .before .before .before .args .sheet .now)) ≡ true
 whole-dimension c = sym (c .before .whole2 .ensures) ∙ not-false _ (c .if3 .left)
 
--- past the second R is within its limit
+-- Past the second R is within its limit.
 low-rank : (c : tie.Else2) → field (c .before .before .before .before .before .args .sheet .now) 0 3 ≤ maxRank
 low-rank c = rw (c .before .field .ensures) at (c .if2 .left)
 

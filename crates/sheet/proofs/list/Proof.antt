@@ -17,11 +17,11 @@ use Rattle.sheet.proofs.Turns.{withEntries, with-entries}
 use Rattle.sheet.proofs.list.Statement.{statement}
 use Rattle.sheet.proofs.list.Tie as tie
 
--- past the first test the field is whole
+-- Past the first test the field is whole.
 fine : (c : tie.Else1) → leb (c .before .before .before .args .at + 12) (8 * length (c .before .before .before .args .sheet .now)) ≡ true
 fine c = sym (c .before .whole .ensures) ∙ not-false _ (c .if1 .left)
 
--- what the subs came to, with the entries beside it, is what the list comes to
+-- What the subs came to, with the entries beside it, is what the list comes to.
 told : (c : tie.After-subs) → let f = c .before .before .before in let a = f .before .before .before .before .args in
     withEntries (a .used + f .field .result) (c .subs .result) ≡ listedOf length (a .used) (list (a .sheet .now) (a .below) (a .used) (a .at))
 told c =

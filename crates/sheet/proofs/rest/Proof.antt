@@ -10,18 +10,18 @@ use Rattle.sheet.proofs.Made.{Counts, uncounted, counted, counts-near, 
 use Rattle.sheet.proofs.rest.Statement.{statement}
 use Rattle.sheet.proofs.rest.Tie as tie
 
--- what the counts came to
+-- What the counts came to.
 answer : (c : tie.After-counts) → let a = c .before .before .before .args in c .counts .result ≡ countedOf (times (a .rank - 1) (count (a .sheet .now)) 6)
 answer c = rw (c .before .proper-ranks .ensures) at (c .counts .ensures)
 
--- the counts that were read
+-- The counts that were read.
 read : (c : tie.After-known-told2) → let k = c .before .before .before .before in let a = k .before .before .before .args in Counts (a .sheet .now) (a .rank - 1) 6 (c .before .place2 .given .0 .0) (k .counts .result)
 read c =
     let k = c .before .before .before .before in
     let a = k .before .before .before .args in
     counted (a .sheet .now) (a .rank - 1) 6 (c .before .place2 .given .0 .0) (k .counts .result) (answer k) (c .before .place2 .given .1)
 
--- what the body makes of them
+-- What the body makes of them.
 told : (c : tie.After-body) → let k = c .before .before .before .before .before .before in let a = k .before .before .before .args in
     judgedWith (a .rank) (a .dimension) (k .counts .result .counts) (k .counts .result .elements) (c .body .result) ≡ judgementAt (restAt (a .sheet .now) (a .rank) (a .dimension) 6)
 told c =
@@ -55,7 +55,7 @@ rest-spec =
       omega (arith, n, st .pre .0),
       counts-small (a .sheet .now) (a .rank) 6 p r (read t) (st .pre .0),
     ))
-    -- the two arms of the body, and the three returns
+    -- The two arms of the body, and the three returns.
     (λ c. search needs)
     (λ c κs. search needs)
     (λ c. search needs)

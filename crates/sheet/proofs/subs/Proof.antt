@@ -21,7 +21,7 @@ Inv sheet start below n low₀ at₀ k₀ low at k = (k ≤ n) × (at ≡ start 
 abbrev μ : tie.MeasureT-loop
 μ sheet start below n low₀ at₀ k₀ low at k = n - k
 
--- past the first test the field is whole
+-- Past the first test the field is whole.
 fine : (c : tie.Else1 Inv μ) → leb (c .before .before .before .loop .at + 11) (8 * length (c .before .before .before .before .before .args .sheet .now)) ≡ true
 fine c = sym (c .before .whole .ensures) ∙ not-false _ (c .if1 .left)
 

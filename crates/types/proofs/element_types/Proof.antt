@@ -7,7 +7,7 @@ use Rattle.types.proofs.Demand3.{told}
 use Rattle.types.proofs.element_types.Statement.{statement}
 use Rattle.types.proofs.element_types.Tie as tie
 
--- the outputs as they were
+-- The outputs as they were.
 abbrev old : tie.After-preflight → TypesOut
 old p = let a = p .before .before .before .before .before .before .before .before .args in record { elements = a .of .now; types = a .table .now }
 

@@ -6,7 +6,7 @@ use Rattle.types.proofs.Placed.{unsettled-given, settled-given}
 use Rattle.types.proofs.types_given.Statement.{statement}
 use Rattle.types.proofs.types_given.Tie as tie
 
--- the outputs as they were
+-- The outputs as they were.
 abbrev old : tie.Start → TypesOut
 old s = record { elements = s .args .of .now; types = s .args .table .now }
 

@@ -38,7 +38,7 @@ returns c =
     image-found (a .d) (a .limit) (a .n) (a .out .now) q (s .pre .2) (s .pre .3)
     (is-found (parts (a .n) (a .d) (a .out .now)) q (length-parts (a .n) (a .d) (a .out .now)) (sym (f .find .ensures) ∙ c .enum-told .given .1))
 
--- the image is not there yet
+-- The image is not there yet.
 missing : (c : tie.After-enum-told2) →
     (let a = c .before .before .before .before .before .args in found (parts (a .n) (a .d) (a .out .now)) (take (a .d) (a .q)) ≡ false)
 missing c =
@@ -51,7 +51,7 @@ add-more c =
     let s = c .before .before .before .before .before in
     omega (arith, short s, s .pre .2, s .pre .3, le-mul-of-pos-right {m = s .args .d} (s .args .limit) (s .pre .0))
 
--- where the function starts
+-- Where the function starts.
 start : (c : tie.Then1) → tie.Start
 start c = c .before .before .before .before .before .before
 
@@ -59,7 +59,7 @@ fewer : (c : tie.Then1) → start c .args .n < start c .args .limit
 unfolding start
 fewer c = omega (arith, c .if1 .taken)
 
--- there is room for one point more, in a buffer whose length fits a word
+-- There is room for one point more, in a buffer whose length fits a word.
 ends : (c : tie.Then1) → start c .args .n * start c .args .d + start c .args .d ≤ length (start c .args .out .now)
 ends c =
     let s = start c in

@@ -38,7 +38,7 @@ point-copied-requires c κs =
     let l = c .before .before .before .loop in
     (s .pre .0, s .pre .1, l .inv .1 .room, omega (arith, s .pre .2, l .inv .1 .long))
 
--- the copies with those of point k
+-- The copies with those of point k.
 abbrev all : (c : tie.After-point-copied Inv-loop μ-loop) → List Vector
 all c =
     let a = c .before .before .before .before .before .before .before .before .args in

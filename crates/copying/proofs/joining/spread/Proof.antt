@@ -48,7 +48,7 @@ add-requires c κs =
 abbrev step : Vector → List Vector → Matrix → List Vector
 step p cs m = withImage cs (mulVec m p)
 
--- the copies with the image under matrix j
+-- The copies with the image under matrix j.
 abbrev all : (c : tie.After-add Inv-loop μ-loop) → List Vector
 all c =
     let a = c .before .before .before .before .before .before .before .before .args in

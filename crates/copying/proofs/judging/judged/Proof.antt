@@ -21,7 +21,7 @@ use Rattle.copying.proofs.judging.judged.Tie as tie
 above : (n : ℕ) → (n ≡ 0 → ⊥) → 0 < n
 above n h = omega arith
 
--- what is left to judge, where the tests so far passed
+-- What is left to judge, where the tests so far passed.
 upto2 : (c : tie.Else2) → (let a = c .before .before .before .before .args in cutSheet (a .d) (a .from .now) (a .turns .now) ≡ judgeCopy (a .d) (a .from .now) (a .turns .now))
 upto2 c =
     let a = c .before .before .before .before .args in

@@ -23,7 +23,7 @@ run c n m p q =
     let s = c .before .before .before in
     (p ∙ sym (getD-run _ _ _ (s .pre .0) _ (c .loop-test .taken)), q ∙ sym (getD-run _ _ _ (s .pre .1) _ (c .loop-test .taken)))
 
--- it is in both
+-- It is in both.
 inside : (c : tie.In-loop Inv μ)
     → let a = c .before .before .before .args in
     (c .before .loop .k < length (take (a .n) (drop (a .a) (a .w .now)))) × (c .before .loop .k < length (take (a .n) (drop (a .b) (a .w .now))))

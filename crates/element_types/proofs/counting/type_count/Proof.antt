@@ -14,7 +14,7 @@ Inv words low sh rank n₀ r₀ n r = Tally sh low words n r
 abbrev μ : tie.MeasureT-loop
 μ words low sh rank n₀ r₀ n r = rank - r
 
--- the rank's offsets, in a turn
+-- The rank's offsets, in a turn.
 ranks : (c : tie.In-loop Inv μ)
     → let l = c .before in
     let a = l .before .before .args in

@@ -18,13 +18,13 @@ Inv words₀ low lists n base from out reps q₀ m₀ e₀ words q m e = Scan wo
 abbrev μ : tie.MeasureT-loop
 μ words₀ low lists n base from out reps q₀ m₀ e₀ words q m e = n - e
 
--- the sums of a turn fit
+-- The sums of a turn fit.
 sums : (c : tie.In-loop Inv μ)
     → let a = c .before .before .before .args in
     Sums (a .words .now) (a .low) (a .lists) (a .from) (a .out) (c .before .loop .q) (c .before .loop .e)
 sums c = let l = c .before in sums-fit _ _ _ _ _ _ _ (l .before .before .pre) _ _ _ _ (l .loop .inv) (c .loop-test .taken)
 
--- the words after a turn whose key was new
+-- The words after a turn whose key was new.
 back : (c : tie.Then1 Inv μ)
     → let n = c .before .before .before in
     let l = n .before .before .before in
@@ -36,7 +36,7 @@ back c =
     let l = i .before in
     list-back _ _ _ _ _ _ _ (l .before .before .pre) _ _ _ _ (l .loop .inv) (i .loop-test .taken) _ _ (n .number-one .ensures .0) (n .number-one .ensures .1) (c .if1 .taken)
 
--- how many neighbours the element has
+-- How many neighbours the element has.
 many : (c : tie.After-count-at Inv μ)
     → let l = c .before .before .before .before .before .before .before .before in
     let a = l .before .before .args in

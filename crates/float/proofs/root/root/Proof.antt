@@ -7,7 +7,7 @@ use Rattle.float.proofs.root.Cases.{below, neither, nan-is, no-nan, fin
 use Rattle.float.proofs.root.root.Statement.{statement}
 use Rattle.float.proofs.root.root.Tie as tie
 
--- what owning an `f64` tells: the format holds it
+-- What owning an `f64` tells: the format holds it.
 held : (c : tie.Start) → T (fits binary64 (c .args .x))
 held c = subst T (sym (c .good .0 .1)) tt
 

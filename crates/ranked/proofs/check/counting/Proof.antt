@@ -24,7 +24,7 @@ Inv w i base x n m₀ k₀ m k = (k ≤ n) × (m ≤ k) × (n ≡ length (listAt
 abbrev μ : tie.MeasureT-loop
 μ w i base x n m₀ k₀ m k = n - k
 
--- the entry's list lies within the words
+-- The entry's list lies within the words.
 lies : (c : tie.After-entry-at Inv μ) → let a = c .before .before .before .before .before .args in Lies (a .w .now) (a .base + 4 * c .entry-at .result)
 lies c =
     let l = c .before .before in

@@ -24,7 +24,7 @@ Inv w i j base below g n k₀ k = (k ≤ n) × (n ≡ length (listAt w j)) × Ev
 abbrev μ : tie.MeasureT-loop
 μ w i j base below g n k₀ k = n - k
 
--- what is known of the entry
+-- What is known of the entry.
 fork : (c : tie.After-entry-at Inv μ)
     → let a = c .before .before .before .before .before .args in Fork (a .w .now) (a .i) (supsWord (a .below) (c .entry-at .result)) (a .base) (a .g) (c .entry-at .result)
 fork c =

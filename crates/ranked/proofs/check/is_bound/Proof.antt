@@ -47,7 +47,7 @@ is-bound-spec =
     -- loop-holds, add-loop
     (λ c. (search needs, refl))
     (λ c. search needs)
-    -- the shape's numbers: add, mul, element-copy-out, twice
+    -- The shape's numbers: add, mul, element-copy-out, twice.
     (λ c. search needs)
     (λ c. omega (arith, c .before .before .before .pre .tall))
     (λ c. omega (arith, c .before .before .before .pre .tall))

@@ -10,7 +10,7 @@ use Rattle.ranked.proofs.preflight.Laws.{header-fits, unread, cramped-i
 use Rattle.ranked.proofs.preflight.preflight.Statement.{statement}
 use Rattle.ranked.proofs.preflight.preflight.Tie as tie
 
--- the sheet that was accepted
+-- The sheet that was accepted.
 read : (c : tie.After-enum-told) → let j = c .before .before .before in
     (p : Parsed) × (readSheet (j .before .before .before .before .args .sheet .now) ≡ passed p) × (j .judge .result .header ≡ headerOf p)
 read c = let j = c .before .before .before in accepted-is (j .before .before .before .before .args .sheet .now) (j .judge .result) (j .judge .ensures) (c .enum-told .given .1)

@@ -18,7 +18,7 @@ entry c = c .before .before .before .before .before .before .before .before
 far : (c : tie.After-far) → tie.After-first-far
 far c = c .before .before
 
--- the facet is one
+-- The facet is one.
 low : (c : tie.After-far) → let s = entry (far c) in c .far .given .0 .0 < sizeAt (s .args .sh) (s .args .sh .rank - 1)
 unfolding entry far
 low c =

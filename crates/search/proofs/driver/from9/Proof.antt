@@ -16,7 +16,7 @@ use Rattle.search.proofs.driver.from9.Tie as tie
 entry : (c : tie.After-no-double) → tie.Start
 entry c = c .before .before .before .before .before .before .before .before
 
--- the coordinates lie in the floats
+-- The coordinates lie in the floats.
 points : (s : tie.Start) → sizeAt (s .args .sh) 1 * s .args .sh .dimension ≤ length (s .args .floats .now)
 points s = rw (← size-is (s .args .sh) (take (s .args .low) (s .args .words .now)) 1 (omega (arith, s .pre .1 .0))) (points-in (s .pre .0))
 

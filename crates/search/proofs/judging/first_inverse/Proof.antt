@@ -13,7 +13,7 @@ use Rattle.flag.specs.Reading.{flagIn}
 use Rattle.search.proofs.judging.first_inverse.Statement.{statement}
 use Rattle.search.proofs.judging.first_inverse.Tie as tie
 
--- the first flag is one
+-- The first flag is one.
 is-flag : (c : tie.After-first) → let s = c .before .before .before in IsFlag (solidIn (s .args .sh) (s .args .w .now)) (flagIn (s .args .sh .rank) (c .first .result))
 is-flag c = let s = c .before .before .before in rw (c .first .ensures) (every-first _ (s .pre .0 .sound) (s .pre .0 .filled) .0)
 

@@ -15,11 +15,11 @@ use Rattle.search.proofs.Benched.{after-types, prints-in, lists-kept, r
 use Rattle.search.proofs.marking.write_marks.Statement.{statement}
 use Rattle.search.proofs.marking.write_marks.Tie as tie
 
--- the words and floats as they were lent
+-- The words and floats as they were lent.
 entry : (c : tie.After-at) → tie.Start
 entry c = c .before .before .before .before .before
 
--- the solid's words stay
+-- The solid's words stay.
 kept : (c : tie.After-write-prints) → let s = entry (c .before .before .before .before .before .before .before) in
     take (s .args .low) (c .write-prints .last .0) ≡ take (s .args .low) (s .args .words .now)
 unfolding entry

@@ -18,7 +18,7 @@ Inv words reps m cells from x j₀ j = (j ≤ m) × Sought sameClass x (repCells
 abbrev μ : tie.MeasureT-loop
 μ words reps m cells from x j₀ j = m - j
 
--- the element that is read has its cell
+-- The element that is read has its cell.
 rep-in : (c : tie.After-get Inv μ) → let a = c .before .before .before .before .before .args in a .from + c .get .result < length (a .cells .now)
 rep-in c = rw (c .get .ensures) (c .before .before .before .before .before .pre .1 _ (c .before .loop-test .taken))
 

@@ -14,7 +14,7 @@ Inv words₀ to reps n cells from m₀ e₀ words m e = Scan words₀ words to r
 abbrev μ : tie.MeasureT-loop
 μ words₀ to reps n cells from m₀ e₀ words m e = n - e
 
--- the cells that a turn writes are there
+-- The cells that a turn writes are there.
 room : (c : tie.After-find-class Inv μ)
     → let l = c .before .before .before .before in
     let a = l .before .before .before .args in

@@ -15,7 +15,7 @@ Inv words₀ low sh count₀ left₀ words count left = Settling sh low words₀
 abbrev μ : tie.MeasureT-loop
 μ words₀ low sh count₀ left₀ words count left = left
 
--- after the first sweep
+-- After the first sweep.
 swept : (u : tie.After-sweep Inv μ) → let s = u .before .before .before in Swept (s .args .sh) (s .args .low) (u .sweep .last .0) (s .pre .classes)
 swept u = once _ _ _ (u .before .before .before .pre) _ (u .sweep .kept .0) (u .sweep .ensures .0) (u .sweep .ensures .1)
 

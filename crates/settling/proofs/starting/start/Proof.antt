@@ -16,11 +16,11 @@ Inv words₀ low cells sh rank last out r₀ words r = Begun sh low words₀ wor
 abbrev μ : tie.MeasureT-loop
 μ words₀ low cells sh rank last out r₀ words r = sh .rank - r
 
--- the words as they were lent
+-- The words as they were lent.
 entry : (c : tie.After-out Inv μ) → tie.Start Inv μ
 entry c = c .before .before .before .before
 
--- the offsets of a turn's rank
+-- The offsets of a turn's rank.
 ranks : (c : tie.In-loop Inv μ)
     → let l = c .before in
     let a = l .before .before .before .before .before .args in

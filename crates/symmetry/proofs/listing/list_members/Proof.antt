@@ -37,7 +37,7 @@ abbrev μ : tie.MeasureT-loop
 abbrev start : tie.At-loop Inv μ → tie.Start Inv μ
 start c = c .before .before .before .before .before .before .before .before .before .before
 
--- where the vertices are counted
+-- Where the vertices are counted.
 abbrev counted : tie.At-loop Inv μ → tie.After-vertex-count Inv μ
 counted l = l .before .before .before
 
@@ -53,7 +53,7 @@ vertex-count-requires c κs = rising (c .before .before .before .before .before 
 tall : (s : tie.Start Inv μ) → s .args .sh .dimension ≤ length (s .args .inv)
 tall s = let k : length (s .args .inv) ≡ maxDimension = search needs in omega (arith, k, s .pre .bench .held .wide)
 
--- the points lie in the floats
+-- The points lie in the floats.
 points-requires : (v : tie.After-vertex-count Inv μ) → let s = v .before .before .before .before .before .before .before in
     (s .args .sh .dimension ≤ maxDimension) × (v .vertex-count .result ≤ maxCount) × (v .vertex-count .result * s .args .sh .dimension ≤ length (s .args .floats .now))
 points-requires v =
@@ -74,7 +74,7 @@ loop-holds c =
           (tally-first (s .pre) (a .inv) (tall s) (a .rotations) (a .room) (v .vertex-count .result) (v .vertex-count .ensures) (a .matrices .now) (a .rows .now)),
     )
 
--- what stands of the flags that are to come, the flag and those after it
+-- What stands of the flags that are to come, the flag and those after it.
 abbrev Stands : tie.At-loop Inv μ → List Flag → Type 0
 Stands l =
     let a = start l .args in
@@ -93,7 +93,7 @@ stands l =
     let s = start l in
     turn-at (s .args .sh) (take (s .args .low) (s .args .words .now)) (s .pre .bench .held) (Stands l) (flag l) (l .loop .inv .2)
 
--- the parts after the members start within the outputs, whose lengths fit a word
+-- The parts after the members start within the outputs, whose lengths fit a word.
 within : (l : tie.At-loop Inv μ) → let a = start l .args in
     (l .loop .n * (a .sh .dimension * a .sh .dimension) ≤ length (l .loop .matrices)) × (l .loop .n * counted l .vertex-count .result ≤ length (l .loop .rows)) × (l .loop .n ≤ a .room)
 within l =
@@ -125,7 +125,7 @@ part-try-flag-start c = omega (arith, within (c .before) .0)
 part-try-flag-start-2 : tie.Need-part-try-flag-start-2 Inv μ
 part-try-flag-start-2 c = omega (arith, within (c .before .before) .1)
 
--- the flag is one
+-- The flag is one.
 is-flag : (l : tie.At-loop Inv μ) → let a = start l .args in IsFlag (solidIn (a .sh) (take (a .low) (a .words .now))) (flag l)
 is-flag l =
     let s = start l in
@@ -137,7 +137,7 @@ try-flag-requires c κs =
     let s = start l in
     (s .pre, (is-flag l, (counted l .before .first .ensures, λ e. subst Lone (sym (points-read (s .pre) (counted l .vertex-count .result) (counted l .vertex-count .ensures))) (l .before .before .is-lone .ensures e))))
 
--- the outputs after the flag is tried
+-- The outputs after the flag is tried.
 abbrev matrices : tie.After-try-flag Inv μ → List Float
 matrices t =
     let l = t .before .before .before .before in
@@ -162,7 +162,7 @@ long t =
     let k = l .loop .n * counted l .vertex-count .result in
     same-len-mid k (length (l .loop .rows) - k) (l .loop .rows) (t .try-flag .last .1 .1 .1 .1 .1 .1 .1 .1 .1 .1 .1 .1 .1 .0) (t .try-flag .kept .1 .1 .1 .1 .1 .1 .1 .1 .1 .1 .1 .1 .1 .0) ∙ l .loop .inv .1
 
--- what stands then
+-- What stands then.
 abbrev Stood : tie.After-try-flag Inv μ → ℕ → List Flag → Type 0
 Stood t n =
     let l = t .before .before .before .before in
@@ -219,7 +219,7 @@ next-requires c κs =
     let l = c .before .before .before .before .before .before .before .before .before .before in
     (start l .pre .bench .held, is-flag l)
 
--- where the flag after it is asked for: what stands of the flags after it
+-- Where the flag after it is asked for: what stands of the flags after it.
 follows : (x : tie.After-next Inv μ) → let m = x .before .before in let t = m .before .before .before .before .before in Stood t (m .match .n) (rest (t .before .before .before .before))
 follows x =
     let m = x .before .before in

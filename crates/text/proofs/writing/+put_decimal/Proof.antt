@@ -36,7 +36,7 @@ pub +put-decimal-spec : {M : Type 1} → statement M
 )
     (put-decimal-at t)
     put-decimal.Post
-    -- one digit: digit-requires, slice-write-out, add-result, same-length, returns
+    -- One digit: digit-requires, slice-write-out, add-result, same-length, returns.
     (λ c κs. search needs)
     (λ c. let s = c .before .before .before in room-small _ _ (s .args .out .now) (c .before .if1 .taken) (s .pre .1))
     (λ c. let s = c .before .before .before in omega (arith, room-small (s .args .at) (s .args .n) (s .args .out .now) (c .before .if1 .taken) (s .pre .1)))

@@ -14,11 +14,11 @@ use Rattle.types.proofs.Call.{types-few, short-elements, short-types, a
 use Rattle.types.proofs.giving.give_out.Statement.{statement}
 use Rattle.types.proofs.giving.give_out.Tie as tie
 
--- the outputs as they were
+-- The outputs as they were.
 abbrev old : tie.Start → TypesOut
 old s = record { elements = s .args .of .now; types = s .args .table .now }
 
--- there are cells enough
+-- There are cells enough.
 room : (c : tie.Else2)
     → let s = c .before .before .before .before .before .before .before in
     let a = s .args in

@@ -15,7 +15,7 @@ Inv words from n r table₀ m k₀ e₀ table k e = Rows words from n r m table�
 abbrev μ : tie.MeasureT-loop
 μ words from n r table₀ m k₀ e₀ table k e = n - e
 
--- where an element's type is read, it and the place of the next record fit
+-- Where an element's type is read, it and the place of the next record fit.
 fits : (c : tie.After-get Inv μ)
     → let l = c .before .before in
     let a = l .before .before .before .args in

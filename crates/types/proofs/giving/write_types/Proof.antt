@@ -15,7 +15,7 @@ Inv words low of₀ n first k₀ of k = Copied words (low + first) n of₀ of k
 abbrev μ : tie.MeasureT-loop
 μ words low of₀ n first k₀ of k = n - k
 
--- the types stand in the words, and there is a cell for each
+-- The types stand in the words, and there is a cell for each.
 inside : (c : tie.After-proper-count Inv μ)
     → let a = c .before .before .before .args in
     (a .low + firstAt (a .t3) 1 + c .proper-count .result ≤ length (a .words .now)) × (c .proper-count .result ≤ length (a .of .now))

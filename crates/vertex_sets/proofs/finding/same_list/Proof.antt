@@ -24,7 +24,7 @@ inside c =
     let s = c .before .before in
     (rw (length-take-le (s .args .n) (s .args .a .now) (s .pre .0)) (c .loop-test .taken), rw (length-take-le (s .args .n) (s .args .b .now) (s .pre .1)) (c .loop-test .taken))
 
--- and is what is read
+-- And is what is read.
 read : (c : tie.In-loop Inv μ)
     → let a = c .before .before .args in
     (getD (take (a .n) (a .a .now)) (c .before .loop .k) 0 ≡ getD (a .a .now) (c .before .loop .k) 0) × (getD (take (a .n) (a .b .now)) (c .before .loop .k) 0 ≡ getD (a .b .now) (c .before .loop .k) 0)

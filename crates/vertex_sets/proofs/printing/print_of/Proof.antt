@@ -14,7 +14,7 @@ Inv list n p₀ k₀ p k = Summed list n p k
 abbrev μ : tie.MeasureT-loop
 μ list n p₀ k₀ p k = n - k
 
--- an entry fits 16 bits
+-- An entry fits 16 bits.
 small : (c : tie.After-shared-slice-known Inv μ) → getD (c .before .before .before .args .list .now) (c .before .before .loop .k) 0 < 65536
 small c = omega (arith, c .shared-slice-known .given (c .before .before .loop .k))
 

@@ -14,7 +14,7 @@ use Rattle.geometry.proofs.Hulls.{one-more, joins-far, joins-near, add-
 use Rattle.geometry.proofs.hull.Hull.add.Statement.{statement}
 use Rattle.geometry.proofs.hull.Hull.add.Tie as tie
 
--- the length that the test is about
+-- The length that the test is about.
 length-is : (c : tie.After-norm) →
     let a = c .before .before .before .args in
     c .norm .result ≡ norm (rest (hullIn (length (a .p .now)) (a .self)) (a .p .now))

@@ -15,7 +15,7 @@ use Rattle.geometry.specs.Reading.{hullIn}
 use Rattle.geometry.proofs.hull.Hull.distance.Statement.{statement}
 use Rattle.geometry.proofs.hull.Hull.distance.Tie as tie
 
--- the part has d entries
+-- The part has d entries.
 long : (s : tie.Start) → length (take (s .args .d) (replicate maxDimension zeroF)) ≡ s .args .d
 long s = length-take-le (s .args .d) (replicate maxDimension zeroF) (omega (arith, length-replicate maxDimension zeroF, s .pre .0))
 

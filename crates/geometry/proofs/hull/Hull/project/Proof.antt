@@ -35,14 +35,14 @@ part-b-end c = let k = long (c .before .before .before .before .before .before .
 slice-aggregate-dot : tie.Need-slice-aggregate-dot Inv-loop μ-loop
 slice-aggregate-dot c = let k = far (c .before .before .before .before .before) in sym (length-take-le _ _ (omega arith))
 
--- the part that is lent is the vector of the turn
+-- The part that is lent is the vector of the turn.
 lent : (c : tie.In-loop Inv-loop μ-loop) →
     let a = c .before .before .before .before .before .before .args in
     let at = c .before .loop .k * maxDimension in
     take (at + length (a .p .now) - at) (drop at (a .self .basis)) ≡ vectorAt (length (a .p .now)) (a .self .basis) (c .before .loop .k)
 lent c = part-is (length (c .before .before .before .before .before .before .args .p .now)) (c .before .loop .k * maxDimension) _
 
--- which has d entries
+-- Which has d entries.
 wide : (c : tie.In-loop Inv-loop μ-loop) →
     let a = c .before .before .before .before .before .before .args in
     length (vectorAt (length (a .p .now)) (a .self .basis) (c .before .loop .k)) ≡ length (a .p .now)
