@@ -11,16 +11,16 @@ use Rattle.spec.specs.Types.{Solid, State, typeOf, properRanks}
 use Rattle.spec.specs.Flags.{Flag, IsFlag, elementAt}
 use Rattle.spec.specs.Search.{changes}
 
--- G is F after a round, in which ranks 1 to R−1 change in turn; and a flag again, so that a further round can be made
+-- G is F after a round, in which ranks 1 to R−1 change in turn. It is a flag again, so that a further round can be made.
 pub record Turned (s : Solid) (F G : Flag) : Type 0 where
   pub is : G ≡ changes s (properRanks s) F
   pub flag : IsFlag s G
 
--- F's elements have G's types, at ranks 0 to R: with the first flag for G, that is spec's `sameTypes`
+-- Whether F's elements have G's types, at ranks 0 to R. With the first flag for G, that is spec's `sameTypes`.
 abbrev pub typesAgree : State → ℕ → Flag → Flag → Bool
 typesAgree z R F G = every (λ r. eqb (typeOf z r (elementAt F r)) (typeOf z r (elementAt G r))) (range 0 (suc R))
 
--- whether every image is among the n vertices, and if so its number in the first n cells
+-- The answer r says whether every image is among the n vertices. If so, the first n cells hold their numbers.
 pub record Rowed (n : ℕ) (new cells : List ℕ) (r : Bool) : Type 0 where
   pub found : r ≡ every (λ v. ltb v n) new
   pub row : r ≡ true → take n cells ≡ new

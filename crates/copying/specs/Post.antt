@@ -16,46 +16,46 @@ use Rattle.spec.specs.Lists.{join, holds}
 use Rattle.spec.specs.Matrix.{Vector, Matrix}
 use Rattle.spec.specs.Copying.{found, spread, parts, written}
 
--- the judgement that an answer of the code stands for
+-- The judgement that an answer of the code stands for.
 abbrev pub judgementOf : Judgement → Judged (Unit {0})
 judgementOf Passed = passed tt
 judgementOf (Refused why) = refused why
 
--- the copies with one image more, unless it is found among them
+-- The copies with one image more, unless the image is found among them.
 unfoldable pub withImage : List Vector → Vector → List Vector
 withImage cs q = elim (found cs q) [ true ↦ cs | false ↦ cs ++ q ∷ [] ]
 
--- the copies with the images of one point more, unless it is found among them
+-- The copies with the images of one point more, unless the point is found among them.
 unfoldable pub withPoint : List Matrix → List Vector → Vector → List Vector
 withPoint ms cs p = elim (found cs p) [ true ↦ cs | false ↦ spread ms p cs ]
 
--- A buffer holds all, n points of d floats, from its first cell on; there are at most limit, and the cells past them are as they were.
+-- A buffer holds `all`, which are n points of d floats, from its first cell on. There are at most `limit`, and the cells past them are as they were.
 pub record Fitting (d limit : ℕ) (all : List Vector) (before after : List Float) (n : ℕ) : Type 0 where
   pub room : n ≤ limit
   pub read : parts n d after ≡ all
   pub is : after ≡ written (join all) before
 
--- there are more than limit, and a buffer holds the first limit
+-- There are more than `limit` points, and a buffer holds the first `limit` of them.
 pub record Overfull (limit : ℕ) (all : List Vector) (before after : List Float) : Type 0 where
   pub more : limit < length all
   pub is : after ≡ written (join (take limit all)) before
 
--- what a buffer holds by the answer, where all are the copies and at most limit are kept
+-- What a buffer holds by the answer, where `all` are the copies and at most `limit` are kept.
 abbrev pub Kept : (d limit : ℕ) (all : List Vector) (before after : List Float) → Room → Type 0
 Kept d limit all before after (room.Fits n) = Fitting d limit all before after n
 Kept d limit all before after room.Full = Overfull limit all before after
 
--- new are a buffer's first cells, and none of them is x
+-- The numbers `new` are a buffer's first cells, and none of them is x.
 pub record Closed (x : ℕ) (new before after : List ℕ) : Type 0 where
   pub none : holds eqb x new ≡ false
   pub is : after ≡ written new before
 
--- one of new is x; of a buffer only as many cells have changed as they are
+-- One of the numbers `new` is x. In the buffer, no cell has changed past the first ones, as many as these numbers are.
 pub record Opened (x : ℕ) (new before after : List ℕ) : Type 0 where
   pub some : holds eqb x new ≡ true
   pub past : drop (length new) after ≡ drop (length new) before
 
--- what a table holds by the answer, where new are its cells and x is the number of an image that is not found
+-- What a table holds by the answer, where `new` are its cells and x is the number of an image that is not found.
 abbrev pub Tabled : (x : ℕ) (new before after : List ℕ) → Bool → Type 0
 Tabled x new before after true = Closed x new before after
 Tabled x new before after false = Opened x new before after

@@ -14,17 +14,17 @@ use Rattle.ranked.specs.declared.Shape.{Shape}
 use Rattle.ranked.specs.Words.{Held}
 use Rattle.distances.specs.Solids.{solidOn, coordinates, proper, before}
 
--- the list after distances, from a list
+-- The list that results when distances join the list l one after another.
 unfoldable pub listAfter : List Float → List Float → List Float
 listAfter l [] = l
 listAfter l (x ∷ xs) = listAfter (listing l x .1) xs
 
--- the distances of the elements of rank r
+-- The distances of the elements of rank r.
 unfoldable pub rankDistances : Concrete → ℕ → List Float
 rankDistances c r = map (distanceOf c r) (range 0 (size (c .abs) r))
 
--- Distances xs were taken: the list stands from cell vd on and had n values, now m; the classes stand from `cell` on, and k stood there before. The cells below vd
--- are as they were
+-- The distances xs were taken. The list stands from cell vd on, and had n values before and has m now. The classes stand from `cell` on, behind the
+-- k classes that stood there before. The cells below vd are as they were.
 pub record Grown (vd cell k : ℕ) (old new : List Float) (n m : ℕ) (xs : List Float) : Type 0 where
   pub same : take vd new ≡ take vd old
   pub long : length new ≡ length old
@@ -32,7 +32,8 @@ pub record Grown (vd cell k : ℕ) (old new : List Float) (n m : ℕ) (xs : List
   pub list : take m (drop vd new) ≡ listAfter (take n (drop vd old)) xs
   pub cells : take (k + length xs) (drop cell new) ≡ take k (drop cell old) ++ classesFrom (take n (drop vd old)) xs
 
--- what taking rank r's distances needs: r is proper, no more values are listed than elements were taken, and there is room for the list and the classes
+-- What taking the distances of rank r needs: r is proper, no more values are listed than elements were taken, and there is room for the list and the
+-- classes.
 pub record Ready (sh : Shape) (w : List ℕ) (floats : List Float) (vd n r : ℕ) : Type 0 where
   pub held : Held sh w
   pub low : 1 ≤ r
@@ -41,7 +42,7 @@ pub record Ready (sh : Shape) (w : List ℕ) (floats : List Float) (vd n r : ℕ
   pub few : n ≤ before sh r
   pub room : vd + proper sh + proper sh ≤ length floats
 
--- the whole: n values are listed, and each proper element has its class
+-- The result for the whole solid: n values are listed, and each proper element has its class.
 pub record Classed (sh : Shape) (w : List ℕ) (old new : List Float) (n : ℕ) : Type 0 where
   pub same : take (coordinates sh w) new ≡ take (coordinates sh w) old
   pub long : length new ≡ length old

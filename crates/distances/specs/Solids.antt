@@ -10,26 +10,26 @@ use Rattle.spec.specs.Solid.{Concrete}
 use Rattle.ranked.specs.declared.Shape.{Shape}
 use Rattle.ranked.specs.Words.{firstAt, solidIn}
 
--- how many vertices there are: none where the least is the top
+-- How many vertices there are. There are none where the least element is the top.
 abbrev pub vertexCount : Shape → List ℕ → ℕ
 vertexCount sh w = size (solidIn sh w) 1
 
--- the solid in d dimensions whose vertices' coordinates stand one after another in fl
+-- The solid in d dimensions whose vertices' coordinates stand one after another in fl.
 abbrev pub solidOn : Shape → List ℕ → List Float → ℕ → Concrete
 solidOn sh w fl d = record { dimension = d; points = parts (vertexCount sh w) d fl; abs = solidIn sh w }
 
--- how many floats the coordinates take
+-- How many floats the coordinates take.
 abbrev pub coordinates : Shape → List ℕ → ℕ
 coordinates sh w = vertexCount sh w * sh .dimension
 
--- "E counts proper elements": those from rank 1 on, below the top
+-- The number of proper elements, which are those from rank 1 on and below the top: "E counts proper elements".
 abbrev pub proper : Shape → ℕ
 proper sh = firstAt sh (sh .rank) - firstAt sh 1
 
--- how many proper elements lie below rank r
+-- How many proper elements lie below rank r.
 abbrev pub before : Shape → ℕ → ℕ
 before sh r = firstAt sh r - firstAt sh 1
 
--- the same, of a solid that stands nowhere
+-- The same for a solid by itself, which stands in no words.
 unfoldable pub beforeIn : Solid → ℕ → ℕ
 beforeIn s r = sum (map (λ k. size s k) (range 1 (r - 1)))

@@ -16,45 +16,45 @@ use Rattle.flag.specs.declared.Advance.the-variants.{More, Ended}
 use Rattle.flag.specs.declared.Other.{Other}
 use Rattle.flag.specs.declared.Other.the-variants.{Element, Nothing}
 
--- the first of a list, if it has any
+-- The first number of a list, if it has any.
 unfoldable pub firstIn : List ℕ → Option ℕ
 firstIn [] = none
 firstIn (x ∷ l) = some x
 
--- the first of l that is not e, if there is one: where there is none, `other` of crate spec keeps e
+-- The first number of l that is not e, if there is one. Where there is none, `other` of crate spec keeps e.
 unfoldable pub otherIn : ℕ → List ℕ → Option ℕ
 otherIn e l = firstIn (keep (λ x. not (eqb x e)) l)
 
--- what a look for another element found
+-- What a look for another element found, if anything.
 unfoldable pub otherOf : Other → Option ℕ
 otherOf (Element y) = some y
 otherOf Nothing = none
 
--- whether there is a flag after one
+-- Whether there is a flag after the given one.
 unfoldable pub moreOf : Advance → Bool
 moreOf More = true
 moreOf Ended = false
 
--- the elements of a flag by value, one for each rank from 0 to R: the cells past R are not read
+-- The elements of a flag by value, one for each rank from 0 to R. The cells past R are not read.
 abbrev pub flagIn : ℕ → Flag → flags.Flag
 flagIn R f = take (suc R) (f .elements)
 
--- what comes after F in `flags`: G if there is more, and otherwise F is the last
+-- What comes after F in `flags`: if there is more, it is G, and otherwise F is the last flag.
 pub record Follows (s : Solid) (F : flags.Flag) (more : Bool) (G : flags.Flag) : Type 0 where
   pub next : more ≡ true → (i : ℕ) → i < length (flags.flags s) → F ≡ getD (flags.flags s) i []
       → (suc i < length (flags.flags s)) × (G ≡ getD (flags.flags s) (suc i) [])
   pub end : more ≡ false → (i : ℕ) → i < length (flags.flags s) → F ≡ getD (flags.flags s) i [] → suc i ≡ length (flags.flags s)
 
--- F is flag i: what a loop over the flags knows of its flag
+-- F is flag number i of `flags`. This is what a loop over the flags knows of its flag.
 pub record Nth (s : Solid) (F : flags.Flag) (i : ℕ) : Type 0 where
   pub low : i < length (flags.flags s)
   pub is : F ≡ getD (flags.flags s) i []
 
--- the number, among the subs of the element above it, of the sub after the element at r
+-- The number, among the subs of the element above it, of the sub after the element at rank r.
 abbrev pub nextPlace : Solid → List ℕ → ℕ → ℕ
 nextPlace s els r = suc (place eqb (getD els r 0) (subs s (suc r) (getD els (suc r) 0)))
 
--- the element at r moves on to the next sub, and below it first subs are taken; or it is the last sub
+-- If there is more, the element at rank r moves on to the next sub, and first subs are taken below it. Otherwise it is the last sub.
 pub record Moved (s : Solid) (R : ℕ) (els : List ℕ) (r : ℕ) (more : Bool) (new : List ℕ) : Type 0 where
   pub next : more ≡ true → (nextPlace s els r < length (subs s (suc r) (getD els (suc r) 0)))
       × (take (suc R) new ≡ flags.firstTo s r (getD (subs s (suc r) (getD els (suc r) 0)) (nextPlace s els r) 0) ++ take (R - r) (drop (suc r) els))

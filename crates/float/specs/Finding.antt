@@ -12,7 +12,7 @@ use Rattle.float.specs.declared.points.Found.the-variants.{At, Nothing}
 unfoldable pub foundAt : ℕ → ℕ → Found
 foundAt n k = elim (ltb k n) as (λ _. Found) [ true ↦ At k | false ↦ Nothing ]
 
--- the answer of a scan that ends at the first of the numbers that pass
+-- The answer of a scan that ends at the first of the numbers that pass.
 abbrev pub firstOf : List ℕ → Found
 firstOf [] = Nothing
 firstOf (k ∷ ks) = At k

@@ -1,4 +1,4 @@
--- How the arrays of the code are read, and what the cells that no entry needs hold: a d by d matrix is the leading part of an array of arrays.
+-- How the arrays of the code are read, and what the cells that no entry needs hold. A d by d matrix is the leading part of an array of arrays.
 -- Assumes nothing.
 use mathlib.Core.Path.{_≡_}
 use mathlib.Core.Bool.{Bool, true, false}
@@ -11,37 +11,37 @@ use Rattle.spec.specs.Limits.{maxDimension}
 use Rattle.spec.specs.Float.{zeroF}
 use Rattle.spec.specs.Matrix.{Vector, Matrix}
 
--- a working row of the elimination has room for a row of the matrix and one of the identity
+-- A working row of the elimination has room for a row of the matrix and one of the identity.
 abbrev pub width : ℕ
 width = maxDimension + maxDimension
 
--- the first n entries of the first d rows
+-- The first n entries of the first d rows.
 unfoldable pub leading : ℕ → ℕ → List (List Float) → Matrix
 leading d n m = map (take n) (take d m)
 
--- a d by d matrix
+-- The d by d matrix that an array of arrays begins with.
 unfoldable pub corner : ℕ → List (List Float) → Matrix
 corner d m = map (take d) (take d m)
 
--- a vector in an array: its entries, and +0.0 in each cell after them
+-- A vector in an array: its entries, and +0.0 in each cell after them.
 unfoldable pub padded : Vector → List Float
 padded v = v ++ replicate (maxDimension - length v) zeroF
 
--- a matrix in an array of arrays: its rows, each padded, and rows of +0.0 after them
+-- A matrix in an array of arrays: its rows, each padded, and rows of +0.0 after them.
 unfoldable pub paddedRows : Matrix → List (List Float)
 paddedRows m = map padded m ++ replicate (maxDimension - length m) (replicate maxDimension zeroF)
 
--- the matrix that the answer beside it says is there
+-- The matrix, if the answer beside it says that there is one.
 unfoldable pub ifRegular : Bool → Matrix → Option Matrix
 ifRegular true m = some m
 ifRegular false m = none
 
--- every cell of the array that holds an inverse: where there is none, each is +0.0
+-- Every cell of the array that holds an inverse. Where there is no inverse, each cell is +0.0.
 unfoldable pub inverseCells : Option Matrix → List (List Float)
 inverseCells none = paddedRows []
 inverseCells (some m) = paddedRows m
 
--- two floats are one, or not, by an answer
+-- Two floats are the same float where the answer is true, and are not where it is false.
 abbrev pub Alike : Bool → Float → Float → Type 0
 Alike true x y = x ≡ y
 Alike false x y = x ≡ y → ⊥

@@ -12,19 +12,19 @@ use Rattle.geometry.specs.declared.hull.Hull.{Hull}
 use Rattle.geometry.specs.declared.hull.Joined.{Joined}
 use Rattle.geometry.specs.declared.hull.Joined.the-variants.{Length, Nothing}
 
--- vector k of a flat basis, in d dimensions
+-- Vector k of a flat basis, in d dimensions.
 abbrev pub vectorAt : ℕ → List Float → ℕ → Vector
 vectorAt d b k = take d (drop (k * maxDimension) b)
 
--- the hull in d dimensions that the struct holds: `count` vectors of its basis
+-- The hull in d dimensions that the struct holds: its offset, and `count` vectors of its basis.
 unfoldable pub hullIn : ℕ → Hull → spec.Hull
 hullIn d h = record { offset = take d (h .offset); basis = map (vectorAt d (h .basis)) (range 0 (h .count)) }
 
--- what the answer of adding says
+-- What the answer of adding a point says.
 unfoldable pub joinedOf : Joined → spec.Joined
 joinedOf (Length l) = spec.joined l
 joinedOf Nothing = spec.nothing
 
--- the coordinates of point v, where the points stand one after another
+-- The coordinates of point v, where the points stand one after another.
 abbrev pub pointAt : ℕ → List Float → ℕ → Vector
 pointAt d l v = take d (drop (v * d) l)

@@ -5,15 +5,15 @@ use Prim.Native.Nat.{ℕ, _+_, _*_, _/_, _%_, _^_}
 use Rattle.spec.specs.declared.Answer.{Answer}
 use Rattle.spec.specs.Refusal.{answerNumber, answerCount}
 
--- the refusal's number, or 0 where the call gave its result, above the count in the low 32 bits
+-- The code of an answer: the refusal's number, or 0 where the call gave its result, stands above the low 32 bits, which hold the count.
 abbrev pub codeOf : Answer → ℕ
 codeOf a = answerNumber a * 2 ^ 32 + answerCount a
 
--- a call's answer and its two outputs, with the answer as its code
+-- A call's answer and its two outputs, with the answer as its code.
 abbrev pub coded : {A B : Type 0} → Answer × A × B → ℕ × A × B
 coded x = (codeOf (x .0), x .1, x .2)
 
--- the same of a call whose outputs are one record
+-- The same for a call whose outputs are one record.
 abbrev pub codedOut : {A : Type 0} → Answer × A → ℕ × A
 codedOut x = (codeOf (x .0), x .1)
 
@@ -25,7 +25,7 @@ refusalIn r = r / 2 ^ 32
 abbrev pub countIn : ℕ → ℕ
 countIn r = r % 2 ^ 32
 
--- nothing of the answer a is lost: no count reaches 2^32
+-- Nothing of the answer a is lost, since no count reaches 2^32.
 pub record Decoded (r : ℕ) (a : Answer) : Type 0 where
   pub refusal : refusalIn r ≡ answerNumber a
   pub count : countIn r ≡ answerCount a

@@ -18,11 +18,11 @@ use Rattle.float.specs.Finding.{foundAt}
 pub record Apart (cs : List Vector) : Type 0 where
   pub apart : (j k : ℕ) → j < k → k < length cs → near (getD cs j []) (getD cs k []) ≡ false
 
--- 2 ^ -22, which is more than twice EPS
+-- The number 2 ^ -22, which is more than twice EPS.
 unfoldable pub wideF : Float
 wideF = ofBits binary64 0x3e90_0000_0000_0000
 
--- document 01's `near` with w for EPS
+-- Document 01's `near` with w for EPS.
 unfoldable pub within : Float → Vector → Vector → Bool
 within w [] ys = true
 within w (x ∷ xs) [] = true
@@ -32,20 +32,20 @@ within w (x ∷ xs) (y ∷ ys) = elim (le (absF (minus x y)) w) [ true ↦ withi
 pub record Lone (cs : List Vector) : Type 0 where
   pub lone : (j k : ℕ) → j < k → k < length cs → within wideF (getD cs j []) (getD cs k []) ≡ false
 
--- of the points of d floats in l, none before j is within 2 ^ -22 of point k on every axis
+-- Of the points of d floats in l, none before point j is within 2 ^ -22 of point k on every axis.
 pub record Clear (d : ℕ) (l : List Float) (k j : ℕ) : Type 0 where
   pub clear : (i : ℕ) → i < j → within wideF (take d (drop (i * d) l)) (take d (drop (k * d) l)) ≡ false
 
--- p is near q, and it is q unless the points are lone
+-- The point p is near q, and it is q unless the points are lone.
 pub record Hit (lone : Bool) (p q : Vector) : Type 0 where
   pub close : near p q ≡ true
   pub why : (lone ≡ true) ⊎ (p ≡ q)
 
--- a guess at what is found, where x is the number sought among n: one that names a number has to be right, and one that names none says nothing
+-- A guess at what is found, where x is the number sought among n. One that names a number has to be right, and one that names none says nothing.
 abbrev pub Guessed : ℕ → ℕ → Found → Type 0
 Guessed n x (At k) = At k ≡ foundAt n x
 Guessed n x Nothing = Unit
 
--- each place of a table is free, 65,535, or has the number of one of n points
+-- Each place of a table is either free, which is 65,535, or has the number of one of n points.
 abbrev pub Named : ℕ → List ℕ → Type 0
 Named n table = (i : ℕ) → i < length table → (getD table i 0 ≡ 65535) ⊎ (getD table i 0 < n)

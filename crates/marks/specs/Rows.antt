@@ -17,34 +17,35 @@ use Rattle.ranked.specs.declared.Shape.{Shape}
 use Rattle.ranked.specs.Words.{firstAt, sizeAt, total, solidIn, Held}
 use Rattle.distances.specs.Solids.{solidOn, coordinates, proper}
 
--- the row's entries are vertices, as many as there are entries, and none is there twice
+-- Whether the row's entries are all vertices, of which there are as many as entries, and none is there twice.
 unfoldable pub permutes : List ℕ → Bool
 permutes row = every (λ v. ltb v (length row)) row && noRepeats eqb row
 
--- the solid in the words w, with the coordinates that the floats start with, and its distance classes
+-- The solid in the words w, with the coordinates that the floats start with.
 abbrev pub concrete : Shape → List ℕ → List Float → Concrete
 concrete sh w fs = solidOn sh w (take (coordinates sh w) fs) (sh .dimension)
 
+-- The distance classes of that solid.
 abbrev pub classesOn : Shape → List ℕ → List Float → Classes
 classesOn sh w fs = byTable (classTable (concrete sh w fs))
 
--- the class of each proper element stands in the floats, behind the coordinates and the list
+-- The class of each proper element stands in the floats, behind the coordinates and the list of distances.
 pub record ClassesIn (sh : Shape) (w : List ℕ) (fs : List Float) : Type 0 where
   pub room : coordinates sh w + proper sh + proper sh ≤ length fs
   pub cells : take (proper sh) (drop (coordinates sh w + proper sh) fs) ≡ classes (distances (concrete sh w fs))
 
--- a row that permutes the vertices of a solid that has no vertex set twice in a rank
+-- The row permutes the vertices of a solid that has no vertex set twice in a rank.
 pub record Row (sh : Shape) (w row : List ℕ) : Type 0 where
   pub held : Held sh w
   pub apart : setsApart (solidIn sh w) ≡ true
   pub full : length row ≡ size (solidIn sh w) 1
   pub permuted : permutes row ≡ true
 
--- cell firstAt sh r + e says where element e of rank r goes, and that is an element of the rank
+-- Cell firstAt sh r + e says where element e of rank r goes, and that is an element of the rank.
 abbrev pub Images : Shape → List ℕ → List ℕ → List ℕ → ℕ → Type 0
 Images sh w row cells r = (e : ℕ) → e < sizeAt sh r → (getD cells (firstAt sh r + e) 0 ≡ goes (solidIn sh w) row r e) × (goes (solidIn sh w) row r e < sizeAt sh r)
 
--- r is a proper rank, and the cells have room for every element and hold the images of the rank below, unless that is the least element's
+-- Rank r is proper, and the cells have room for every element and hold the images of the rank below, unless that is the rank of the least element.
 pub record Rank (sh : Shape) (w row cells : List ℕ) (r : ℕ) : Type 0 where
   pub low : 1 ≤ r
   pub high : r < sh .rank

@@ -16,22 +16,22 @@ use Rattle.ranked.specs.Words.{total, solidIn, Held}
 use Rattle.marks.specs.Rows.{ClassesIn}
 use Rattle.products.specs.Products.{composed}
 
--- the mark of a row in the solid c: "confirmed, 1, .. Otherwise 0"
+-- The mark of a row in the solid c: "confirmed, 1, .. Otherwise 0".
 unfoldable pub markIn : Concrete → List ℕ → ℕ
 markIn c row = elim (marked (c .abs) (byTable (classTable c)) row) [ true ↦ 1 | false ↦ 0 ]
 
--- what the marks of a solid in the words w and floats fs need: its classes, whether its vertex sets are apart, and n cells for where elements go
+-- What the marks of a solid in the words w and floats fs need: its classes, whether its vertex sets are apart, and n cells for where elements go.
 pub record Markable (sh : Shape) (w : List ℕ) (fs : List Float) (apart : Bool) (n : ℕ) : Type 0 where
   pub held : Held sh w
   pub classes : ClassesIn sh w fs
   pub apart-is : apart ≡ setsApart (solidIn sh w)
   pub room : total sh ≤ n
 
--- row k, of rows of v entries each
+-- Row k of rows that have v entries each.
 abbrev pub rowAt : ℕ → List ℕ → ℕ → List ℕ
 rowAt v rows k = take v (drop (k * v) rows)
 
--- row k is row g and then row a, and the marks confirm both
+-- Row k is row g and then row a. Both stand before it, and the marks confirm both.
 pub record Factored (v : ℕ) (rows marks : List ℕ) (k : ℕ) : Type 0 where
   pub g : ℕ
   pub a : ℕ
@@ -41,7 +41,7 @@ pub record Factored (v : ℕ) (rows marks : List ℕ) (k : ℕ) : Type 0 where
   pub a-marked : getD marks a 0 ≡ 1
   pub product : rowAt v rows k ≡ composed (rowAt v rows a) (rowAt v rows g)
 
--- a slot that is found is one of the n slots, and nothing is said where none is found
+-- A slot that is found is one of the n slots, and nothing is said where none is found.
 abbrev pub Below : ℕ → Found → Type 0
 Below n (At j) = j < n
 Below n Nothing = Unit

@@ -11,17 +11,17 @@ use Rattle.spec.specs.Calls.{SearchOut, searchCall, rotationsCall}
 use Rattle.search.specs.declared.judging.Far.{Far}
 use Rattle.search.specs.declared.judging.Far.the-variants.{Facet, Nothing}
 
--- the facet, if there is one
+-- The facet, if there is one.
 unfoldable pub farOf : Far → Option ℕ
 farOf (Facet f) = some f
 farOf Nothing = none
 
--- not 11, of an inverse or none
+-- Whether refusal 11 does not apply to what the elimination gave: there is an inverse, and all its entries are finite.
 unfoldable pub regular : Option Matrix → Bool
 regular none = false
 regular (some m) = allFinite m
 
--- the call: all members, or the rotations
+-- The search call, which lists all members, or where the first argument is true the rotations call.
 abbrev pub callOf : Bool → List ℕ → ℕ → ℕ → SearchOut → Answer × SearchOut
 callOf false = searchCall
 callOf true = rotationsCall

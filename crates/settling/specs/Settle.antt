@@ -1,4 +1,4 @@
--- Sweeps in lent words, from the start until the number of types stays.
+-- Sweeps in lent words, from the start until one leaves the number of types unchanged.
 -- Assumes nothing.
 use mathlib.Core.Path.{_≡_}
 use mathlib.Core.Option.{Option, none, some}
@@ -12,19 +12,19 @@ use Rattle.element_types.specs.State.{stateIn, Sweepable, Countable}
 use Rattle.settling.specs.declared.settled.Ending.{Ending}
 use Rattle.settling.specs.declared.settled.Ending.the-variants.{Settled, Changing}
 
--- what the definitions say of sweeps that ended with state S: it is the result, or there is none, which is refusal 15
+-- What the definitions say of sweeps that ended with the state S: it is the result, or there is no result, which is refusal 15.
 unfoldable pub endOf : Ending → State → Option State
 endOf Settled S = some S
 endOf Changing S = none
 
--- the types are the start by some classes
+-- The types in the words are the start state by some classes, and there is room for the sweeps.
 pub record Started (sh : Shape) (low : ℕ) (w : List ℕ) : Type 0 where
   pub sweepable : Sweepable sh low w
   pub room : low + total sh ≤ length w
   pub classes : Classes
   pub state : stateIn sh low w ≡ start (solidIn sh (take low w)) classes
 
--- the lists stay, and the types are section 4's result by any classes that w starts from
+-- The lists stay as they were, and the types are section 4's result by any classes that w starts from.
 pub record Settles (sh : Shape) (low : ℕ) (w v : List ℕ) (ending : Ending) : Type 0 where
   pub lists : take low v ≡ take low w
   pub numbered : Countable sh low v

@@ -20,26 +20,26 @@ use Rattle.element_types.specs.State.{stateIn, Sweepable}
 
 -- ---- a rank
 
--- element e's class: the classes of its rank stand from cell `from`
+-- The class of element e. The classes of its rank stand from cell `from` on.
 abbrev pub cellAt : List Float → ℕ → ℕ → Float
 cellAt cells from e = getD cells (from + e) nan
 
--- the classes of the m elements whose numbers the words from `reps` hold
+-- The classes of the m elements whose numbers the words from `reps` on hold.
 unfoldable pub repCells : List ℕ → ℕ → ℕ → List Float → ℕ → List Float
 repCells w reps m cells from = map (λ j. cellAt cells from (getD w (reps + j) 0)) (range 0 m)
 
--- two of the n elements have the same number exactly when their cells are one class
+-- Two of the n elements have the same number exactly when their cells are one class.
 abbrev pub Shares : List Float → ℕ → ℕ → (ℕ → ℕ) → Type 0
 Shares cells from n cls = (e g : ℕ) → e < n → g < n → eqb (cls e) (cls g) ≡ sameClass (cellAt cells from e) (cellAt cells from g)
 
--- there is room for n numbers from word `to`, and for n elements from word `reps`; n cells are there
+-- There is room for n numbers from word `to` on and for n elements from word `reps` on, and there are n cells from cell `from` on.
 pub record Fitting (w : List ℕ) (to reps n : ℕ) (cells : List Float) (from : ℕ) : Type 0 where
   pub apart : to + n ≤ reps
   pub room : reps + n ≤ length w
   pub inside : from + n ≤ length cells
   pub small : n < 2 ^ 32
 
--- the n numbers are those of the classes, by first appearance, and nothing else below `reps` changed
+-- The n numbers are those of the classes, by first appearance, and nothing else below `reps` changed.
 pub record ByClass (w v : List ℕ) (to reps n : ℕ) (cells : List Float) (from : ℕ) : Type 0 where
   pub long : length v ≡ length w
   pub others : (i : ℕ) → i < reps → (i < to) ⊎ (to + n ≤ i) → getD v i 0 ≡ getD w i 0
@@ -47,13 +47,13 @@ pub record ByClass (w v : List ℕ) (to reps n : ℕ) (cells : List Float) (from
 
 -- ---- all ranks
 
--- there is room for the types and what numbering them uses, and each proper element has its cell
+-- There is room for the types and for what numbering them uses, and each proper element has its cell.
 pub record Startable (sh : Shape) (low : ℕ) (w : List ℕ) (cells : List Float) : Type 0 where
   pub sweepable : Sweepable sh low w
   pub room : low + total sh ≤ length w
   pub inside : proper sh ≤ length cells
 
--- The lists stay. Where the cells are the classes of the solid with some coordinates, the types are its start
+-- The lists stay as they were. Where the cells are the classes of the solid with some coordinates, the types are its start state.
 pub record Begins (sh : Shape) (low : ℕ) (w v : List ℕ) (cells : List Float) : Type 0 where
   pub lists : take low v ≡ take low w
   pub state : (fs : List Float) → take (proper sh) cells ≡ classes (distances (solidAt sh low w fs))

@@ -1,4 +1,4 @@
--- What the start state and the types of a solid that lies in lent words and floats are.
+-- The start state and the types of a solid that lies in lent words and floats.
 -- Assumes nothing.
 use mathlib.Core.Path.{_≡_}
 use mathlib.Core.List.{List}
@@ -16,24 +16,24 @@ use Rattle.element_types.specs.State.{stateIn, Countable}
 use Rattle.settling.specs.declared.settled.Ending.{Ending}
 use Rattle.settling.specs.Settle.{Started, endOf}
 
--- the start state of the solid that lies in words w and floats fs, made in the words v and floats gs
+-- The start state of the solid that lies in words w and floats fs, made in the words v and floats gs.
 pub record AtStart (sh : Shape) (low : ℕ) (w v : List ℕ) (fs gs : List Float) : Type 0 where
   pub lists : take low v ≡ take low w
   pub points : take (coordinates sh (take low w)) gs ≡ take (coordinates sh (take low w)) fs
   pub lengths : (length v ≡ length w) × (length gs ≡ length fs)
-  -- every proper element's class, where all_classes leaves them
+  -- The class of every proper element stands where all_classes leaves it.
   pub cells : take (proper sh) (drop (coordinates sh (take low w) + proper sh) gs) ≡ classes (distances (solidAt sh low w fs))
   pub state : stateIn sh low v ≡ start (solidIn sh (take low w)) (byTable (classTable (solidAt sh low w fs)))
-  -- any step can be done, and the sweeps
+  -- Any step can be done from here, and so can the sweeps.
   pub started : Started sh low v
 
--- the types of the solid that lies in words w and floats fs, worked out into the words v and floats gs
+-- The types of the solid that lies in words w and floats fs, worked out into the words v and floats gs.
 pub record Typed (sh : Shape) (low : ℕ) (w v : List ℕ) (fs gs : List Float) (ending : Ending) : Type 0 where
   pub lists : take low v ≡ take low w
   pub points : take (coordinates sh (take low w)) gs ≡ take (coordinates sh (take low w)) fs
   pub lengths : (length v ≡ length w) × (length gs ≡ length fs)
-  -- every proper element's class, where all_classes leaves them
+  -- The class of every proper element stands where all_classes leaves it.
   pub cells : take (proper sh) (drop (coordinates sh (take low w) + proper sh) gs) ≡ classes (distances (solidAt sh low w fs))
-  -- the state when the sweeps end, or refusal 15
+  -- The result is the state in which the sweeps end, or there is none, which is refusal 15.
   pub result : typesOf (solidAt sh low w fs) ≡ endOf ending (stateIn sh low v)
   pub numbered : Countable sh low v

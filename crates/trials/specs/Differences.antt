@@ -1,4 +1,5 @@
--- For the rows of docs/DIFFERENCES.md: what document 01's definitions give on each smallest input where the Rust differs, and whether the input is clean (section 6).
+-- What document 01's definitions give on each smallest input where the Rust differs, for the rows of docs/DIFFERENCES.md, and whether the input is
+-- clean (section 6).
 -- Assumes nothing.
 use mathlib.Core.Path.{_≡_, refl}
 use Prim.Native.Nat.{ℕ}
@@ -22,22 +23,22 @@ use Rattle.spec.specs.Eval.{evaluate}
 use Rattle.spec.specs.NumberExamples.{all}
 use Rattle.trials.specs.Sheets.{square, triangle, sliver}
 
--- The triangle, D = 1, at 0, 1.2e-7, 0.6e-7: a distance near two listed values takes the smallest.
+-- On the triangle with D = 1 at 0, 1.2e-7, 0.6e-7, a distance near two listed values takes the smallest.
 abbrev nearTwo : List ℕ
 nearTwo =
     100 ∷ 0 ∷ 192 ∷ 12 ∷ 0 ∷ 0 ∷ 0 ∷ 0 ∷ 0 ∷ 0 ∷ 0 ∷ 0 ∷ 250 ∷ 0 ∷ 108 ∷ 172 ∷ 166 ∷ 145 ∷ 164 ∷ 172 ∷ 249 ∷ 192 ∷ 108 ∷ 172 ∷ 166 ∷ 145 ∷ 164 ∷ 172 ∷ 0 ∷ 128 ∷ 0 ∷ 1 ∷ 0 ∷ 32 ∷ 2 ∷ 0 ∷ 128 ∷ 8 ∷ 0 ∷ 0 ∷ 32 ∷ []
 
--- The triangle, D = 1, at 0, 0.6e-7, 1.2e-7: a distance is listed once, and not looked up again in a later sweep.
+-- On the triangle with D = 1 at 0, 0.6e-7, 1.2e-7, a distance is listed once, and is not looked up again in a later sweep.
 abbrev listedOnce : List ℕ
 listedOnce =
     100 ∷ 0 ∷ 192 ∷ 12 ∷ 0 ∷ 0 ∷ 0 ∷ 0 ∷ 0 ∷ 0 ∷ 0 ∷ 0 ∷ 249 ∷ 192 ∷ 108 ∷ 172 ∷ 166 ∷ 145 ∷ 164 ∷ 172 ∷ 250 ∷ 0 ∷ 108 ∷ 172 ∷ 166 ∷ 145 ∷ 164 ∷ 172 ∷ 0 ∷ 128 ∷ 0 ∷ 1 ∷ 0 ∷ 32 ∷ 2 ∷ 0 ∷ 128 ∷ 8 ∷ 0 ∷ 0 ∷ 32 ∷ []
 
--- R = 2 at 1.1e-7, −0.5e-7: an image near two vertices takes the lowest number.
+-- On the solid with R = 2 at 1.1e-7, −0.5e-7, an image near two vertices takes the lowest number.
 abbrev nearTwoVertices : List ℕ
 nearTwoVertices =
     68 ∷ 0 ∷ 143 ∷ 159 ∷ 97 ∷ 201 ∷ 29 ∷ 192 ∷ 176 ∷ 52 ∷ 47 ∷ 154 ∷ 181 ∷ 252 ∷ 166 ∷ 175 ∷ 43 ∷ 210 ∷ 0 ∷ []
 
--- The triangle (−9e-8,1), (9e-8,0), (1,0): a vertex is found wherever it stands in an order of points.
+-- On the triangle (−9e-8,1), (9e-8,0), (1,0), a vertex is found wherever it stands in an order of points.
 abbrev nearOnAxis : List ℕ
 nearOnAxis =
     104 ∷ 0 ∷ 192 ∷ 14 ∷ 249 ∷ 224 ∷ 163 ∷ 2 ∷ 249 ∷ 218 ∷ 119 ∷ 4 ∷ 255 ∷ 192 ∷ 0 ∷ 0 ∷ 0 ∷ 0 ∷ 0 ∷ 0 ∷ 249 ∷ 224 ∷ 163 ∷ 2 ∷ 249 ∷ 218 ∷ 119 ∷ 4 ∷ 0 ∷ 0 ∷ 0 ∷ 0 ∷ 0 ∷ 0 ∷ 0 ∷ 0 ∷ 255 ∷ 192 ∷ 0 ∷ 0 ∷ 0 ∷ 0 ∷ 0 ∷ 0 ∷ 0 ∷ 0 ∷ 0 ∷ 0 ∷ 0 ∷ 0 ∷ 0 ∷ 0 ∷ 0 ∷ 128 ∷ 0 ∷ 1 ∷ 0 ∷ 32 ∷ 2 ∷ 0 ∷ 128 ∷ 8 ∷ 0 ∷ 0 ∷ 32 ∷ []
@@ -47,12 +48,12 @@ abbrev nearSquare : List ℕ
 nearSquare =
     104 ∷ 1 ∷ 0 ∷ 16 ∷ 0 ∷ 0 ∷ 0 ∷ 0 ∷ 0 ∷ 0 ∷ 0 ∷ 0 ∷ 255 ∷ 192 ∷ 0 ∷ 0 ∷ 0 ∷ 0 ∷ 0 ∷ 0 ∷ 255 ∷ 192 ∷ 0 ∷ 0 ∷ 0 ∷ 0 ∷ 0 ∷ 0 ∷ 0 ∷ 0 ∷ 0 ∷ 0 ∷ 0 ∷ 0 ∷ 0 ∷ 0 ∷ 249 ∷ 213 ∷ 230 ∷ 59 ∷ 136 ∷ 194 ∷ 48 ∷ 234 ∷ 255 ∷ 192 ∷ 0 ∷ 0 ∷ 0 ∷ 0 ∷ 0 ∷ 2 ∷ 255 ∷ 192 ∷ 0 ∷ 0 ∷ 0 ∷ 0 ∷ 0 ∷ 0 ∷ 0 ∷ 0 ∷ 0 ∷ 0 ∷ 0 ∷ 0 ∷ 0 ∷ 0 ∷ 0 ∷ 128 ∷ 0 ∷ 1 ∷ 0 ∷ 32 ∷ 2 ∷ 0 ∷ 128 ∷ 8 ∷ 1 ∷ 0 ∷ 48 ∷ 2 ∷ 0 ∷ 0 ∷ 12 ∷ []
 
--- R = 2 at 1e-310 and 1: the inverse of the first columns is not finite.
+-- On the solid with R = 2 at 1e-310 and 1, the inverse of the first columns is not finite.
 abbrev notFinite : List ℕ
 notFinite =
     68 ∷ 0 ∷ 128 ∷ 0 ∷ 4 ∷ 154 ∷ 34 ∷ 220 ∷ 57 ∷ 138 ∷ 207 ∷ 252 ∷ 0 ∷ 0 ∷ 0 ∷ 0 ∷ 0 ∷ 0 ∷ 0 ∷ []
 
--- R = 2 at 1 and 1: one corner is entered twice.
+-- On the solid with R = 2 at 1 and 1, one corner is entered twice.
 abbrev doubleCorner : List ℕ
 doubleCorner =
     68 ∷ 0 ∷ 143 ∷ 252 ∷ 0 ∷ 0 ∷ 0 ∷ 0 ∷ 0 ∷ 0 ∷ 15 ∷ 252 ∷ 0 ∷ 0 ∷ 0 ∷ 0 ∷ 0 ∷ 0 ∷ 0 ∷ []
@@ -94,18 +95,18 @@ pub crossedSquare-text : kitText crossedSquare ≡ ascii "types 3\n1 0 0 4\n2 0 
 unfolding evaluate
 crossedSquare-text = refl
 
--- The second row of R = 2 at 1.1e-7, −0.5e-7 is 1 0.
+-- The second row of the solid with R = 2 at 1.1e-7, −0.5e-7 is 1 0.
 pub nearTwoVertices-rows : searchCall nearTwoVertices 96 80 (record { matrices = replicate 2 (ofBits binary64 0); rows = replicate 4 7; marks = replicate 2 7 }) .1 .rows ≡ 0 ∷ 1 ∷ 1 ∷ 0 ∷ []
 unfolding evaluate
 nearTwoVertices-rows = refl
 
--- Copying 1e-7 under [1], [−1], [0]: the image 0 is near both copies, and takes the lowest number.
+-- When 1e-7 is copied under [1], [−1], [0], the image 0 is near both copies, and takes the lowest number.
 pub nearTwoCopies : copyCall 1 (ofBits binary64 0x3e7a_d7f2_9abc_af48 ∷ []) (map (ofBits binary64) (0x3ff0_0000_0000_0000 ∷ 0xbff0_0000_0000_0000 ∷ 0 ∷ [])) (replicate 2 (ofBits binary64 0)) (replicate 6 7)
     ≡ (Done 2, map (ofBits binary64) (0x3e7a_d7f2_9abc_af48 ∷ 0xbe7a_d7f2_9abc_af48 ∷ []), 0 ∷ 1 ∷ 1 ∷ 0 ∷ 0 ∷ 0 ∷ [])
 unfolding all
 nearTwoCopies = refl
 
--- Copying (0,5), (8e-8,0) under the identity and [[1,−1e-8],[0,1]]: every image is found.
+-- When (0,5), (8e-8,0) are copied under the identity and [[1,−1e-8],[0,1]], every image is found.
 pub foundCopies : copyCall 2 (map (ofBits binary64) (0x0000000000000000 ∷ 0x4014000000000000 ∷ 0x3e75798ee2308c3a ∷ 0x0000000000000000 ∷ [])) (map (ofBits binary64) (0x3ff0000000000000 ∷ 0x0000000000000000 ∷ 0x0000000000000000 ∷ 0x3ff0000000000000 ∷ 0x3ff0000000000000 ∷ 0xbe45798ee2308c3a ∷ 0x0000000000000000 ∷ 0x3ff0000000000000 ∷ [])) (replicate 4 (ofBits binary64 0)) (replicate 4 7)
     ≡ (Done 2, map (ofBits binary64) (0x0000000000000000 ∷ 0x4014000000000000 ∷ 0x3e75798ee2308c3a ∷ 0x0000000000000000 ∷ []), 0 ∷ 1 ∷ 0 ∷ 1 ∷ [])
 unfolding all
@@ -144,13 +145,13 @@ pub not-clean : map cleanSheet (nearTwo ∷ listedOnce ∷ nearTwoVertices ∷ n
 unfolding evaluate
 not-clean = refl
 
--- Those that differ because document 01 refuses them, 11, 9, 12 and 8, are clean.
+-- Those that differ because document 01 refuses them, with 11, 9, 12 and 8, are clean.
 pub clean-refused : map cleanSheet (notFinite ∷ doubleCorner ∷ sliver ∷ (96 ∷ 0 ∷ 128 ∷ 8 ∷ 0 ∷ 128 ∷ 0 ∷ 1 ∷ 0 ∷ 32 ∷ 0 ∷ 0 ∷ 64 ∷ []) ∷ [])
     ≡ passed true ∷ passed true ∷ passed true ∷ passed true ∷ []
 unfolding evaluate
 clean-refused = refl
 
--- So is the triangle (1048576,0), (1048576,1e-308), (0,1), which is refused 9.
+-- So is the triangle (1048576,0), (1048576,1e-308), (0,1), which is refused with 9.
 pub clean-refused-9 : clean (triangleOf 2 ((0x4130000000000000 ∷ 0 ∷ []) ∷ (0x4130000000000000 ∷ 0x000730d67819e8d2 ∷ []) ∷ (0 ∷ 0x3ff0000000000000 ∷ []) ∷ [])) ≡ true
 unfolding evaluate
 clean-refused-9 = refl
@@ -165,8 +166,8 @@ pub clean-solids : map cleanSheet (square ∷ triangle ∷ []) ≡ passed true �
 unfolding evaluate
 clean-solids = refl
 
--- A hexagon whose edges 0, 1 and 2 lie 9e-8, 2e-8 and 1.84e-7 from the origin. As it is read, edges 1 and 2 take the distance of edge 0, the only listed one near them.
--- With edges 0 and 2 exchanged the two others are listed first, and 9e-8 is near both.
+-- A hexagon whose edges 0, 1 and 2 lie 9e-8, 2e-8 and 1.84e-7 from the origin is not clean. As it is read, edges 1 and 2 take the distance of edge 0,
+-- the only listed one near them. With edges 0 and 2 exchanged the two others are listed first, and 9e-8 is near both.
 pub not-clean-exchanged : clean (polygon ((0 ∷ 1 ∷ []) ∷ (2 ∷ 3 ∷ []) ∷ (4 ∷ 5 ∷ []) ∷ (1 ∷ 2 ∷ []) ∷ (3 ∷ 4 ∷ []) ∷ (0 ∷ 5 ∷ []) ∷ []) 2 (
     (0x3ff0000000000000 ∷ 0x3e7828c0be769dc1 ∷ [])
     ∷ (0xbff0000000000000 ∷ 0x3e7828c0be769dc1 ∷ [])

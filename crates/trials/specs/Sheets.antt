@@ -14,7 +14,7 @@ use Rattle.spec.specs.Eval.{evaluate}
 
 -- ---- sheets
 
--- (1,1), (−1,1), (−1,−1), (1,−1), edges 01, 12, 23, 03: 85 bytes. `Trials` proves that this and the next sheets are read so.
+-- The square (1,1), (−1,1), (−1,−1), (1,−1) with the edges 01, 12, 23, 03, in 85 bytes. `Trials` proves that this and the next sheets are read so.
 abbrev pub square : List ℕ
 square =
     104 ∷ 1 ∷ 0 ∷ 16 ∷ 255 ∷ 192 ∷ 0 ∷ 0 ∷ 0 ∷ 0 ∷ 0 ∷ 0 ∷ 255 ∷ 192 ∷ 0 ∷ 0 ∷ 0 ∷ 0 ∷ 0 ∷ 2 ∷ 255 ∷ 192 ∷ 0 ∷ 0
@@ -22,7 +22,7 @@ square =
     ∷ 0 ∷ 0 ∷ 0 ∷ 0 ∷ 255 ∷ 192 ∷ 0 ∷ 0 ∷ 0 ∷ 0 ∷ 0 ∷ 2 ∷ 255 ∷ 192 ∷ 0 ∷ 0 ∷ 0 ∷ 0 ∷ 0 ∷ 0 ∷ 0 ∷ 128 ∷ 0 ∷ 1
     ∷ 0 ∷ 32 ∷ 2 ∷ 0 ∷ 128 ∷ 8 ∷ 1 ∷ 0 ∷ 48 ∷ 2 ∷ 0 ∷ 0 ∷ 12 ∷ []
 
--- "that square, first coordinates doubled"
+-- The sheet of "that square, first coordinates doubled".
 abbrev pub doubled : List ℕ
 doubled =
     104 ∷ 1 ∷ 0 ∷ 17 ∷ 0 ∷ 0 ∷ 0 ∷ 0 ∷ 0 ∷ 0 ∷ 0 ∷ 0 ∷ 255 ∷ 192 ∷ 0 ∷ 0 ∷ 0 ∷ 0 ∷ 0 ∷ 3 ∷ 0 ∷ 0 ∷ 0 ∷ 0
@@ -30,7 +30,7 @@ doubled =
     ∷ 0 ∷ 0 ∷ 0 ∷ 1 ∷ 0 ∷ 0 ∷ 0 ∷ 0 ∷ 0 ∷ 0 ∷ 0 ∷ 2 ∷ 255 ∷ 192 ∷ 0 ∷ 0 ∷ 0 ∷ 0 ∷ 0 ∷ 0 ∷ 0 ∷ 128 ∷ 0 ∷ 1
     ∷ 0 ∷ 32 ∷ 2 ∷ 0 ∷ 128 ∷ 8 ∷ 1 ∷ 0 ∷ 48 ∷ 2 ∷ 0 ∷ 0 ∷ 12 ∷ []
 
--- (2,0), (0,1), (−2,0), (0,−1)
+-- The rhombus (2,0), (0,1), (−2,0), (0,−1), with the same edges.
 abbrev pub rhombus : List ℕ
 rhombus =
     104 ∷ 1 ∷ 0 ∷ 17 ∷ 0 ∷ 0 ∷ 0 ∷ 0 ∷ 0 ∷ 0 ∷ 0 ∷ 0 ∷ 0 ∷ 0 ∷ 0 ∷ 0 ∷ 0 ∷ 0 ∷ 0 ∷ 0 ∷ 0 ∷ 0 ∷ 0 ∷ 0
@@ -38,7 +38,7 @@ rhombus =
     ∷ 0 ∷ 0 ∷ 0 ∷ 0 ∷ 0 ∷ 0 ∷ 0 ∷ 0 ∷ 0 ∷ 0 ∷ 0 ∷ 2 ∷ 255 ∷ 192 ∷ 0 ∷ 0 ∷ 0 ∷ 0 ∷ 0 ∷ 0 ∷ 0 ∷ 128 ∷ 0 ∷ 1
     ∷ 0 ∷ 32 ∷ 2 ∷ 0 ∷ 128 ∷ 8 ∷ 1 ∷ 0 ∷ 48 ∷ 2 ∷ 0 ∷ 0 ∷ 12 ∷ []
 
--- "R = 1": the vertex (1,2)
+-- The vertex (1,2), a sheet for the case "R = 1".
 abbrev pub single : List ℕ
 single =
     40 ∷ 255 ∷ 192 ∷ 0 ∷ 0 ∷ 0 ∷ 0 ∷ 0 ∷ 1 ∷ 0 ∷ 0 ∷ 0 ∷ 0 ∷ 0 ∷ 0 ∷ 0 ∷ 0 ∷ []
@@ -137,7 +137,7 @@ whole = refl
 
 -- ---- more solids
 
--- (−1,0), (1,0), (0,1), edges 01, 12, 02: the first edge passes through the origin, and the second edge changes places with it.
+-- The triangle (−1,0), (1,0), (0,1) with the edges 01, 12, 02. Its first edge passes through the origin, and the second edge changes places with it.
 abbrev pub triangle : List ℕ
 triangle =
     104 ∷ 0 ∷ 192 ∷ 14 ∷ 255 ∷ 192 ∷ 0 ∷ 0 ∷ 0 ∷ 0 ∷ 0 ∷ 0 ∷ 0 ∷ 0 ∷ 0 ∷ 0 ∷ 0 ∷ 0 ∷ 0 ∷ 0 ∷ 255 ∷ 192 ∷ 0 ∷ 0

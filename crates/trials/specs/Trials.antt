@@ -125,7 +125,8 @@ pub record Trials : Type 0 where
   pub close-members : members close ≡ Refused DoubleCorner 0
   pub close-types : typesIn close
       ≡ (Done 2, record { elements = (0 ∷ 1 ∷ []) ++ replicate 254 7; types = (1 ∷ 0 ∷ 0 ∷ 1 ∷ 1 ∷ 1 ∷ 1 ∷ 1 ∷ []) ++ replicate 1016 7 })
-  -- "R = 1: no types; search 8", for every accepted sheet of that rank, on any workspace of at least 64 words and 64 floats, with any outputs; and what `kit` prints for it
+  -- "R = 1: no types; search 8" holds of every accepted sheet of that rank, on any workspace of at least 64 words and 64 floats, with any outputs. The
+  -- second field says what `kit` prints for such a sheet.
   pub rank-one-calls : (b : List ℕ) (p : Parsed) → readSheet b ≡ passed p → p .rank ≡ 1 → (words floats : ℕ) → 64 ≤ words → 64 ≤ floats → NoProperRank b words floats
   pub rank-one-kit : (b : List ℕ) (p : Parsed) → readSheet b ≡ passed p → p .rank ≡ 1 → kitText b ≡ ascii "types 0\nrefused 8\n"
   -- The sheet of the one vertex (1,2) is among them.

@@ -10,19 +10,19 @@ use Rattle.spec.specs.Lists.{distinct, place, count, range, join}
 use Rattle.spec.specs.Types.{ElementType}
 use Rattle.spec.specs.Calls.{typeCells}
 
--- type t of rank r, where the rank's elements have the types l
+-- Type t of rank r, where the rank's elements have the types l.
 abbrev pub describe : ℕ → List ℕ → ℕ → ElementType
 describe r l t = record { rank = r; number = t; example = place eqb t l; count = count eqb t l }
 
--- the cells of all its types
+-- The cells of all the types of rank r, where the rank's elements have the types l.
 unfoldable pub cellsOf : ℕ → List ℕ → List ℕ
 cellsOf r l = join (map typeCells (map (describe r l) (distinct eqb l)))
 
--- the types are 0, 1, 2 and so on by first appearance
+-- The types are 0, 1, 2 and so on by first appearance.
 abbrev pub InOrder : List ℕ → Type 0
 InOrder l = distinct eqb l ≡ range 0 (length (distinct eqb l))
 
--- the types of the n elements of rank r stand from word `from`, and there is room for their types behind m others
+-- The types of the n elements of rank r stand from word `from` on, and the cells have room for these types, four cells each, behind m others.
 pub record Listable (w : List ℕ) (from n r cells m : ℕ) : Type 0 where
   pub inside : from + n ≤ length w
   pub order : InOrder (take n (drop from w))
