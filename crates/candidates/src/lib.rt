@@ -88,7 +88,7 @@ pub fn no_double(points: &[f64], d: usize, n: usize) -> bool
     true
 }
 
-// "Its elements have the first flag's types": the type of element first[r] + e stands at word low + first[r] + e.
+// Whether "its elements have the first flag's types". The type of element e of rank r stands at word low + starts[r] + e.
 pub fn same_types(words: &[u32], low: usize, sh: Shape, flag: Flag, first: Flag) -> bool
     requires { ⌜ Held sh (take low (now words)) ⌝ }
     requires { ⌜ low + total sh ≤ length (now words) ⌝ }
@@ -112,7 +112,7 @@ pub fn same_types(words: &[u32], low: usize, sh: Shape, flag: Flag, first: Flag)
 }
 
 // Writes the lowest vertex that each vertex's image is within EPS of, and says whether there is one for every image. The vertices are looked
-// up by rising number, and the first image that is not found ends this; what the row holds is then free.
+// up by rising number. The first image that is not found ends the look-up, and what the row holds is then free.
 pub fn row_of(
     points: &[f64],
     d: usize,

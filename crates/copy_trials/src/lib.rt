@@ -16,7 +16,7 @@ use copying::axes;
 use float::DIMENSION;
 use spec::Answer;
 
-// The table, of which each entry is made by the rule, and every product of two entries is an entry.
+// The table. Each entry is made by the rule, and every product of two entries is an entry.
 pub fn axis_orders() -> [[[f64; DIMENSION]; DIMENSION]; 48]
     ensures { λ r. ⌜ AxisOrderTable (map (corner 3) r) ⌝ }
 {

@@ -12,7 +12,7 @@ use float::matrix;
 use float::points;
 use float::points::Found;
 
-// How many copies there are, or that there is no room for them all.
+// How many copies there are, or the answer that there is no room for them all.
 pub enum Room {
     Fits(usize),
     Full,

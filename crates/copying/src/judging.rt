@@ -1,4 +1,4 @@
-// "copying goes 2, 1, 3, 12": the refusals that depend only on the dimension, the points and the matrices.
+// The refusals that depend only on the dimension, the points and the matrices: "copying goes 2, 1, 3, 12".
 ghost use mathlib.Core.Path.{_≡_};
 ghost use Rattle.spec.specs.Lists.{every};
 ghost use Rattle.spec.specs.Float.{inRange};

@@ -1,4 +1,4 @@
-// Section 5 of document 01 (abs/flag.rs): flags of a solid that lies in lent words. The first flag, the one after a flag, and a change at a rank.
+// Section 5 of document 01 (abs/flag.rs): the first flag of a solid that lies in lent words, the flag after a given one, and a change at a rank.
 ghost use mathlib.Core.Path.{_≡_};
 ghost use mathlib.Core.List.{_++_};
 ghost use Prim.Native.Nat.{suc, _+_, _-_, _*_, _≤_, _<_};
@@ -14,28 +14,28 @@ use ranked::Shape;
 use ranked::lists;
 use spec::MAX_RANK;
 
-// How many ranks the largest solid has: 0 to the greatest R.
+// How many ranks the largest solid has, which are 0 to the greatest R.
 pub const RANKS: usize = MAX_RANK + 1;
 
-// "A flag has one element a rank": by rank, from 0 to the solid's R. The cells past R are 0 where a flag is made here, and are not read.
+// "A flag has one element a rank", listed by rank from 0 to the solid's R. The cells past R are not read.
 pub struct Flag {
     pub elements: [usize; RANKS],
 }
 
-// Whether there is a flag after one.
+// Whether there is a flag after the given one.
 pub enum Advance {
     More,
     Ended,
 }
 
-// The answer about the flag after one, and beside it that flag, where there is more. (An enum that held the flag's array would leave every function
-// over it to a proof by hand.)
+// The answer whether there is a flag after the given one, and beside it that flag, where there is one. An enum that held the flag's array would
+// leave every function over it to a proof by hand.
 pub struct Next {
     pub advance: Advance,
     pub flag: Flag,
 }
 
-// What a look for an element other than a given one finds.
+// What a look for an element other than a given one finds: that element, or nothing.
 enum Other {
     Element(usize),
     Nothing,
@@ -70,8 +70,8 @@ fn other_at(w: &[u32], i: usize, base: usize, x: usize, e: usize) -> Other
     Other::Nothing
 }
 
-// The first element other than e between g, whose subs are at word i, and h, whose sups are at word j. The shorter list is gone through: of a
-// ridge's two sups and the top's many subs, the sups.
+// The first element other than e between g, whose subs are at word i, and h, whose sups are at word j. The shorter of the two lists is gone
+// through, which for a ridge with two sups below a top with many subs is that of the sups.
 fn other_between(w: &[u32], i: usize, j: usize, base: usize, g: usize, h: usize, e: usize) -> Other
     requires { ⌜ Fork (now w) i j base g h ⌝ }
     ensures { λ res. ⌜ otherOf res ≡ otherIn e (holding (now (w .entry)) i base h) ⌝ }
@@ -101,7 +101,7 @@ fn down(w: &[u32], sh: Shape, start: [usize; RANKS], from: usize) -> [usize; RAN
     elements
 }
 
-// How many entries of the list at word i stand before x.
+// How many entries of the list at word i stand before x, which is the length of the list where x is absent.
 fn place_at(w: &[u32], i: usize, x: usize) -> usize
     requires { ⌜ Lies (now w) i ⌝ }
     ensures { λ res. ⌜ res ≡ place eqb x (listAt (now (w .entry)) i) ⌝ }
@@ -117,7 +117,8 @@ fn place_at(w: &[u32], i: usize, x: usize) -> usize
     k
 }
 
-// The element at r moved on to the next sub of the one above, with first subs below it. There is no more where it is the last sub.
+// The flag in which the element at rank r has moved on to the next sub of the one above, with first subs below it. Where that element is the last
+// sub, the answer is `Ended`.
 fn moved_at(w: &[u32], sh: Shape, elements: [usize; RANKS], r: usize) -> Next
     requires { ⌜ Held sh (now w) ⌝ }
     requires { ⌜ (r < sh .rank) × (getD elements (suc r) 0 < sizeAt sh (suc r)) ⌝ }
@@ -180,7 +181,7 @@ impl Flag {
         Flag { elements: elements }
     }
 
-    // "The iterator gives every flag once, the sub at rank 1 moving fastest": the flag after this one.
+    // The flag after this one: "The iterator gives every flag once, the sub at rank 1 moving fastest."
     pub fn next(self, w: &[u32], sh: Shape) -> Next
         requires { ⌜ Held sh (now w) ⌝ }
         requires { ⌜ IsFlag (solidIn sh (now w)) (flagIn (sh .rank) self) ⌝ }

@@ -5,7 +5,7 @@ ghost use Rattle.float.specs.Reading.{Alike};
 
 // The pattern of the one NaN that the definitions have.
 const NAN: u64 = 0x7ff8_0000_0000_0000;
-// The pattern of the positive infinity: patterns above it, the sign apart, are those of NaNs.
+// The pattern of the positive infinity. Patterns above it, the sign apart, are those of NaNs.
 const INFINITY: u64 = 0x7ff0_0000_0000_0000;
 
 // The float of a pattern.
@@ -28,7 +28,7 @@ pub fn pattern(x: f64) -> u64
     f64::to_bits(x)
 }
 
-// Whether two floats are one, by their patterns. A zero and its negative are two; the one NaN is the same as itself.
+// Whether two floats are the same float, by their patterns. A zero and its negative are two floats, and the one NaN is the same as itself.
 pub fn same(x: f64, y: f64) -> bool
     ensures { λ r. ⌜ Alike r x y ⌝ }
 {

@@ -166,7 +166,7 @@ fn right_half(v: [f64; WIDTH], d: usize) -> [f64; DIMENSION]
     r
 }
 
-// The right halves of the working rows. They are d rows of d entries, so that the matrix is read of the array again.
+// The right halves of the working rows. They are d rows of d entries, so that the matrix they make up can be read back from the array.
 fn right_halves(w: [[f64; WIDTH]; DIMENSION], d: usize) -> [[f64; DIMENSION]; DIMENSION]
     requires { ⌜ d ≤ maxDimension ⌝ }
     ensures { λ r. ⌜ (r ≡ paddedRows (map (drop d) (leading d (d + d) w))) × (corner d r ≡ map (drop d) (leading d (d + d) w)) ⌝ }
@@ -200,7 +200,7 @@ fn parity(odd: bool, p: usize, c: usize) -> bool
     !odd
 }
 
-// The determinant, of the product t of the pivots: it is negated where the number of swaps is odd.
+// The determinant, made from the product t of the pivots, which is negated where the number of swaps is odd.
 fn signed(t: f64, odd: bool) -> f64
     ensures { λ r. ⌜ r ≡ elim odd [ true ↦ neg t | false ↦ t ] ⌝ }
 {
@@ -210,8 +210,8 @@ fn signed(t: f64, odd: bool) -> f64
     t
 }
 
-// The elimination, column after column. Where a pivot is zero the matrix is singular: it has no inverse, and its determinant is 0. The
-// product is that of the pivots, with its sign.
+// The elimination, column after column. Where a pivot is zero the matrix is singular, so that it has no inverse and its determinant is 0. The
+// product that is handed back is that of the pivots, with its sign.
 pub fn eliminate(
     m: [[f64; DIMENSION]; DIMENSION],
     d: usize,

@@ -1,4 +1,4 @@
-// Matrices of a dimension d up to DIMENSION, as rows of rows: of an argument the first d entries of the first d rows are read, and in a result
+// Matrices of a dimension d up to DIMENSION, as rows of rows. Of an argument, the first d entries of the first d rows are read. In a result,
 // every other cell holds 0.0.
 ghost use mathlib.Core.Path.{_≡_};
 ghost use mathlib.Core.List.{map};
@@ -87,7 +87,7 @@ pub fn product(
     r
 }
 
-// The inverse; `regular` says whether there is one. Where there is none, every cell holds 0.0.
+// The inverse. `regular` says whether there is one. Where there is none, every cell holds 0.0.
 pub fn inverse(
     m: [[f64; DIMENSION]; DIMENSION],
     d: usize,
@@ -100,7 +100,7 @@ pub fn inverse(
     elimination::eliminate(m, d, regular, &mut product)
 }
 
-// The product of the elimination's pivots, with its sign; 0 where the matrix is singular.
+// The product of the elimination's pivots, with its sign, or 0 where the matrix is singular.
 pub fn determinant(m: [[f64; DIMENSION]; DIMENSION], d: usize) -> f64
     requires { ⌜ d ≤ maxDimension ⌝ }
     ensures { λ r. ⌜ r ≡ determinant (corner d m) ⌝ }

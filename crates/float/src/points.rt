@@ -15,7 +15,7 @@ use crate::vector;
 // The largest magnitude of a coordinate or a matrix entry.
 const LARGEST: f64 = 1048576.0;
 
-// Where a scan of a list found what it looked for: at that number, counted from 0, or nowhere in the list.
+// What a look for a number finds: that number, or nothing.
 pub enum Found {
     At(usize),
     Nothing,

@@ -33,8 +33,7 @@ pub fn dot_of(a: [f64; DIMENSION], b: [f64; DIMENSION], d: usize) -> f64
     dot(&a[..d], &b[..d])
 }
 
-// The slice a less the first entries of b, entry by entry.
-// Entries past a's length are free: they are b's.
+// The slice a less the first entries of b, entry by entry. The entries past a's length are free.
 pub fn difference(a: &[f64], b: [f64; DIMENSION]) -> [f64; DIMENSION]
     requires { ⌜ length (now a) ≤ maxDimension ⌝ }
     ensures { λ r. ⌜ take (length (now (a .entry))) r ≡ zip minus (now (a .entry)) (take (length (now (a .entry))) b) ⌝ }

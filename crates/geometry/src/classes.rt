@@ -7,7 +7,7 @@ ghost use Rattle.geometry.specs.Classes.{nearestOf, Takes, sameClass};
 use float::tolerance;
 use float::tolerance::Tolerance;
 
-// What a distance finds in the list.
+// What a distance finds in the list: a listed value, or nothing.
 pub enum Nearest {
     Listed(f64),
     Nothing,
@@ -19,7 +19,7 @@ pub struct Listing {
     pub count: usize,
 }
 
-// "Strictly nearer than EPS."
+// Whether the distance x is "strictly nearer than EPS" to the listed value y.
 fn nearer(x: f64, y: f64) -> bool
     ensures { λ r. ⌜ r ≡ nearer x y ⌝ }
 {
@@ -43,7 +43,7 @@ fn smaller(y: f64, found: Nearest) -> Nearest
 }
 
 // The smallest of the first n listed values that is strictly nearer to x than EPS. The scan goes from the last to the first, as the
-// definition does: of values that compare equal, such as the two zeros, the first is taken.
+// definition does, so that of values that compare equal, such as the two zeros, the first is taken.
 pub fn listed_for(listed: &[f64], n: usize, x: f64) -> Nearest
     requires { ⌜ n ≤ length (now listed) ⌝ }
     ensures { λ r. ⌜ nearestOf r ≡ listedFor x (take n (now (listed .entry))) ⌝ }
@@ -78,7 +78,7 @@ pub fn list_distance(listed: &mut [f64], n: usize, x: f64) -> Listing
     }
 }
 
-// Whether two listed values are one class: they compare equal, or both are NaN.
+// Whether two listed values are one class, which means that they compare equal or that both are NaN.
 pub fn same_class(x: f64, y: f64) -> bool
     ensures { λ r. ⌜ r ≡ sameClass x y ⌝ }
 {

@@ -19,7 +19,7 @@ fn number(list: &[u16], i: usize) -> usize
 }
 
 // The distance of the hull of the points with the first n numbers of the list, taken in that order. Each point is handed on as the part of the
-// slice that holds it. "Stop at D vectors": k counts those that joined.
+// slice that holds it. The rule says "Stop at D vectors", and k counts those that joined.
 pub fn distance_of(points: &[f64], d: usize, list: &[u16], n: usize) -> f64
     requires { ⌜ (d ≤ maxDimension) × (0 < n) × (n ≤ length (now list)) × ((j : ℕ) → j < n → (getD (now list) j 0 + 1) * d ≤ length (now points)) ⌝ }
     ensures { λ r. ⌜ r ≡ distance d (hullOf d (map (pointAt d (now (points .entry))) (take n (now (list .entry))))) ⌝ }

@@ -1,4 +1,4 @@
-// Hulls of points, in a dimension d up to DIMENSION: the first d entries of the offset and of each vector of the basis count. A point is taken as
+// Hulls of points, in a dimension d up to DIMENSION. The first d entries of the offset and of each vector of the basis count. A point is taken as
 // the part of the coordinate slice that holds it, and d is that part's length.
 ghost use mathlib.Core.Path.{_≡_};
 ghost use mathlib.Core.List.{[], map};
@@ -12,29 +12,29 @@ use float::DIMENSION;
 use float::tolerance::Tolerance;
 use float::vector;
 
-// The room for a basis: vector k stands at k * DIMENSION.
+// The room for a basis, in which vector k stands at k * DIMENSION.
 const ROOM: usize = DIMENSION * DIMENSION;
 
-// "The hull holds an offset (first vertex) and a basis of floats": the first `count` vectors of the basis are there.
+// "The hull holds an offset (first vertex) and a basis of floats". The first `count` vectors of the basis are there.
 pub struct Hull {
     pub offset: [f64; DIMENSION],
     pub basis: [f64; ROOM],
     pub count: usize,
 }
 
-// What adding answers: a vector, which had this length before it was divided by it, joined the basis; or nothing joined.
+// What adding a point answers: either a vector joined the basis, which had this length before it was divided by it, or nothing joined.
 pub enum Joined {
     Length(f64),
     Nothing,
 }
 
-// The hull after adding, and beside it the answer: an enum that held the hull's arrays would leave its functions to a proof by hand.
+// The hull after adding, with the answer beside it. An enum that held the hull's arrays would leave every function over it to a proof by hand.
 pub struct Added {
     pub hull: Hull,
     pub joined: Joined,
 }
 
-// "q += b times s", on as many entries as b has. The entries past them are free: they are q's.
+// "q += b times s", on as many entries as b has. The entries past them are free.
 fn moved(q: [f64; DIMENSION], b: &[f64], s: f64) -> [f64; DIMENSION]
     requires { ⌜ length (now b) ≤ maxDimension ⌝ }
     ensures { λ r. ⌜ take (length (now (b .entry))) r ≡ zip (λ x y. plus x (times y s)) (take (length (now (b .entry))) q) (now (b .entry)) ⌝ }
@@ -64,7 +64,7 @@ fn with_vector(basis: [f64; ROOM], k: usize, v: [f64; DIMENSION], l: f64, d: usi
 }
 
 impl Hull {
-    // The hull of one point: it is the offset, and no vector is there.
+    // The hull of one point, which is the offset. The basis has no vector yet.
     pub fn empty(p: &[f64]) -> Hull
         requires { ⌜ length (now p) ≤ maxDimension ⌝ }
         ensures { λ r. ⌜ hullIn (length (now (p .entry))) r ≡ record { offset = now (p .entry); basis = [] } ⌝ }

@@ -28,7 +28,7 @@ const FREE: u16 = 65535;
 const FEW: usize = 32;
 // More than twice EPS, so that two points further apart than this on an axis are never both near a third.
 const WIDE: f64 = 0.0000002384185791015625;
-// Added to a coordinate, so that a zero and the values that rounding turns it into have one exponent.
+// This is added to a coordinate, so that a zero and the values that rounding turns it into have one exponent.
 const SHIFT: f64 = 3.1415926;
 
 // The first place for a point. Rounding errors change the low bits of a coordinate, so these are dropped, after an offset has been added that
@@ -173,7 +173,7 @@ fn wide(x: u16) -> usize {
     x as usize
 }
 
-// The point near q, where the table tells it. `Nothing` says only that the table does not.
+// The point near q, if the table tells it. `Nothing` says only that the table does not tell it.
 fn guess(
     points: &[f64],
     d: usize,

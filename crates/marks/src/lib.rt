@@ -137,7 +137,7 @@ fn reach(w: &[u32], sh: Shape, row: &[u16], goes: &[u16], r: usize, e: usize) ->
     rise(w, sh, goes, r - 1, e)
 }
 
-// Where the class of element e of rank r stands in the floats of a solid with v vertices, which is behind the coordinates and the list.
+// Where the class of element e of rank r stands in the floats of a solid with v vertices. That is behind the coordinates and the list of distances.
 fn class_cell(sh: Shape, v: usize, r: usize, e: usize) -> usize
     requires { ⌜ (r < 7) × (sh .rank < 7) × (firstAt sh 1 ≤ firstAt sh (sh .rank)) × (firstAt sh 1 ≤ firstAt sh r) ⌝ }
     requires { ⌜ v * sh .dimension + proper sh + (before sh r + e) < 2 ^ 64 ⌝ }
@@ -162,7 +162,7 @@ fn one_class(sh: Shape, floats: &[f64], v: usize, r: usize, e: usize, g: usize) 
     classes::same_class(floats[a], floats[b])
 }
 
-// Where element e of rank r goes, if it is carried: to an element of its class.
+// Where element e of rank r goes if it is carried, which is to an element of its class.
 fn image_of(
     w: &[u32],
     sh: Shape,

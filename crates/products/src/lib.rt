@@ -171,7 +171,7 @@ fn join(v: usize, rows: &[u16], m: u8, k: usize, cells: &mut [u16; CELLS])
     note(row_at(rows, v, k), cells, j);
 }
 
-// Whether the row is g and then a.
+// Whether the row is the product of g and then a.
 fn is_product(row: &[u16], a: &[u16], g: &[u16]) -> bool
     requires { ⌜ (length (now row) ≡ length (now g)) × (length (now a) ≡ length (now g)) ⌝ }
     ensures { λ r. ⌜ (r ≡ true → now (row .entry) ≡ composed (now (a .entry)) (now (g .entry))) ⌝ }
@@ -191,7 +191,7 @@ fn is_product(row: &[u16], a: &[u16], g: &[u16]) -> bool
     true
 }
 
-// Whether row k is row g and then row a, both of them confirmed before it.
+// Whether row k is the product of row g and then row a, both of which were confirmed before it.
 fn is_factored(v: usize, rows: &[u16], marks: &[u8], k: usize, g: usize, a: usize) -> bool
     requires { ⌜ (k * v + v ≤ length (now rows)) × (k ≤ length (now marks)) ⌝ }
     ensures { λ r. ⌜ (r ≡ true → Factored v (now (rows .entry)) (now (marks .entry)) k) ⌝ }
@@ -211,7 +211,7 @@ fn is_factored(v: usize, rows: &[u16], marks: &[u8], k: usize, g: usize, a: usiz
     is_product(row_at(rows, v, k), row_at(rows, v, a), row_at(rows, v, g))
 }
 
-// Whether row k is the generator of slot j and then a row of the table.
+// Whether row k is found to be the product of the generator of slot j and then a row of the table.
 fn is_met(
     v: usize,
     rows: &[u16],

@@ -1,5 +1,5 @@
-// "a search call .. with 8, 9, 10, 15, 11, then 12 or 13": one function for each judgement, each going on to the next. What the words and floats
-// hold afterwards is free; they keep their lengths.
+// There is one function for each judgement, and each goes on to the next: "a search call .. with 8, 9, 10, 15, 11, then 12 or 13". What the words
+// and floats hold afterwards is free, and they keep their lengths.
 use crate::judging::Far;
 use crate::judging::first_far;
 use crate::judging::first_inverse;
@@ -33,7 +33,7 @@ ghost use Rattle.symmetry.specs.Listing.{answerOf};
 ghost use Rattle.symmetry.specs.Searching.{Parted};
 ghost use Rattle.search.specs.Reading.{callOf};
 
-// The answer once the members are listed: refusal 13 where they are too many for the outputs, 12 where there is none, and otherwise done.
+// The answer once the members are listed: refusal 13 where they are too many for the outputs, 12 where there is none, and otherwise their number.
 fn answer_of(l: Listing) -> Answer
     ensures { λ r. ⌜ r ≡ answerOf (l .short) (l .count) ⌝ }
 {
@@ -47,7 +47,8 @@ fn answer_of(l: Listing) -> Answer
     Answer::Done(n)
 }
 
-// What follows the judgements: the members, each with its matrix and row, and then their marks, for which the facets go back to their places.
+// From the inverse on, where only refusals 12 and 13 are left: the members are listed, each with its matrix and row, and then their marks are
+// written, for which the facets go back to their places.
 fn from_inverse(
     words: &mut [u32],
     low: usize,
@@ -97,7 +98,8 @@ fn from_inverse(
     answer_of(l)
 }
 
-// From the judgement behind refusal 11 on. The words hold the exchanged solid and its types.
+// From the judgement behind refusal 11 on: the first columns need an inverse whose entries are finite. The words hold the exchanged solid and its
+// types.
 fn from11(
     words: &mut [u32],
     low: usize,
@@ -138,7 +140,7 @@ fn from11(
     )
 }
 
-// Judgement 15: whether the types settle of the solid that the words hold, in which facet f and facet 0 have changed places.
+// From the judgement behind refusal 15 on: the types have to settle. The words hold the solid in which facet f and facet 0 have changed places.
 fn from15(
     words: &mut [u32],
     low: usize,
@@ -164,7 +166,7 @@ fn from15(
     }
 }
 
-// From the judgement behind refusal 10 on: the first facet that is far from the origin changes places with facet 0.
+// From the judgement behind refusal 10 on: some facet has to be far from the origin, and the first such facet changes places with facet 0.
 fn from10(
     words: &mut [u32],
     low: usize,
@@ -192,7 +194,7 @@ fn from10(
     }
 }
 
-// From the judgement behind refusal 9 on: no two vertices may be within EPS of each other.
+// From the judgement behind refusal 9 on: no two vertices may be within EPS of each other on every axis.
 fn from9(
     words: &mut [u32],
     low: usize,
@@ -218,7 +220,7 @@ fn from9(
     Answer::Refused(Refusal::DoubleCorner, 0)
 }
 
-// From the judgement behind refusal 8 on, of the solid that preflight left in the workspace.
+// From the judgement behind refusal 8 on: the solid that preflight left in the workspace needs R at least 2 and D = R−1.
 fn from8(
     words: &mut [u32],
     low: usize,
@@ -240,7 +242,7 @@ fn from8(
     Answer::Refused(Refusal::NotFull, 0)
 }
 
-// The search of a sheet: all members, or the rotations alone.
+// Searches a sheet, for all members or for the rotations alone.
 pub fn run(
     sheet: &[u8],
     words: &mut [u32],

@@ -23,7 +23,7 @@ ghost use Rattle.ranked.specs.Words.{sizeAt, solidIn, Held};
 ghost use Rattle.distances.specs.Solids.{solidOn, coordinates};
 ghost use Rattle.search.specs.Reading.{farOf, regular};
 
-// The first facet that is further than EPS from the origin, or that there is none.
+// The first facet that is further than EPS from the origin, or the answer that there is none.
 pub enum Far {
     Facet(usize),
     Nothing,
@@ -39,7 +39,7 @@ pub fn is_full(sh: Shape) -> bool
     false
 }
 
-// "The first facet (rank R−1) whose hull is further than EPS from the origin": the raw distance decides, not the listed one.
+// "The first facet (rank R−1) whose hull is further than EPS from the origin". The raw distance decides, not the listed one.
 pub fn first_far(w: &[u32], sh: Shape, points: &[f64]) -> Far
     requires { ⌜ Held sh (now w) ⌝ }
     requires { ⌜ 2 ≤ sh .rank ⌝ }
@@ -59,7 +59,7 @@ pub fn first_far(w: &[u32], sh: Shape, points: &[f64]) -> Far
     Far::Nothing
 }
 
-// The inverse of the first flag's columns; `found` says whether there is one.
+// The inverse of the first flag's columns. `found` says whether there is one.
 pub fn first_inverse(
     w: &[u32],
     sh: Shape,

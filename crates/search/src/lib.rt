@@ -35,7 +35,7 @@ pub fn search(
     run(sheet, words, floats, false, matrices, rows, marks)
 }
 
-// "Rotations are those of determinant above 0": does the same as `search`, but lists only those members.
+// The call does the same as `search`, but lists only the rotations: "Rotations are those of determinant above 0."
 pub fn rotations(
     sheet: &[u8],
     words: &mut [u32],

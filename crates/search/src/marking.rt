@@ -1,4 +1,4 @@
-// "Members come in flag order with matrix and row", and each with its mark: the rule of the solid as read.
+// "Members come in flag order with matrix and row", and each has a mark, which follows the rule for the solid as it was read.
 use distances::all_classes;
 use products::mark_rows;
 use ranked::ELEMENTS;
@@ -15,7 +15,7 @@ ghost use Rattle.ranked.specs.Words.{solidIn};
 ghost use Rattle.ranked.specs.Bench.{solidAt, Bench};
 ghost use Rattle.products.specs.Marking.{markIn};
 
-// The marks of n rows, in the solid that lies in the words and floats: its distance classes and its vertex sets' prints are worked out for
+// Writes the marks of n rows, in the solid that lies in the words and floats. Its distance classes and its vertex sets' prints are worked out for
 // them. What the words hold behind the solid, and the floats behind the coordinates, is free.
 pub fn write_marks(
     words: &mut [u32],

@@ -1,5 +1,5 @@
-// Section 4's start from the distance classes, the sweeps until one leaves the number of types, and the types of a solid that lies in lent words
-// and floats.
+// Section 4's start from the distance classes, the sweeps until one leaves the number of types unchanged, and the types of a solid that lies in lent
+// words and floats.
 use distances::all_classes;
 use ranked::Shape;
 ghost use mathlib.Core.Path.{_≡_};

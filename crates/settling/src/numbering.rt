@@ -8,8 +8,8 @@ ghost use Rattle.spec.specs.Lists.{place};
 ghost use Rattle.geometry.specs.Classes.{sameClass};
 ghost use Rattle.settling.specs.Start.{repCells, Fitting, ByClass};
 
-// The place of the first element with the class x among the m elements whose numbers the words from `reps` hold; m where none has it. Element g's
-// class is cell from + g.
+// The place of the first element with the class x among the m elements whose numbers the words from `reps` on hold, or m where none has it. The
+// class of element g is cell from + g.
 fn find_class(words: &[u32], reps: usize, m: usize, cells: &[f64], from: usize, x: f64) -> usize
     requires { ⌜ reps + m ≤ length (now words) ⌝ }
     requires { ⌜ ((j : ℕ) → j < m → from + getD (now words) (reps + j) 0 < length (now cells)) ⌝ }
@@ -26,8 +26,8 @@ fn find_class(words: &[u32], reps: usize, m: usize, cells: &[f64], from: usize, 
     m
 }
 
-// Numbers the n elements of a rank by first appearance of their classes, to the words from `to`. An element is compared with the first of each
-// class only, whose numbers the words from `reps` hold.
+// Numbers the n elements of a rank by first appearance of their classes, to the words from `to` on. An element is compared only with the first of
+// each class, whose numbers the words from `reps` on hold.
 pub fn number_classes(
     words: &mut [u32],
     to: usize,

@@ -15,7 +15,7 @@ pub enum Ending {
     Changing,
 }
 
-// "E counts proper elements."
+// The number E of document 01: "E counts proper elements".
 fn proper_count(sh: Shape) -> usize
     requires { ⌜ ((w : List ℕ) × Held sh w) ⌝ }
     ensures { λ n. ⌜ n ≡ proper sh ⌝ }
@@ -28,7 +28,7 @@ fn proper_count(sh: Shape) -> usize
     first[rank] - first[1]
 }
 
-// Sweeps from the start until one leaves the number of types unchanged. That they are still changing is refusal 15, "E + 2 sweeps done, still
+// Sweeps from the start until one leaves the number of types unchanged. If they are still changing, that is refusal 15, "E + 2 sweeps done, still
 // changing".
 pub fn settle(words: &mut [u32], low: usize, sh: Shape) -> Ending
     requires { ⌜ Started sh low (now words) ⌝ }

@@ -78,8 +78,9 @@ fn has_room(d: usize, v: usize, floats: usize, entries: usize, left: usize) -> b
     0 < left
 }
 
-// The test of a candidate: is each vertex image found, and does each type's example go to an element? Its row is written. That the flag's
-// elements have the first flag's types is asked before (`try_flag`): a flag that has not is spared its columns and their product.
+// Whether a candidate passes the test that each vertex image is found and that each type's example goes to an element. If so, its row is written.
+// Whether the flag's elements have the first flag's types is tested before (in `try_flag`), so that a flag that fails this is spared its columns and
+// their product.
 fn passes(
     words: &[u32],
     low: usize,
@@ -106,8 +107,8 @@ fn passes(
     examples_go(words, low, sh, at, row)
 }
 
-// A candidate: it is skipped, written to the front of the parts of the outputs, or there is no room. `left` marks are left. Whether it is a
-// rotation is told sooner than whether it passes.
+// Tries a candidate. It is skipped, or written to the front of the given parts of the outputs, or there is no room for it. `left` marks are left.
+// Whether it is a rotation is tested first, since that is told sooner than whether it passes.
 fn try_candidate(
     words: &[u32],
     low: usize,
@@ -147,7 +148,7 @@ fn try_candidate(
     Tried::Added
 }
 
-// A flag: where its elements have the first flag's types, its candidate.
+// Tries a flag. Its candidate is made and tried only where its elements have the first flag's types.
 fn try_flag(
     words: &[u32],
     low: usize,
@@ -193,7 +194,7 @@ fn try_flag(
     )
 }
 
-// Every flag in order, until there is no room. `room` is how many marks there are.
+// Tries every flag in order, until there is no room. `room` is how many marks there are.
 pub fn list_members(
     words: &[u32],
     low: usize,

@@ -20,7 +20,8 @@ ghost use Rattle.element_types.specs.State.{stateIn, Countable};
 ghost use Rattle.types.specs.Cells.{cellsOf, Listable};
 ghost use Rattle.types.specs.Call.{handedOut};
 
-// "E counts proper elements": those from the first vertex on, below the top. Where R = 0 the top stands first, and there are none.
+// The number E of proper elements, which are those from the first vertex on and below the top: "E counts proper elements". Where R = 0 the top stands
+// first, and there are none.
 fn proper_count(sh: Shape) -> usize
     requires { ⌜ sh .rank < 7 ⌝ }
     ensures { λ n. ⌜ n ≡ proper sh ⌝ }
@@ -49,7 +50,7 @@ fn write_types(words: &[u32], low: usize, sh: Shape, of: &mut [u16])
     }
 }
 
-// Writes the record of a type that appears for the first time, from cell `at` on: e is the first element that has it.
+// Writes the record of a type that appears for the first time, from cell `at` on. The first element that has the type is e.
 fn open_type(table: &mut [u16], at: usize, r: u16, t: u16, e: u16)
     requires { ⌜ at + 4 ≤ length (now table) ⌝ }
     ensures { λ _. ⌜ now (table .exit) ≡ sets (now (table .entry)) at (r ∷ t ∷ e ∷ 1 ∷ []) ⌝ }
@@ -105,7 +106,7 @@ fn write_table(words: &[u32], low: usize, sh: Shape, table: &mut [u16])
     }
 }
 
-// Gives out the types of the elements and the table, and answers how many types there are; or refusal 13, where an output is too short.
+// Gives out the types of the elements and the table, and answers how many types there are. Where an output is too short, the answer is refusal 13.
 pub fn give_out(words: &[u32], low: usize, sh: Shape, of: &mut [u16], table: &mut [u16]) -> Answer
     requires { ⌜ Countable sh low (now words) ⌝ }
     ensures { λ r. ⌜ (r, record { elements = now (of .exit); types = now (table .exit) })

@@ -20,7 +20,7 @@ mod giving;
 
 use crate::giving::give_out;
 
-// "the types call goes on with 15, 13": gives out the types of the solid that lies in the workspace, or judges one of these refusals.
+// Gives out the types of the solid that lies in the workspace, or judges a refusal: "the types call goes on with 15, 13".
 fn types_given(
     words: &mut [u32],
     low: usize,
