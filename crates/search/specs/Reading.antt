@@ -16,12 +16,12 @@ unfoldable pub farOf : Far → Option ℕ
 farOf (Facet f) = some f
 farOf Nothing = none
 
--- Whether refusal 11 does not apply to what the elimination gave: there is an inverse, and all its entries are finite.
+-- Whether refusal 11 does not apply, which means that there is an inverse and that all its entries are finite.
 unfoldable pub regular : Option Matrix → Bool
 regular none = false
 regular (some m) = allFinite m
 
--- The search call, which lists all members, or where the first argument is true the rotations call.
+-- The search call, which lists all members, or the rotations call where the first argument is true.
 abbrev pub callOf : Bool → List ℕ → ℕ → ℕ → SearchOut → Answer × SearchOut
 callOf false = searchCall
 callOf true = rotationsCall

@@ -80,7 +80,7 @@ pub record AxisOrderTable (t : List Matrix) : Type 0 where
   pub dictionary : orders ≡ unrepeated triples
   -- "entry 8 times p + s"
   pub rule : map (λ p. map (λ s. getD t (8 * p + s) []) (range 0 8)) (range 0 6) ≡ map (λ p. map (axisOrder (getD orders p [])) (range 0 8)) (range 0 6)
-  -- "row i has its unit at the column the order names", minus where the sign bit of axis i is 1: each row is one of the six of `axes`
+  -- "row i has its unit at the column the order names", and the unit is negative where the sign bit of axis i is 1. Each row is one of the six of `axes`.
   pub rows : t ≡ map (map (λ a. getD axes a [])) rowNumbers
   -- Every product of two entries is an entry.
   pub multiplied : map (λ a. map (mulMat a) t) t ≡ map (map (λ j. getD t j [])) products

@@ -16,7 +16,7 @@ use Rattle.spec.specs.Classes.{classTable, byTable}
 use Rattle.spec.specs.Calls.{TypesOut, typesCall}
 use Rattle.distances.specs.Solids.{beforeIn}
 
--- The cell that holds the type of element e of rank r. The cells are sorted "by rising rank and index".
+-- The cell that holds the type of element e of rank r. The elements have their cells "by rising rank and index".
 abbrev pub typeCell : Solid → List ℕ → ℕ → ℕ → ℕ
 typeCell s cells r e = getD cells (beforeIn s r + e) 0
 
