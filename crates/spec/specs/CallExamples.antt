@@ -156,9 +156,9 @@ pub not-clean-whole-list : cleanDistances (map (ofBits binary64) (0 ∷ 0x3e701b
 unfolding evaluate
 not-clean-whole-list = refl
 
--- The triangle (1,0), (−0.50000003,0.86602546), (−0.50000006,−0.86602551). Its vertices' distances are about 1, 1.00000006 and 1.00000012: none is near two listed
--- values when it is taken, and the second is when the list is whole. Its coordinates and images are clean. The Rust, which looks distances up again, gives it 6 types
--- and 1 member, and these definitions give it 4 and 2 (crates/trials, Differences), so that it must not pass for clean.
+-- The triangle (1,0), (−0.50000003,0.86602546), (−0.50000006,−0.86602551). Its vertices' distances are about 1, 1.00000006 and 1.00000012: none is near two
+-- listed values when it is taken, and the second is when the list is whole. Its coordinates and images are clean. The Rust, which looks distances up again,
+-- gives it 6 types and 1 member, and these definitions give it 4 and 2 (crates/trials, Differences), so that it must not pass for clean.
 abbrev pub later : Concrete
 later = triangleOf 2 ((0x3ff0000000000000 ∷ 0 ∷ []) ∷ (0xbfe00000101b2b2a ∷ 0x3febb67b068681e5 ∷ []) ∷ (0xbfe0000020365653 ∷ 0xbfebb67b215e7480 ∷ []) ∷ [])
 
@@ -166,9 +166,9 @@ pub not-clean-later : clean later ≡ false
 unfolding evaluate
 not-clean-later = refl
 
--- The quadrangle (−1,−1), (1,−1), (4.5e-8,1), (−6e-8,1). Under the mirror the third vertex's image is near the third and the fourth vertex. By the lowest number it goes
--- to the third, and the mirror is no member; by the least point, as in the Rust, it goes to the fourth, and the mirror is one. So the images of members alone, which
--- here are those of the identity, would let a difference from the Rust pass for clean.
+-- The quadrangle (−1,−1), (1,−1), (4.5e-8,1), (−6e-8,1). Under the mirror the third vertex's image is near the third and the fourth vertex. By the lowest
+-- number it goes to the third, and the mirror is no member; by the least point, as in the Rust, it goes to the fourth, and the mirror is one. So the images
+-- of members alone, which here are those of the identity, would let a difference from the Rust pass for clean.
 abbrev pub folded : Concrete
 folded = polygon ((0 ∷ 1 ∷ []) ∷ (1 ∷ 2 ∷ []) ∷ (2 ∷ 3 ∷ []) ∷ (0 ∷ 3 ∷ []) ∷ []) 2 (
     (0xbff0000000000000 ∷ 0xbff0000000000000 ∷ [])
@@ -217,8 +217,8 @@ pub class-clause : marked square sides (1 ∷ 2 ∷ 3 ∷ 0 ∷ []) ≡ false
 unfolding evaluate
 class-clause = refl
 
--- Four vertices, their six edges, and the one face 0 1 2 3. With 1 and 2 exchanged each edge goes to an edge and the face to itself, but the face's edges 01 and 23
--- go to 02 and 13, which are not the face's.
+-- Four vertices, their six edges, and the one face 0 1 2 3. With 1 and 2 exchanged each edge goes to an edge and the face to itself, but the face's edges 01
+-- and 23 go to 02 and 13, which are not the face's.
 abbrev fourCycle : Solid
 fourCycle =
     ([] ∷ [])
@@ -249,8 +249,8 @@ repeat-clause = refl
 
 -- ---- single rules
 
--- "a list's length counts as entries when it is read": entry 8,192 passes, and entry 8,193 is refused 2 before the sheet's end, which comes next, is seen. A length of
--- 0 adds no entry, and is refused 4.
+-- "a list's length counts as entries when it is read": entry 8,192 passes, and entry 8,193 is refused 2 before the sheet's end, which comes next, is seen. A
+-- length of 0 adds no entry, and is refused 4.
 pub entries-full : list (0 ∷ 16 ∷ 0 ∷ []) 1 8191 0 ≡ passed (0 ∷ [], 23)
 unfolding evaluate
 entries-full = refl

@@ -152,8 +152,8 @@ module _ (d : ℕ) (ms : List Matrix) (cs : List Vector) (outPoints : List Float
     pub among : k ≤ length cs
     pub limit : k ≤ maxCount
     pub points-fit : k * d ≤ length outPoints
-    -- Either there are more copies and k is 2,048; or there are more and the points' output has no room for one of them; or k is all copies, and only the table's
-    -- output is too short.
+    -- Either there are more copies and k is 2,048; or there are more and the points' output has no room for one of them; or k is all copies, and only the
+    -- table's output is too short.
     pub exceed : ((k < length cs) × (k ≡ maxCount)) ⊎ ((k < length cs) × (length outPoints < suc k * d)) ⊎ ((k ≡ length cs) × (length outTable < length ms * k))
     pub points : newPoints ≡ written (join (take k cs)) outPoints
     pub table : newTable ≡ outTable

@@ -1,5 +1,5 @@
--- Section 6, "Clean": the input on which the Rust and these definitions are held to agree. No call asks whether its input is clean. The comparison with the Rust
--- (compare/clean.rs, tools/search_model.py) tests this definition, under the same names, and leaves out what is not clean.
+-- Section 6, "Clean": the input on which the Rust and these definitions are held to agree. No call asks whether its input is clean. The comparison with the
+-- Rust (compare/clean.rs, tools/search_model.py) tests this definition, under the same names, and leaves out what is not clean.
 -- Assumes nothing.
 use mathlib.Core.Path.{_≡_}
 use mathlib.Core.Logic.{_↔_}
@@ -54,8 +54,8 @@ sameFloat (fin s m e) (fin t n d) = Bool·beq s t && eqb m n && sameInteger e d
 abbrev pub onAxis : List Vector → ℕ → List Float
 onAxis ps k = map (λ p. getD p k zeroF) ps
 
--- "is transitive among coordinates and images on each axis, images are finite": of the points ps with the images qs, in d dimensions. Each value is taken once, which
--- changes nothing (`EveryClean.points`) and keeps an evaluation short.
+-- "is transitive among coordinates and images on each axis, images are finite": of the points ps with the images qs, in d dimensions. Each value is taken
+-- once, which changes nothing (`EveryClean.points`) and keeps an evaluation short.
 unfoldable pub cleanPoints : ℕ → List Vector → List Vector → Bool
 cleanPoints d ps qs = allFinite qs && every (λ k. transitive (distinct sameFloat (onAxis (ps ++ qs) k))) (range 0 d)
 
@@ -70,8 +70,8 @@ unfoldable pub listedBy : List Float → List Float → List Float
 listedBy l [] = l
 listedBy l (x ∷ xs) = listedBy (listing l x .1) xs
 
--- "no distance is ever nearer than EPS to two listed values": strictly nearer, and to two values of the whole list. A value that joins after the distance was taken
--- counts as well, since the Rust looks every distance up again in every sweep.
+-- "no distance is ever nearer than EPS to two listed values": strictly nearer, and to two values of the whole list. A value that joins after the distance was
+-- taken counts as well, since the Rust looks every distance up again in every sweep.
 unfoldable pub cleanDistances : List Float → Bool
 cleanDistances xs = let l = listedBy [] xs in every (λ x. leb (count nearer x l) 1) xs
 
@@ -82,9 +82,9 @@ unfoldable pub candidates : Setting → List Flag → List Matrix
 candidates w [] = []
 candidates w (F ∷ Fs) = elim (sameTypes w F) [ true ↦ candidate w F ∷ candidates w Fs | false ↦ candidates w Fs ]
 
--- Whether a solid is clean. Its distances are listed as it was read and, in a search, once more with its facets exchanged. Its images are those of every vertex under
--- every candidate of that search. Where the search is refused before it makes a candidate (8, 9, 10, 15, 11), there are no images and no answer turns on the second
--- list, so only the coordinates and the first list are asked.
+-- Whether a solid is clean. Its distances are listed as it was read and, in a search, once more with its facets exchanged. Its images are those of every
+-- vertex under every candidate of that search. Where the search is refused before it makes a candidate (8, 9, 10, 15, 11), there are no images and no answer
+-- turns on the second list, so only the coordinates and the first list are asked.
 unfoldable pub clean : Concrete → Bool
 clean c = cleanDistances (distances c) && elim (setting c) [
   | refused why ↦ cleanPoints (c .dimension) (c .points) []
@@ -98,8 +98,8 @@ unfoldable pub multiplied : List Matrix → List Vector → List Vector → List
 multiplied ms [] cs = []
 multiplied ms (p ∷ ps) cs = elim (found cs p) [ true ↦ multiplied ms ps cs | false ↦ p ∷ multiplied ms ps (spread ms p cs) ]
 
--- Whether a copying is clean: "In copying, the first two are meant of points, copies and images". The images are those that copying makes: of the points that it
--- multiplies, and of the copies.
+-- Whether a copying is clean: "In copying, the first two are meant of points, copies and images". The images are those that copying makes: of the points that
+-- it multiplies, and of the copies.
 unfoldable pub cleanCopying : ℕ → List Vector → List Matrix → Bool
 cleanCopying d ps ms = let cs = copies ms ps in cleanPoints d (ps ++ cs) (images ms (multiplied ms ps [] ++ cs))
 
