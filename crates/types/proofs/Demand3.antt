@@ -1,4 +1,4 @@
--- Demand 3's theorem about the calls, read off the cells.
+-- Demand 3's theorem about the calls is carried over to the cells that a types call writes.
 -- Assumes nothing.
 use mathlib.Core.Path.{_≡_, sym, ap, _∙_}
 use mathlib.Core.List.{List, _++_, map, append-assoc}
@@ -15,13 +15,14 @@ use Rattle.spec.specs.Types.{Solid, top, size, properRanks, State, typesAt, typ
 use Rattle.spec.specs.Demand.{Proper}
 use Rattle.spec.specs.Copying.{written}
 use Rattle.spec.specs.Calls.{TypesOut, typesCall}
+use Rattle.spec.specs.Demand3Calls.{Demand3Call}
 use Rattle.spec.proofs.Lists.{map-same}
 use Rattle.spec.proofs.TypeLaws.{type-laws}
 use Rattle.spec.proofs.Demand3Calls.{demand3-calls}
 use Rattle.distances.specs.Solids.{beforeIn}
 use Rattle.types.specs.Demand3.{typeCell, Demand3Cells, Demand3Outputs}
 
--- member e of list k among lists one after another
+-- Where lists stand one after another, member e of list k stands behind all members of the lists before it.
 join-cell : (g : ℕ → List ℕ) (rest : List ℕ) (a n k e : ℕ) → k < n → e < length (g (a + k))
     → getD (join (map g (range a n)) ++ rest) (sum (map (λ q. length (g q)) (range a k)) + e) 0 ≡ getD (g (a + k)) e 0
 unfolding join range sum
@@ -38,6 +39,7 @@ join-cell g rest a (suc n) (suc k) e h m =
     rw (q, i, append-assoc (g a) (join (map g (range (suc a) n))) rest)
     (getD-append-add (g a) (join (map g (range (suc a) n)) ++ rest) (z + e) 0 ∙ join-cell g rest (suc a) n k e (omega arith) m′)
 
+-- Where the given types are written, each proper element's cell holds its type.
 cell-is : (s : Solid) (z : State) → ((q : ℕ) → length (typesAt z q) ≡ size s q) → (old : List ℕ) (r e : ℕ) → Proper s r → e < size s r
     → typeCell s (written (given s z) old) r e ≡ typeOf z r e
 unfolding written given properRanks beforeIn
@@ -48,15 +50,23 @@ cell-is s z each old r e p h =
     ∙ join-cell (typesAt z) (drop (length (given s z)) old) 1 (top s - 1) (r - 1) e (omega (arith, p)) (rw q (omega (arith, each r)))
     ∙ ap (λ (k : ℕ). getD (typesAt z k) e 0) q
 
-pub demand3-outputs : Demand3Outputs
-demand3-outputs b words floats old new n done =
-    let d = demand3-calls b words floats old n (sym (ap (λ (x : Answer × TypesOut). x .0) done)) in
+-- The cells that a types call leaves hold the types of its result, so a claim about the result is one about the cells.
+pub call-cell : (b : List ℕ) (words floats : ℕ) (old new : TypesOut) (n : ℕ) (t : Answer) → (t, new) ≡ typesCall b words floats old
+    → (d : Demand3Call b words floats old n) (r e : ℕ) → Proper (d .solid .abs) r → e < size (d .solid .abs) r
+    → typeCell (d .solid .abs) (new .elements) r e ≡ typeOf (d .result) r e
+call-cell b words floats old new n t done d r e p h =
     let s = d .solid .abs in
     let z = d .result in
     let cells : new .elements ≡ written (given s z) (old .elements) = ap (λ (x : Answer × TypesOut). x .1 .elements) done ∙ d .elements in
     let each : (q : ℕ) → length (typesAt z q) ≡ size s q = λ q. type-laws .ranks (d .solid) z (d .ended) q .numbered .each in
-    let at : (r e : ℕ) → Proper s r → e < size s r → typeCell s (new .elements) r e ≡ typeOf z r e =
-    λ r e p h. ap (λ (l : List ℕ). typeCell s l r e) cells ∙ cell-is s z each (old .elements) r e p h in
+    ap (λ (l : List ℕ). typeCell s l r e) cells ∙ cell-is s z each (old .elements) r e p h
+
+pub demand3-outputs : Demand3Outputs
+demand3-outputs b words floats old new n done =
+    let d = demand3-calls b words floats old n (sym (ap (λ (x : Answer × TypesOut). x .0) done)) in
+    let s = d .solid .abs in
+    let at : (r e : ℕ) → Proper s r → e < size s r → typeCell s (new .elements) r e ≡ typeOf (d .result) r e =
+    call-cell b words floats old new n (Done n) done d in
     record {
       solid = d .solid;
       read = d .read;
@@ -71,7 +81,7 @@ demand3-outputs b words floats old new n done =
           };
     }
 
--- both claims of the call, whatever its answer
+-- The call's contract makes both claims whatever its answer is.
 pub told : (b : List ℕ) (words floats : ℕ) (old new : TypesOut) (r : Answer) → (r, new) ≡ typesCall b words floats old
     → ((r, new) ≡ typesCall b words floats old) × ((n : ℕ) → r ≡ Done n → Demand3Cells b words floats (new .elements))
 told b words floats old new r e = (e, λ n done. demand3-outputs b words floats old new n (ap (λ (x : Answer). (x, new)) (sym done) ∙ e))
