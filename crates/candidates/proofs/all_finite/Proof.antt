@@ -37,7 +37,7 @@ all-finite-spec =
     (λ c κs. search needs)
     (λ c. search needs)
     (λ c. search needs)
-    -- loop-again, returns, returns-2
+    -- The needs are loop-again, returns and returns-2.
     (λ c. let l = c .before .before .before .before .loop in let s = c .before .before .before .before .before in let h = c .before .before .before .loop-test .taken in (
       omega (arith, h),
       every-yes (every finite) [] _ (l .i) (omega (arith, h, long s)) (l .inv .1) (ap (every finite) (row-corner (s .args .d) (s .args .t1) (l .i) h) ∙ sym (c .before .row-finite .ensures) ∙ c .if1 .taken),

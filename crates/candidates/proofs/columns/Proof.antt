@@ -25,25 +25,25 @@ columns-spec =
     tie.close
     (tie.spec Inv μ
     (λ c. search needs)
-    -- loaded-requires
+    -- The need is loaded-requires.
     (λ c κs. let s = c .before .before .before in let a = s .args in (s .pre .0 .wide, vertex-in (a .sh) (a .w .now) (a .points .now) (s .pre .0) (s .pre .1 .1 .1 .0) (s .pre .1 .1 .1 .1) (a .flag .elements) (s .pre .1 .1 .0)))
     (λ c. search needs)
-    -- loop-holds, turned-requires
+    -- The needs are loop-holds and turned-requires.
     (λ c. let s = c .before .before .before .before in let a = s .args in
     walk-first (a .sh) (a .w .now) (a .points .now) (s .pre .0) (s .pre .1 .1 .1 .0) (s .pre .1 .1 .1 .1) (a .flag .elements) (s .pre .1 .1 .0) (replicate 4 (replicate 4 (ofBits binary64 0))) (omega arith) (c .loaded .result) (c .loaded .ensures))
     (λ c κs. let l = c .before .loop in let s = c .before .before .before .before .before .before in (s .pre .0, (s .pre .1 .0, (l .inv .flag, s .pre .1 .1 .1 .0))))
     (λ c. search needs)
-    -- loaded-requires-2
+    -- The need is loaded-requires-2.
     (λ c κs. let u = c .before .turned in let s = c .before .before .before .before .before .before .before .before in let a = s .args in
     (s .pre .0 .wide, vertex-in (a .sh) (a .w .now) (a .points .now) (s .pre .0) (s .pre .1 .1 .1 .0) (s .pre .1 .1 .1 .1) (u .result .elements) (u .ensures .flag)))
     (λ c. search needs)
     (λ c. let s = c .before .before .before .before .before .before .before .before .before in omega (arith, c .before .before .before .loop-test .taken, s .pre .0 .wide))
     (λ c. search needs)
     (λ c. search needs)
-    -- loop-again
+    -- The need is loop-again.
     (λ c. let u = c .before .before .turned in let i = c .before .before .before in let l = i .before .loop in let s = c .before .before .before .before .before .before .before .before .before in let a = s .args in
     walk-next (a .sh) (a .w .now) (a .points .now) (s .pre .0) (s .pre .1 .1 .1 .0) (s .pre .1 .1 .1 .1) (u .result .elements) (u .ensures .flag) _ _ _ (l .rows) (l .i) (l .inv) (i .loop-test .taken) (omega (arith, i .loop-test .taken, s .pre .0 .wide)) (u .ensures) (c .loaded2 .result) (c .loaded2 .ensures))
-    -- from-columns-requires, returns
+    -- The needs are from-columns-requires and returns.
     (λ c κs. c .before .before .before .before .before .before .pre .0 .wide)
     (λ c. let l = c .before .before .loop in let s = c .before .before .before .before .before .before .before in let a = s .args in
     columns-are (a .sh) (a .w .now) (a .points .now) (s .pre .0) (s .pre .1 .1 .1 .0) (s .pre .1 .1 .1 .1) _ _ _ (l .rows) (c .from-columns .result) (l .i) (l .inv) (c .before .loop-test .left)

@@ -46,20 +46,20 @@ no-double-spec =
     tie.close
     (tie.spec Inv μ
     (λ c. (search needs, refl))
-    -- loaded-requires
+    -- The need is loaded-requires.
     (λ c κs. let s = c .before .before .before in let a = s .args in (s .pre .0, omega (arith, part-end (a .n) (a .d) (c .before .loop .i) (c .loop-test .taken), s .pre .1)))
     (λ c. search needs)
-    -- mul-start, mul-later, sub-later, part-later-start, part-later-end
+    -- The needs are mul-start, mul-later, sub-later, part-later-start and part-later-end.
     (λ c. omega (arith, start c))
     (λ c. omega (arith, start c))
     (λ c. omega (arith, start c))
     (λ c. omega (arith, start c))
     (λ c. omega (arith, start c))
     (λ c. search needs)
-    -- find-requires
+    -- The need is find-requires.
     (λ c κs. let l = c .before in let s = l .before .before .before .before in let a = s .args in
     (s .pre .0, later-in (a .n) (a .d) (l .before .before .loop .i) (a .points .now) (l .before .loop-test .taken) (s .pre .1)))
-    -- enum-told, returns, enum-told-2, loop-less
+    -- The needs are enum-told, returns, enum-told-2 and loop-less.
     (λ c. search needs)
     returns
     (λ c. search needs)

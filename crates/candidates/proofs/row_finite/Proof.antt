@@ -32,7 +32,7 @@ row-finite-spec =
     (λ c κs. search needs)
     (λ c. search needs)
     (λ c. search needs)
-    -- loop-again, returns, returns-2
+    -- The needs are loop-again, returns and returns-2.
     (λ c. let l = c .before .before .before .loop in let s = c .before .before .before .before in let h = c .before .before .loop-test .taken in (
       omega (arith, h),
       every-yes finite nan _ (l .i) (omega (arith, h, long s)) (l .inv .1) (ap finite (getD-take (s .args .d) (s .args .t1) (l .i) nan h) ∙ sym (c .before .is-finite .ensures) ∙ c .if1 .taken),

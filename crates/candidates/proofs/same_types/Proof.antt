@@ -34,20 +34,20 @@ same-types-spec =
     (tie.spec Inv μ
     (λ c. (search needs, refl))
     (λ c. search needs)
-    -- array-read-at, add-at
+    -- The needs are array-read-at and add-at.
     (λ c. omega (arith, c .loop-test .taken, c .before .before .before .before .before .before .pre .0 .tall))
     (λ c. omega (arith, word c))
     (λ c. search needs)
-    -- array-read-get, add-get, get-requires
+    -- The needs are array-read-get, add-get and get-requires.
     (λ c. omega (arith, c .loop-test .taken, c .before .before .before .before .before .before .pre .0 .tall))
     (λ c. omega (arith, word c))
     (λ c κs. word c)
     (λ c. search needs)
-    -- array-read-get-2, add-get-2, get-requires-2
+    -- The needs are array-read-get-2, add-get-2 and get-requires-2.
     (λ c. omega (arith, c .before .loop-test .taken, c .before .before .before .before .before .before .before .pre .0 .tall))
     (λ c. omega (arith, word-2 (c .before)))
     (λ c κs. word-2 (c .before))
-    -- returns, add-r, loop-less, loop-again, returns-2
+    -- The needs are returns, add-r, loop-less, loop-again and returns-2.
     (λ c. let i = c .before .before .before in let l = i .before .loop in let s = i .before .before .before .before .before .before in let a = s .args in
     range-no _ 0 (suc (a .sh .rank)) (l .r) (l .r) (omega arith) (omega (arith, i .loop-test .taken)) (l .inv .1)
     (ne-eqb _ _ (λ e. c .if1 .taken (c .before .before .get .ensures ∙ e ∙ sym (c .before .get2 .ensures))))

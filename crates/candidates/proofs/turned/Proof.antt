@@ -23,7 +23,7 @@ turned-spec =
     tie.close
     (tie.spec Inv μ
     (λ c. let s = c .before in let a = s .args in turn-first _ _ (s .pre .1 .1 .0) (omega (arith, s .pre .1 .1 .1, top-is (a .sh) (a .w .now))))
-    -- change-requires
+    -- The need is change-requires.
     (λ c κs. let l = c .before .loop in let s = c .before .before .before in let a = s .args in
     let inside = flag-in (a .sh) (a .w .now) (s .pre .0) (l .f .elements) (l .inv .flag) in (
       s .pre .0,
@@ -34,7 +34,7 @@ turned-spec =
     ))
     (λ c. search needs)
     (λ c. omega (arith, c .before .loop-test .taken))
-    -- loop-again, returns
+    -- The needs are loop-again and returns.
     (λ c. let l = c .before .before .loop in let s = c .before .before .before .before in let a = s .args in
     turn-next _ _ _ (l .r) (l .inv) (s .pre .0 .sound) (s .pre .1 .0) (omega (arith, c .before .loop-test .taken, top-is (a .sh) (a .w .now))) _ (c .change .ensures))
     (λ c. let l = c .before .loop in let s = c .before .before .before in let a = s .args in

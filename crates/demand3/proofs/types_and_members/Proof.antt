@@ -10,7 +10,7 @@ pub types-and-members-spec : {M : Type 1} → statement M
 types-and-members-spec =
     tie.close
     (tie.spec
-    -- element-types-requires, search-requires
+    -- The needs are element-types-requires and search-requires.
     (λ c κs. search needs)
     (λ c κs. search needs)
     -- same-length, for each slice
@@ -21,7 +21,7 @@ types-and-members-spec =
     (λ c. search needs)
     (λ c. search needs)
     (λ c. search needs)
-    -- returns
+    -- The need is returns.
     (λ c. let s = c .before .before .before .before .before .before .before .before .before .before in
     let e = s .before .before .before .before .before .before .before .before .before .before .before .before .before .before in
     let t = e .element-types .ensures in

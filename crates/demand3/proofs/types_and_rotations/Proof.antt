@@ -10,7 +10,7 @@ pub types-and-rotations-spec : {M : Type 1} → statement M
 types-and-rotations-spec =
     tie.close
     (tie.spec
-    -- element-types-requires, rotations-requires
+    -- The needs are element-types-requires and rotations-requires.
     (λ c κs. search needs)
     (λ c κs. search needs)
     -- same-length, for each slice
@@ -21,7 +21,7 @@ types-and-rotations-spec =
     (λ c. search needs)
     (λ c. search needs)
     (λ c. search needs)
-    -- returns
+    -- The need is returns.
     (λ c. let s = c .before .before .before .before .before .before .before .before .before .before in
     let e = s .before .before .before .before .before .before .before .before .before .before .before .before .before .before in
     let t = e .element-types .ensures in

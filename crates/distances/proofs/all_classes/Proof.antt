@@ -17,7 +17,7 @@ pub all-classes-spec : {M : Type 1} → statement M
 all-classes-spec =
     tie.close
     (tie.spec Inv μ
-    -- returns
+    -- The need is returns.
     (λ c. let s = c .before .before .before in none-classed (s .args .sh) (s .args .w .now) (s .args .floats .now) (s .pre .0) (c .if1 .taken))
     -- vd: two reads, sub, mul
     (λ c. search needs)
@@ -28,12 +28,12 @@ all-classes-spec =
     (λ c. let s = c .before .before .before .before in
     first-round (s .args .sh) (s .args .w .now) (s .args .floats .now) _ (cells-are (s .args .sh) (s .args .w .now) (omega (arith, c .before .if1 .left))) (omega (arith, c .before .if1 .left)))
     (λ c κs. let l = c .before .before in let s = l .before .before .before .before .before in ready (l .loop .inv) (s .pre .0) (s .pre .1) (c .before .loop-test .taken))
-    -- add-r, loop-less, loop-again
+    -- The needs are add-r, loop-less and loop-again.
     (λ c. let t = c .before .before .before .before in omega (arith, t .loop-test .taken, t .before .before .before .before .before .before .pre .0 .tall))
     (λ c. search needs)
     (λ c. let t = c .before .before .before .before in
     let l = t .before in
     next-round (l .loop .inv) (l .before .before .before .before .before .pre .0) (t .loop-test .taken) _ _ (c .before .before .classes-of-rank .ensures))
-    -- same-length, returns-2
+    -- The needs are same-length and returns-2.
     (λ c. c .before .loop .inv .grown .long)
     (λ c. last-round (c .before .loop .inv) (c .loop-test .left)))

@@ -37,19 +37,19 @@ classes-of-rank-spec =
     (λ c. let a = c .before .before .before .pre in omega (arith, ranks-fit a))
     (λ c. let a = c .before .before .before .pre in omega (arith, ranks-fit a))
     (λ c. omega (arith, some-here (c .before .before .before .pre)))
-    -- loop-holds
+    -- The need is loop-holds.
     (λ c. let a = c .before .before .before .args in first-turn (a .sh) (a .w .now) (a .floats .now) (a .vd) (a .n) (a .r))
-    -- slice-reshare-prefix, slice-aggregate, element-distance-requires
+    -- The needs are slice-reshare-prefix, slice-aggregate and element-distance-requires.
     (λ c. lies (c .before .loop .inv) (c .before .before .before .before .before .pre))
     (λ c. let l = c .before .before in let s = l .before .before .before .before in sym (length-take-le (s .args .vd) (l .loop .floats) (lies (l .loop .inv) (s .pre))))
     (λ c κs. let l = c .before .before in let a = l .before .before .before .before .pre in
     (a .held, ((a .low, omega (arith, a .high), in-rank (l .loop .inv) a (c .before .loop-test .taken)), points-fit (l .loop .inv) a)))
-    -- add-take-class, take-class-requires
+    -- The needs are add-take-class and take-class-requires.
     (λ c. let l = c .before .before .before .before in let a = l .before .before .before .before .pre in
     omega (arith, inside (l .loop .inv) a (c .before .before .before .loop-test .taken), l .loop .inv .grown .long))
     (λ c κs. let l = c .before .before .before .before in let a = l .before .before .before .before .pre in
     (apart (l .loop .inv) a (c .before .before .before .loop-test .taken), inside (l .loop .inv) a (c .before .before .before .loop-test .taken)))
-    -- add-e, loop-less, loop-again
+    -- The needs are add-e, loop-less and loop-again.
     (λ c. let t = c .before .before .before .before .before .before in
     let l = t .before in
     let s = l .before .before .before .before in
@@ -59,6 +59,6 @@ classes-of-rank-spec =
     (λ c. let t = c .before .before .before .before in
     let l = t .before .before .before in
     next-turn (l .loop .inv) (l .before .before .before .before .pre) (t .before .before .loop-test .taken) _ (t .element-distance .ensures) _ _ (c .before .before .take-class .ensures))
-    -- same-length, returns
+    -- The needs are same-length and returns.
     (λ c. c .before .loop .inv .grown .long)
     (λ c. let l = c .before in last-turn (l .loop .inv) (l .before .before .before .before .pre) (c .loop-test .left)))

@@ -13,14 +13,14 @@ exchange-spec = tie.close (tie.spec
     -- add-first-of, first-of-requires-2
     (λ c. let s = c .before .before .before .before in omega (arith, past-fits _ _ (s .args .words .now) (s .pre .0) _ (s .pre .1)))
     (λ c κs. let s = c .before .before .before .before in past-fits _ _ (s .args .words .now) (s .pre .0) _ (s .pre .1))
-    -- add-swap-lists, swap-lists-requires
+    -- The needs are add-swap-lists and swap-lists-requires.
     (λ c. let o = c .before .before .before in
     let s = o .before .before .before in
     omega (arith, facet-fits _ _ (s .args .words .now) (s .pre .0) _ (s .pre .1) _ (o .first-of .ensures)))
     (λ c κs. let o = c .before .before .before in
     let s = o .before .before .before in
     lists-fit _ _ (s .args .words .now) (s .pre .0) _ (s .pre .1) _ (o .first-of .ensures))
-    -- mul-derive-sups, add-derive-sups, derive-sups-requires
+    -- The needs are mul-derive-sups, add-derive-sups and derive-sups-requires.
     (λ c. let x = c .before .before .before in
     let n = x .before .before in
     let o = n .before .before in
@@ -36,7 +36,7 @@ exchange-spec = tie.close (tie.spec
     let o = n .before .before in
     let s = o .before .before .before in
     derive-call _ _ (s .args .words .now) (s .pre .0) _ (s .pre .1) _ (o .first-of .ensures) _ (n .first-of2 .ensures) _ (x .swap-lists .ensures))
-    -- same-length, returns
+    -- The needs are same-length and returns.
     (λ c. search needs)
     (λ c. let y = c .before .before in
     let e = y .derive-sups .ensures in

@@ -24,14 +24,14 @@ down-spec =
     (tie.spec Inv μ
     (λ c. search needs)
     (λ c. search needs)
-    -- loop-holds
+    -- The need is loop-holds.
     (λ c. let s = c .before in record { low = s .pre .1 .0; inside = s .pre .1 .1; here = refl; long = search needs; done = refl })
-    -- first-sub-requires, sub-r, mul-elements, array-write-elements
+    -- The needs are first-sub-requires, sub-r, mul-elements and array-write-elements.
     (λ c κs. let l = c .before .loop in let s = c .before .before .before in (s .pre .0, (c .loop-test .taken, l .inv .low, l .inv .inside)))
     (λ c. search needs)
     (λ c. let s = c .before .before .before .before in omega (arith, c .before .before .loop .inv .low, s .pre .0 .tall))
     (λ c. let s = c .before .before .before .before in omega (arith, c .before .before .loop .inv .low, s .pre .0 .tall))
-    -- loop-less, loop-again, returns
+    -- The needs are loop-less, loop-again and returns.
     (λ c. omega (arith, c .before .loop-test .taken))
     (λ c. let l = c .before .before .loop in let s = c .before .before .before .before in let a = s .args in
     next-down (a .sh) (a .w .now) (s .pre .0) _ (l .elements) (l .r) (l .e) (l .inv) (c .before .loop-test .taken) (c .first-sub .result) (c .first-sub .ensures))

@@ -9,7 +9,7 @@ pub first-sub-spec : {M : Type 1} → statement M
 first-sub-spec =
     tie.close
     (tie.spec
-    -- sub-requires, returns
+    -- The needs are sub-requires and returns.
     (λ c κs. let s = c .before in let a = s .args in
     (s .pre .0, (s .pre .1 .1, s .pre .1 .2, some-sub (a .sh) (a .w .now) (s .pre .0) (a .r) (a .e) (s .pre .1 .0) (s .pre .1 .1) (s .pre .1 .2))))
     (λ c. search needs))

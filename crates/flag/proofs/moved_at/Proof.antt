@@ -19,12 +19,12 @@ moved-at-spec =
     (λ c. search needs)
     (λ c. search needs)
     (λ c. search needs)
-    -- subs-at-requires, count-at-requires
+    -- The needs are subs-at-requires and count-at-requires.
     (λ c κs. let s = c .before .before in let a = s .args in omega (arith, word-fits (a .sh) (a .w .now) (s .pre .0) (a .t3) (a .r) (s .pre .1 .0) (s .pre .1 .1)))
     (λ c κs. let s = c .before .before .before in let a = s .args in above-lies (a .sh) (a .w .now) (s .pre .0) (a .t3) (a .r) (s .pre .1 .0) (s .pre .1 .1) (c .subs-at .result) (c .subs-at .ensures))
     (λ c. search needs)
     (λ c. search needs)
-    -- place-at-requires, add-if1
+    -- The needs are place-at-requires and add-if1.
     (λ c κs. let s = c .before .before .before .before in let a = s .args in
     above-lies (a .sh) (a .w .now) (s .pre .0) (a .t3) (a .r) (s .pre .1 .0) (s .pre .1 .1) (c .before .subs-at .result) (c .before .subs-at .ensures))
     (λ c. let s = c .before .before .before .before .before in let a = s .args in
@@ -33,14 +33,14 @@ moved-at-spec =
       place-fits (a .sh) (a .w .now) (s .pre .0) (a .t3) (a .r) (s .pre .1 .0) (s .pre .1 .1) (c .before .before .subs-at .result) (c .before .before .subs-at .ensures) (c .place-at .result) (c .before .count-at .result) (c .place-at .ensures) (c .before .count-at .ensures),
     ))
     (λ c. search needs)
-    -- entry-at-requires
+    -- The need is entry-at-requires.
     (λ c κs. let p = c .before in let s = p .before .before .before .before .before in let a = s .args in (
       above-lies (a .sh) (a .w .now) (s .pre .0) (a .t3) (a .r) (s .pre .1 .0) (s .pre .1 .1) (p .before .before .subs-at .result) (p .before .before .subs-at .ensures),
       omega (arith, p .before .count-at .ensures),
     ))
     (λ c. search needs)
     (λ c. search needs)
-    -- down-requires, returns, returns-2
+    -- The needs are down-requires, returns and returns-2.
     (λ c κs. let p = c .before .before in let s = p .before .before .before .before .before in let a = s .args in (
       s .pre .0,
       (

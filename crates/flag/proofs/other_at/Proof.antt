@@ -41,21 +41,21 @@ other-at-spec =
     tie.close
     (tie.spec Inv μ
     (λ c κs. search needs)
-    -- loop-holds, entry-at-requires, add-k
+    -- The needs are loop-holds, entry-at-requires and add-k.
     (λ c. (search needs, c .count-at .ensures, refl))
     (λ c κs. (search needs, search needs))
     (λ c. search needs)
-    -- mul-holds-at, add-holds-at, holds-at-requires
+    -- The needs are mul-holds-at, add-holds-at and holds-at-requires.
     (λ c. omega (arith, lies (c .before)))
     (λ c. omega (arith, lies (c .before)))
     (λ c κs. lies (c .before))
-    -- returns
+    -- The need is returns.
     (λ c. let b = c .before .before .before in let l = b .before .before in
     ap some (b .entry-at .ensures)
     ∙ other-yes _ _ _ (l .loop .k) (omega (arith, b .before .loop-test .taken, l .loop .inv .1)) (l .loop .inv .2)
     (λ q. c .before .before .if1 .taken (b .entry-at .ensures ∙ q))
     (rw (b .entry-at .ensures) at (sym (c .before .holds-at .ensures) ∙ c .if2 .taken)))
-    -- loop-less, loop-again
+    -- The needs are loop-less and loop-again.
     (λ c. search needs)
     (λ c. let b = c .before .before .before in let l = b .before .before in (
       omega (arith, b .before .loop-test .taken),
@@ -63,7 +63,7 @@ other-at-spec =
       other-no _ _ _ (l .loop .k) (omega (arith, b .before .loop-test .taken, l .loop .inv .1)) (l .loop .inv .2)
           (rw (b .entry-at .ensures) at (sym (c .before .holds-at .ensures) ∙ c .if2 .left)),
     ))
-    -- loop-less-2, loop-again-2, returns-2
+    -- The needs are loop-less-2, loop-again-2 and returns-2.
     (λ c. search needs)
     (λ c. let b = c .before in let l = b .before .before in (
       omega (arith, b .before .loop-test .taken),

@@ -14,5 +14,5 @@ other-between-spec =
     (λ c. search needs)
     (λ c κs. search needs)
     (λ c. search needs)
-    -- returns-2
+    -- The need is returns-2.
     (λ c. cc))

@@ -10,7 +10,7 @@ pub jidwaleb-rotations-spec : {M : Type 1} → statement M
 jidwaleb-rotations-spec =
     tie.close
     (tie.spec
-    -- rotations-requires, code-requires
+    -- The needs are rotations-requires and code-requires.
     (λ c κs. search needs)
     (λ c κs. fits _ _ _ (c .before .before .before .before .before .before .before .before .before .before .rotations .ensures .0) (rotations-count _ _ _ _))
     -- same-length, for each slice
@@ -19,7 +19,7 @@ jidwaleb-rotations-spec =
     (λ c. search needs)
     (λ c. search needs)
     (λ c. search needs)
-    -- returns
+    -- The need is returns.
     (λ c. let s = c .before .before .before .before .before .before .before .before .before .before .before .rotations .ensures in
     let k = rotations-count _ _ _ _ in
     let p = c .code .ensures in

@@ -10,7 +10,7 @@ pub jidwaleb-search-spec : {M : Type 1} → statement M
 jidwaleb-search-spec =
     tie.close
     (tie.spec
-    -- search-requires, code-requires
+    -- The needs are search-requires and code-requires.
     (λ c κs. search needs)
     (λ c κs. fits _ _ _ (c .before .before .before .before .before .before .before .before .before .before .search .ensures .0) (search-count _ _ _ _))
     -- same-length, for each slice
@@ -19,7 +19,7 @@ jidwaleb-search-spec =
     (λ c. search needs)
     (λ c. search needs)
     (λ c. search needs)
-    -- returns
+    -- The need is returns.
     (λ c. let s = c .before .before .before .before .before .before .before .before .before .before .before .search .ensures in
     let k = search-count _ _ _ _ in
     let p = c .code .ensures in

@@ -10,7 +10,7 @@ pub jidwaleb-types-spec : {M : Type 1} → statement M
 jidwaleb-types-spec =
     tie.close
     (tie.spec
-    -- element-types-requires, code-requires
+    -- The needs are element-types-requires and code-requires.
     (λ c κs. search needs)
     (λ c κs. fits _ _ _ (c .before .before .before .before .before .before .before .before .element-types .ensures .0) (types-count _ _ _ _))
     -- same-length, for each slice
@@ -18,7 +18,7 @@ jidwaleb-types-spec =
     (λ c. search needs)
     (λ c. search needs)
     (λ c. search needs)
-    -- returns
+    -- The need is returns.
     (λ c. let t = c .before .before .before .before .before .before .before .before .before .element-types .ensures in
     let k = types-count _ _ _ _ in
     let p = c .code .ensures in (

@@ -23,28 +23,28 @@ kit-text-spec =
     (λ c. search needs)
     (λ c. search needs)
     (λ c κs. search needs)
-    -- enum-known-answer, slice-aggregate-put-types
+    -- The needs are enum-known-answer and slice-aggregate-put-types.
     (λ c. search needs)
     (λ c. search needs)
-    -- put-types-requires
+    -- The need is put-types-requires.
     (λ c κs. let a = c .before .before .before in
     let e = a .before .before .before .before .before .before in
     let l = e .before .before .before .before .before in
     let d = done-text _ _ _ _ _ _ (e .element-types .ensures .0) (l .if1 .left) refl refl refl refl _ (a .answer .given .1) in
     (omega arith, d .0))
-    -- last-line-requires
+    -- The need is last-line-requires.
     (λ c κs. c .before .put-types .ensures .1)
-    -- enum-known-answer-2, refused-requires-2
+    -- The needs are enum-known-answer-2 and refused-requires-2.
     (λ c. search needs)
     (λ c κs. omega (arith, refused-long (c .before .before .answer2 .given .0 .0)))
-    -- returns-2
+    -- The need is returns-2.
     (λ c. let b = c .before .before in
     let a = b .before .before .before .before in
     let e = a .before .before .before .before .before .before in
     let l = e .before .before .before .before .before in
     let d = done-text _ _ _ _ _ _ (e .element-types .ensures .0) (l .if1 .left) refl refl refl refl _ (a .answer .given .1) in
     puts-is (puts-then (b .put-types .ensures .0) (c .last-line .ensures)) (d .1))
-    -- returns-3
+    -- The need is returns-3.
     (λ c. let a = c .before .before .before in
     let e = a .before .before .before .before .before .before in
     let l = e .before .before .before .before .before in

@@ -27,43 +27,43 @@ last-line-spec =
     (λ c. search needs)
     (λ c. search needs)
     (λ c κs. search needs)
-    -- enum-known-answer, dimension-requires, slice-aggregate-confirmed
+    -- The needs are enum-known-answer, dimension-requires and slice-aggregate-confirmed.
     (λ c. search needs)
     (λ c κs. search needs)
     (λ c. search needs)
-    -- confirmed-requires
+    -- The need is confirmed-requires.
     (λ c κs. let d = c .before in
     let a = d .before .before in
     let h = marks-hold _ _ _ _ _ _ (searched a .search .ensures .0) refl refl refl refl refl _ (a .answer .given .1) _ (d .dimension .ensures) in
     (omega (arith, h), omega (arith, h)))
-    -- slice-aggregate-rotations
+    -- The need is slice-aggregate-rotations.
     (λ c. search needs)
-    -- rotations-requires
+    -- The need is rotations-requires.
     (λ c κs. let d = c .before .before .before in
     let a = d .before .before in
     let e = searched a .search .ensures .0 in (
       flat _ _ _ _ _ _ e refl refl refl refl refl _ (a .answer .given .1) _ (d .dimension .ensures),
       omega (arith, matrices-hold _ _ _ _ _ _ e refl refl refl refl refl _ (a .answer .given .1) _ (d .dimension .ensures)),
     ))
-    -- members-requires
+    -- The need is members-requires.
     (λ c κs. let r = c .before in
     let f = r .before .before in
     let d = f .before .before in
     let a = d .before .before in
     omega (arith, entry (searched a) .pre, members-long (a .answer .given .0 .0) (f .confirmed .result) (r .rotations .result) (omega arith) (omega arith) (omega arith)))
-    -- enum-known-answer-2, refused-requires
+    -- The needs are enum-known-answer-2 and refused-requires.
     (λ c. search needs)
     (λ c κs. let a = c .before .before in
     let s = entry (a .before .before .before .before .before .before .before) in
     omega (arith, s .pre, refused-long (a .answer2 .given .0 .0)))
-    -- returns
+    -- The need is returns.
     (λ c. let r = c .before .before in
     let f = r .before .before in
     let d = f .before .before in
     let a = d .before .before in
     let l = done-last _ _ _ _ _ _ (searched a .search .ensures .0) refl refl refl refl refl _ (a .answer .given .1) _ (d .dimension .ensures) in
     puts-is (rw (f .confirmed .ensures, r .rotations .ensures) at (c .members .ensures)) l)
-    -- returns-2
+    -- The need is returns-2.
     (λ c. let a = c .before .before .before in
     let e = a .before .before .before .before .before .before .before in
     puts-is (c .refused .ensures) (refused-last _ _ _ _ _ _ (e .search .ensures .0) refl refl refl refl refl _ _ (a .answer2 .given .1))))

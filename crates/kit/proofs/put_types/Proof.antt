@@ -10,11 +10,11 @@ pub put-types-spec : {M : Type 1} → statement M
 put-types-spec =
     tie.close
     (tie.spec
-    -- element-types-requires
+    -- The need is element-types-requires.
     (λ c κs. let k = c .before in
     let s = k .before in
     (s .pre .0, omega (arith, types-long (s .args .table .now) (λ i. omega (arith, k .shared-slice-known .given i)) (s .args .n) (s .pre .0) (omega arith))))
-    -- returns
+    -- The need is returns.
     (λ c. let k = c .before .before in
     let s = k .before in
     let p = c .element-types .ensures in

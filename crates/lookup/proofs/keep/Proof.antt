@@ -17,7 +17,7 @@ pub keep-spec : {M : Type 1} → statement M
 keep-spec =
     tie.close
     (tie.spec Inv μ
-    -- loop-holds, add-p, mul-if1, element-copy-out-if1, cast-table, mul-table, element-write-table
+    -- The needs are loop-holds, add-p, mul-if1, element-copy-out-if1, cast-table, mul-table and element-write-table.
     (λ c. (search needs, refl))
     (λ c. search needs)
     (λ c. search needs)
@@ -25,9 +25,9 @@ keep-spec =
     (λ c. search needs)
     (λ c. search needs)
     (λ c. search needs)
-    -- returns
+    -- The need is returns.
     (λ c. λ n b a. let l = c .before .before .before in named-set n (l .loop .table) _ _ b (rw (l .loop .inv .1) a))
-    -- add-i, loop-less, loop-again, returns-2
+    -- The needs are add-i, loop-less, loop-again and returns-2.
     (λ c. search needs)
     (λ c. search needs)
     (λ c. (search needs, c .before .before .before .loop .inv .1))

@@ -24,12 +24,12 @@ pub places-spec : {M : Type 1} → statement M
 places-spec =
     tie.close
     (tie.spec Inv μ
-    -- loop-holds, loaded-requires, place-requires, keep-requires
+    -- The needs are loop-holds, loaded-requires, place-requires and keep-requires.
     (λ c. (search needs, named-none _ 4096))
     loaded-requires
     (λ c κs. search needs)
     (λ c κs. search needs)
-    -- add-k, loop-less, loop-again, returns
+    -- The needs are add-k, loop-less, loop-again and returns.
     (λ c. search needs)
     (λ c. search needs)
     (λ c. let t = c .before .before .before .before in (search needs, c .keep .ensures _ (t .loop-test .taken) (t .before .loop .inv .1)))

@@ -31,7 +31,7 @@ carry-all-spec =
     (λ c. let s = c .before .before .before .before .before .before .before in
     let r = c .before .loop .r in
     rw (add-one r) (omega (arith, s .pre .0 .held .some r (omega (arith, c .loop-test .taken)))))
-    -- carry-rank-requires, same-length, returns
+    -- The needs are carry-rank-requires, same-length and returns.
     (λ c κs. let t = c .before in
     let l = t .before in
     let s = l .before .before .before .before .before .before in
@@ -40,7 +40,7 @@ carry-all-spec =
     (λ c. let k = c .before .before .before in
     let t = k .before .before in
     round-stop (t .before .loop .inv) (t .loop-test .taken) (sym (not-true _ (c .if1 .taken)) ∙ k .carry-rank .ensures .0))
-    -- add-r, loop-less, loop-again, same-length-2, returns-2
+    -- The needs are add-r, loop-less, loop-again, same-length-2 and returns-2.
     (λ c. search needs)
     (λ c. search needs)
     (λ c. let k = c .before .before .before in

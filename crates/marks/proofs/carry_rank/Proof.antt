@@ -61,13 +61,13 @@ carry-rank-spec =
     let t = i .before .before in
     let l = t .before in
     (turn-stop (l .loop .inv) (start t .pre .0 .0 .held) (t .loop-test .taken) (rw (c .enum-told .given .1) at (i .image-of .ensures)), (λ z. absurd (false≢true z))))
-    -- cast-goes, add-goes, mul-goes, slice-write-goes, add-e
+    -- The needs are cast-goes, add-goes, mul-goes, slice-write-goes and add-e.
     (λ c. omega (arith, small c))
     (λ c. omega (arith, lies c))
     (λ c. omega (arith, lies c))
     (λ c. lies c)
     (λ c. search needs)
-    -- loop-less, loop-again, same-length-2, returns-2
+    -- The needs are loop-less, loop-again, same-length-2 and returns-2.
     (λ c. search needs)
     (λ c. let t = turn c in turn-next (t .before .loop .inv) (start t .pre .0 .0 .held) (t .loop-test .taken) _ (carried c))
     (λ c. c .before .loop .inv .long)

@@ -37,14 +37,14 @@ first-onto-spec =
     tie.close
     (tie.spec Inv μ
     (λ c κs. search needs)
-    -- loop-holds, entry-at-requires
+    -- The needs are loop-holds and entry-at-requires.
     (λ c. (search needs, c .count-at .ensures, refl))
     (λ c κs. (search needs, search needs))
     -- mul-is-onto, add-is-onto, is-onto-requires
     (λ c. omega (arith, lies c .head))
     (λ c. omega (arith, lies c .head))
     (λ c κs. let s = c .before .before .before .before .before .before in ((s .pre .0 .0, lies c), s .pre .1))
-    -- returns, add-k, loop-less, loop-again, returns-2
+    -- The needs are returns, add-k, loop-less, loop-again and returns-2.
     (λ c. let e = c .before .before in
     let l = e .before .before in
     let a = l .before .before .before .before .args in

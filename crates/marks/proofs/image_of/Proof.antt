@@ -50,11 +50,11 @@ image-of-spec =
     (λ c κs. search needs)
     (λ c. search needs)
     (λ c. search needs)
-    -- returns
+    -- The need is returns.
     (λ c. let g = c .before .before in
     let a = g .before .before .before .before .before .args in
     rw (c .enum-told .given .1) at (g .reach .ensures (classesOn (a .sh) (a .w .now) (a .floats .now))))
     one-class-requires
-    -- returns-2, returns-3
+    -- The needs are returns-2 and returns-3.
     (λ c. its-class _ _ _ _ _ _ _ (gone (c .before .before)) _ (shared (c .before)) (c .if1 .taken))
     (λ c. other-class _ _ _ _ _ _ _ (gone (c .before .before)) _ (shared (c .before)) (c .if1 .left)))

@@ -12,7 +12,7 @@ is-onto-spec =
     (tie.spec
     (λ c κs. search needs)
     (λ c κs. search needs)
-    -- returns, lands-requires, returns-2
+    -- The needs are returns, lands-requires and returns-2.
     (λ c. let n = c .before in onto-not _ _ _ (λ q. c .if1 .taken (n .before .count-at .ensures ∙ q ∙ sym (n .count-at2 .ensures))))
     (λ c κs. search needs)
     (λ c. let n = c .before .before in onto-is _ _ _ (sym (n .before .count-at .ensures) ∙ c .before .if1 .left ∙ n .count-at2 .ensures) _ (c .lands .ensures)))

@@ -17,14 +17,14 @@ pub is-permutation-spec : {M : Type 1} → statement M
 is-permutation-spec =
     tie.close
     (tie.spec Inv μ
-    -- loop-holds, cell-requires
+    -- The needs are loop-holds and cell-requires.
     (λ c. seen-none (c .before .args .row .now) 2048 (c .before .pre))
     (λ c κs. omega (arith, c .loop-test .taken, c .before .loop .inv .n-is))
-    -- returns, array-read-if2, returns-2
+    -- The needs are returns, array-read-if2 and returns-2.
     (λ c. let l = c .before .before in seen-high (l .before .loop .inv) _ (c .before .cell .ensures) (l .loop-test .taken) (c .if1 .taken))
     (λ c. let l = c .before .before .before in omega (arith, c .if1 .left, l .loop .inv .n-is, l .before .before .pre))
     (λ c. let l = c .before .before .before in seen-twice (l .before .loop .inv) _ (c .before .before .cell .ensures) (l .loop-test .taken) (c .if2 .taken))
-    -- array-write-seen, add-k, loop-less, loop-again, returns-3
+    -- The needs are array-write-seen, add-k, loop-less, loop-again and returns-3.
     (λ c. let l = c .before .before .before .before in omega (arith, c .before .if1 .left, l .loop .inv .n-is, l .before .before .pre))
     (λ c. search needs)
     (λ c. search needs)

@@ -36,14 +36,14 @@ lands-spec =
     tie.close
     (tie.spec Inv μ
     (λ c κs. search needs)
-    -- loop-holds, entry-at-requires
+    -- The needs are loop-holds and entry-at-requires.
     (λ c. (search needs, c .count-at .ensures, refl))
     (λ c κs. (search needs, search needs))
-    -- add-cell, cell-requires, holds-at-requires
+    -- The needs are add-cell, cell-requires and holds-at-requires.
     (λ c. omega (arith, lies c))
     (λ c κs. lies c)
     (λ c κs. search needs)
-    -- returns, add-k, loop-less, loop-again, returns-2
+    -- The needs are returns, add-k, loop-less, loop-again and returns-2.
     (λ c. let e = c .before .before .before in
     let l = e .before .before in
     let a = l .before .before .before .before .args in

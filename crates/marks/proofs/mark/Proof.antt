@@ -32,18 +32,18 @@ mark-spec =
     let s = p .before .before .before .before .before .before in
     let a = s .args in
     no-row _ (classesOn (a .sh) (a .w .now) (a .floats .now)) (a .row .now) (s .pre .1 .1 .0) (apart-is (p .before)) (sym (p .is-permutation .ensures) ∙ not-true _ (c .if2 .taken)))
-    -- carry-all-requires
+    -- The need is carry-all-requires.
     (λ c κs. let e = c .before in
     let s = e .before .before .before .before .before .before .before in
     (record { held = s .pre .0 .0; apart = apart-is (e .before .before); full = s .pre .1 .1 .0; permuted = row-is e }, s .pre .0 .1, s .pre .1 .1 .1))
-    -- same-length, returns-3
+    -- The needs are same-length and returns-3.
     (λ c. c .before .before .before .carry-all .kept .1 .1 .1 .1 .0)
     (λ c. let k = c .before .before .before in
     let e = k .before .before in
     let s = e .before .before .before .before .before .before .before in
     let a = s .args in
     all-else _ (classesOn (a .sh) (a .w .now) (a .floats .now)) (a .row .now) (s .pre .1 .1 .0) (apart-is (e .before .before)) (row-is e) false (sym (not-true _ (c .if3 .taken)) ∙ k .carry-all .ensures))
-    -- same-length-2, returns-4
+    -- The needs are same-length-2 and returns-4.
     (λ c. c .before .before .before .carry-all .kept .1 .1 .1 .1 .0)
     (λ c. let k = c .before .before .before in
     let e = k .before .before in

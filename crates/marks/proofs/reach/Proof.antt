@@ -12,11 +12,11 @@ pub reach-spec : {M : Type 1} → statement M
 reach-spec =
     tie.close
     (tie.spec
-    -- cell-requires, returns
+    -- The needs are cell-requires and returns.
     (λ c κs. let s = c .before .before .before .before in row-cell (s .pre .0) (s .pre .1 .0) (s .args .e) (s .pre .1 .1) (c .if1 .taken))
     (λ c. let s = c .before .before .before .before .before in
     vertex-lands (s .pre .0) (s .pre .1 .0) (s .args .e) (s .pre .1 .1) (c .before .if1 .taken) _ (c .cell .ensures))
-    -- sub-rise, rise-requires, returns-2
+    -- The needs are sub-rise, rise-requires and returns-2.
     (λ c. search needs)
     (λ c κs. let s = c .before .before .before .before in
     let b = s .pre .1 .0 in

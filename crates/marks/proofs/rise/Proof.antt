@@ -40,7 +40,7 @@ rise-spec =
     (λ c. search needs)
     (λ c. search needs)
     (λ c. search needs)
-    -- subs-at-requires, entry-at-requires
+    -- The needs are subs-at-requires and entry-at-requires.
     (λ c κs. let s = c .before .before .before in
     let a = s .args in
     omega (arith, subs-lie (a .sh) (a .w .now) (s .pre .0) (suc (a .r)) (a .e) (s .pre .1 .0 .0) (s .pre .1 .0 .1) .head, word s))
@@ -48,14 +48,14 @@ rise-spec =
     let a = s .args in
     rw (c .subs-at .ensures, word s)
     (subs-lie (a .sh) (a .w .now) (s .pre .0) (suc (a .r)) (a .e) (s .pre .1 .0 .0) (s .pre .1 .0 .1), some-sub (a .sh) (a .w .now) (s .pre .0) (a .goes .now) (a .r) (a .e) (s .pre .1 .0 .0) (s .pre .1 .0 .1) (s .pre .1 .0 .2) (s .pre .1 .1)))
-    -- add-cell, cell-requires, sups-at-requires
+    -- The needs are add-cell, cell-requires and sups-at-requires.
     (λ c. omega (arith, lies c))
     (λ c κs. lies c)
     (λ c κs. let s = c .before .before .before .before .before .before in
     let a = s .args in
     let p = s .pre .1 .0 in
     omega (arith, over-lie (a .sh) (a .w .now) (s .pre .0) (a .goes .now) (a .r) (a .e) (p .0) (p .1) (p .2) (s .pre .1 .1) _ _ (first (c .before)) (c .cell .ensures) .head))
-    -- mul-first-onto, first-onto-requires, returns
+    -- The needs are mul-first-onto, first-onto-requires and returns.
     (λ c. search needs)
     (λ c κs. let y = c .before in
     let f = y .before in

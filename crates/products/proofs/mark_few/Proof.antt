@@ -65,21 +65,21 @@ unfolding start
 mark-few-spec =
     tie.close
     (tie.spec Inv μ
-    -- loop-holds, row-at-requires, mark-requires
+    -- The needs are loop-holds, row-at-requires and mark-requires.
     (λ c. let a = c .before .before .before .before .before .args in
     loop-first (concrete (a .sh) (a .w .now) (a .floats .now)) (a .v) (a .rows .now) (a .n) (a .goes .now) (a .marks .now))
     (λ c κs. row-in c)
     mark-requires
-    -- sub-put-mark, part-put-mark-start, part-put-mark-end, put-mark-requires
+    -- The needs are sub-put-mark, part-put-mark-start, part-put-mark-end and put-mark-requires.
     (λ c. search needs)
     (λ c. search needs)
     (λ c. search needs)
     put-mark-requires
-    -- add-k, loop-less
+    -- The needs are add-k and loop-less.
     (λ c. search needs)
     (λ c. search needs)
     loop-again
-    -- same-length, same-length-2, returns
+    -- The needs are same-length, same-length-2 and returns.
     (λ c. c .before .loop .inv .1)
     (λ c. c .before .loop .inv .2)
     (λ c. let l = c .before .loop in

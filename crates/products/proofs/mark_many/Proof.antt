@@ -68,27 +68,27 @@ unfolding start
 mark-many-spec =
     tie.close
     (tie.spec Inv μ
-    -- none-requires, loop-holds
+    -- The needs are none-requires and loop-holds.
     (λ c κs. search needs)
     (λ c. let a = c .before .before .before .before .before .before .args in
     loop-first (concrete (a .sh) (a .w .now) (a .floats .now)) (a .v) (a .rows .now) (a .n) (a .goes .now) (a .marks .now))
-    -- slice-reshare-prefix-mark-next, slice-aggregate-mark-next, mark-next-requires
+    -- The needs are slice-reshare-prefix-mark-next, slice-aggregate-mark-next and mark-next-requires.
     (λ c. search needs)
     (λ c. let t = c .before .before in
     let l = t .before .loop in
     sym (length-take-le (l .k) (l .marks) (omega (arith, t .loop-test .taken, start (t .before) .pre .1 .2, l .inv .2))))
     mark-next-requires
-    -- sub-put-mark, part-put-mark-start, part-put-mark-end, put-mark-requires, keep-requires
+    -- The needs are sub-put-mark, part-put-mark-start, part-put-mark-end, put-mark-requires and keep-requires.
     (λ c. search needs)
     (λ c. search needs)
     (λ c. search needs)
     put-mark-requires
     keep-requires
-    -- add-k, loop-less
+    -- The needs are add-k and loop-less.
     (λ c. search needs)
     (λ c. search needs)
     loop-again
-    -- same-length, same-length-2, returns
+    -- The needs are same-length, same-length-2 and returns.
     (λ c. c .before .loop .inv .1)
     (λ c. c .before .loop .inv .2)
     (λ c. let l = c .before .loop in

@@ -29,22 +29,22 @@ unfolding entry
 begin-spec =
     tie.close
     (tie.spec
-    -- slice-reshare-prefix-all-classes, slice-aggregate-all-classes, all-classes-requires
+    -- The needs are slice-reshare-prefix-all-classes, slice-aggregate-all-classes and all-classes-requires.
     (λ c. search needs)
     (λ c. let s = c .before .before .before in sym (length-take-le (s .args .low) (s .args .words .now) (s .pre .words-in)))
     (λ c κs. let s = c .before .before .before .before in (s .pre .held, roomy-floats _ _ (s .pre .held) _ (s .pre .floats)))
-    -- class-cells-requires, mul-start, sub-start, part-start-start, part-start-end
+    -- The needs are class-cells-requires, mul-start, sub-start, part-start-start and part-start-end.
     (λ c κs. search needs)
     (λ c. let k = inside (c .before) in search needs)
     (λ c. inside (c .before))
     (λ c. inside (c .before .before))
     (λ c. search needs)
-    -- start-requires
+    -- The need is start-requires.
     (λ c κs. let k = c .before .before .before in
     let a = k .before .before .before in
     let s = entry a in
     startable _ _ _ _ (s .pre) _ _ (a .all-classes .ensures) _ (rest-is _ _ _ (k .class-cells .ensures _ (s .pre .held))))
-    -- same-length, same-length-2, returns
+    -- The needs are same-length, same-length-2 and returns.
     (λ c. search needs)
     (λ c. search needs)
     (λ c. let t = c .before .before in

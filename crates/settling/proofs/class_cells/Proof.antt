@@ -13,7 +13,7 @@ pub class-cells-spec : {M : Type 1} → statement M
 class-cells-spec =
     tie.close
     (tie.spec
-    -- returns
+    -- The need is returns.
     (λ c w h. none-proper _ w h (c .if1 .taken) .1)
     -- Two reads, sub-result, mul-result.
     (λ c. search needs)
@@ -26,5 +26,5 @@ class-cells-spec =
     (λ c. search needs)
     (λ c. let p = c .before .before .pre in some-proper _ (p .0) (p .1) (omega (arith, c .before .if1 .left)) .0)
     (λ c. let p = c .before .before .pre in omega (arith, few-cells _ (p .0) (p .1) (omega (arith, c .before .if1 .left))))
-    -- returns-2
+    -- The need is returns-2.
     (λ c w h. ap (λ (n : ℕ). n + proper (c .before .before .args .sh)) (some-proper _ w h (omega (arith, c .before .if1 .left)) .2)))

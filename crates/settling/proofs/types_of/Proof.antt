@@ -9,7 +9,7 @@ pub types-of-spec : {M : Type 1} → statement M
 types-of-spec =
     tie.close
     (tie.spec
-    -- begin-requires, settle-requires, same-length, same-length-2, returns
+    -- The needs are begin-requires, settle-requires, same-length, same-length-2 and returns.
     (λ c κs. search needs)
     (λ c κs. let b = c .before .before .before .before .before in b .begin .ensures .started)
     (λ c. search needs)

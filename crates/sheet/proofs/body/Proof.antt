@@ -37,7 +37,8 @@ near c =
 pub body-spec : {M : Type 1} → statement M
 body-spec =
     tie.close
-    -- mul-coordinates, coordinates-requires, enum-known-why, enum-known-at, lists-requires, enum-known-why-2, enum-known-end, ends-requires
+    -- The needs are mul-coordinates, coordinates-requires, enum-known-why, enum-known-at, lists-requires, enum-known-why-2, enum-known-end and
+    -- ends-requires.
     (tie.spec (λ c. let st = c .before in omega (arith, area (st .args .vertices) (st .args .dimension) (st .pre .1) (st .pre .2)))
     (λ c κs. let st = c .before in omega (arith, area (st .args .vertices) (st .args .dimension) (st .pre .1) (st .pre .2)))
     (λ c. search needs)
@@ -49,7 +50,7 @@ body-spec =
     let room : a .n ≤ length (a .counts) = omega (arith, st) in
     let e = lists-end (a .sheet .now) (a .counts) (a .n) (t .before .at .given .0 .0) (c .before .end .given .0 .0) (c .before .end .given .0 .1 .0) (st .pre .4) room (read c) in
     omega (arith, e, near t, st .pre .3))
-    -- returns, returns-2, returns-3, returns-4
+    -- The needs are returns, returns-2, returns-3 and returns-4.
     (λ c. let r = c .before .before .before in let a = r .before .before .args in
     body-refuses (a .sheet .now) (a .vertices) (a .dimension) (take (a .n) (a .counts)) (a .start) (sym (c .before .why .given .1) ∙ r .coordinates .ensures))
     (λ c. let r = c .before .before .before in let t = r .before in let a = t .before .before .before .before .before .args in

@@ -32,7 +32,7 @@ coordinates-spec =
     (tie.spec Inv μ
     (λ c. (search needs, search needs, rw sub-zero))
     (λ c κs. search needs)
-    -- returns, field-requires, on-board-requires, returns-2
+    -- The needs are returns, field-requires, on-board-requires and returns-2.
     (λ c. let l = c .before .before .before in let a = l .before .before .args in
     times-refuses (coordinate (a .sheet .now)) (a .n) (l .loop .k) (l .loop .at) (l .loop .inv .2) (c .before .before .loop-test .taken)
     (coordinate-cut (a .sheet .now) (l .loop .at) (sym (c .before .whole .ensures) ∙ not-true _ (c .if1 .taken))))
@@ -42,7 +42,7 @@ coordinates-spec =
     times-refuses (coordinate (a .sheet .now)) (a .n) (l .loop .k) (l .loop .at) (l .loop .inv .2) (e .before .before .loop-test .taken)
     (coordinate-off (a .sheet .now) (l .loop .at) (fine e)
     ((rw (c .before .before .field .ensures) at (sym (c .before .on-board .ensures))) ∙ not-true _ (c .if2 .taken))))
-    -- add-at, add-k, loop-less, loop-again, returns-3
+    -- The needs are add-at, add-k, loop-less, loop-again and returns-3.
     (λ c. search needs)
     (λ c. search needs)
     (λ c. search needs)

@@ -44,34 +44,34 @@ counts-spec =
           (counts-begin (times (a .n) (count (a .sheet .now)) (a .start)) (λ x e. rw (times-read (a .n) (count (a .sheet .now)) (a .start) x e) (omega arith))),
     ))
     (λ c κs. search needs)
-    -- returns
+    -- The need is returns.
     (λ c κs. tt)
     (λ c. let t = c .before in let l = t .before .before .before in let a = l .before .before .args in
     c .uncounted .ensures
     ∙ counts-refuses (count (a .sheet .now)) (a .n) (l .loop .k) (l .loop .at) (l .loop .elements) (l .loop .counts) (l .loop .inv .4) (t .before .before .loop-test .taken)
     (count-cut (a .sheet .now) (l .loop .at) (sym (t .before .whole .ensures) ∙ not-true _ (t .if1 .taken))))
-    -- field-requires
+    -- The need is field-requires.
     (λ c κs. let l = c .before .before .before in omega (arith, leb-true (l .loop .at + 12) (8 * length (l .before .before .args .sheet .now)) (fine c)))
-    -- returns-2
+    -- The need is returns-2.
     (λ c κs. tt)
     (λ c. let t = c .before in let f = t .before in let l = f .before .before .before .before in let a = l .before .before .args in
     c .uncounted2 .ensures
     ∙ counts-refuses (count (a .sheet .now)) (a .n) (l .loop .k) (l .loop .at) (l .loop .elements) (l .loop .counts) (l .loop .inv .4) (f .before .before .before .loop-test .taken)
     (count-none (a .sheet .now) (l .loop .at) (fine (f .before)) (rw (f .field .ensures) at (t .if2 .taken))))
-    -- returns-3
+    -- The need is returns-3.
     (λ c κs. tt)
     (λ c. let t = c .before in let f = t .before .before in let l = f .before .before .before .before in let a = l .before .before .args in
     c .uncounted3 .ensures
     ∙ counts-refuses (count (a .sheet .now)) (a .n) (l .loop .k) (l .loop .at) (l .loop .elements) (l .loop .counts) (l .loop .inv .4) (f .before .before .before .loop-test .taken)
     (count-many (a .sheet .now) (l .loop .at) (fine (f .before)) (omega (arith, t .if3 .taken, f .field .ensures))))
-    -- mul-counts, array-write-counts, add-elements, add-at, add-k, loop-less
+    -- The needs are mul-counts, array-write-counts, add-elements, add-at, add-k and loop-less.
     (λ c. search needs)
     (λ c. search needs)
     (λ c. search needs)
     (λ c. search needs)
     (λ c. search needs)
     (λ c. search needs)
-    -- loop-again, returns-4
+    -- The needs are loop-again and returns-4.
     (λ c. let f = c .before .before in let l = f .before .before .before .before in let a = l .before .before .args in (
       search needs,
       search needs,

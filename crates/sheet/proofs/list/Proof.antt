@@ -41,7 +41,7 @@ list-spec =
     (λ c. let a = c .before .before .before .args in
     sym (ap (listedOf length (a .used)) (list-cut (a .sheet .now) (a .below) (a .used) (a .at) (sym (c .before .whole .ensures) ∙ not-true _ (c .if1 .taken)))))
     (λ c κs. let a = c .before .before .before .args in omega (arith, leb-true (a .at + 12) (8 * length (a .sheet .now)) (fine c)))
-    -- add-if2, returns-2, returns-3
+    -- The needs are add-if2, returns-2 and returns-3.
     (λ c. let a = c .before .before .before .before .args in omega (arith, field-lt (a .sheet .now) (a .at) 12, c .field .ensures))
     (λ c. let f = c .before in let a = f .before .before .before .before .args in
     sym (ap (listedOf length (a .used)) (list-many (a .sheet .now) (a .below) (a .used) (a .at) (fine (f .before)) (omega (arith, c .if2 .taken, f .field .ensures)))))
@@ -52,7 +52,7 @@ list-spec =
     (λ c. search needs)
     (λ c. search needs)
     (λ c. search needs)
-    -- returns-4, returns-5
+    -- The needs are returns-4 and returns-5.
     (λ c. let k = c .before .before .before in let f = k .before .before .before in
     ap (withEntries (f .before .before .before .before .args .used + f .field .result)) (sym (c .before .why .given .1)) ∙ told k)
     (λ c. let k = c .before .before .before in let f = k .before .before .before in

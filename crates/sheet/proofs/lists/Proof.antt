@@ -46,13 +46,13 @@ pub lists-spec : {M : Type 1} → statement M
 lists-spec =
     tie.close
     (tie.spec Inv μ
-    -- array-read-below, loop-holds, mul-rank-lists, array-read-rank-lists, rank-lists-requires
+    -- The needs are array-read-below, loop-holds, mul-rank-lists, array-read-rank-lists and rank-lists-requires.
     (λ c. search needs)
     (λ c. let a = c .before .args in (search needs, search needs, search needs, ap (listedOf allEntries 0) (first-rank (a .sheet .now) (a .t3) (a .n) (a .start))))
     (λ c. search needs)
     (λ c. search needs)
     (λ c κs. let l = c .before in (omega arith, l .before .before .pre .2 (l .loop .k)))
-    -- enum-known-why, returns, enum-known-p, add-entries, mul-below, array-read-below-2, add-k, loop-less
+    -- The needs are enum-known-why, returns, enum-known-p, add-entries, mul-below, array-read-below-2, add-k and loop-less.
     (λ c. search needs)
     (λ c. let r = c .before .before .before in let l = r .before .before in let a = l .before .before .args in
     ranks-refuse (a .sheet .now) (l .loop .below) (getD (a .t3) (l .loop .k) 0) (l .loop .entries) (l .loop .at) (drop (l .loop .k + 1) (take (a .n) (a .t3))) (turn (r .before))
@@ -63,7 +63,7 @@ lists-spec =
     (λ c. search needs)
     (λ c. search needs)
     (λ c. search needs)
-    -- loop-again, returns-2
+    -- The needs are loop-again and returns-2.
     (λ c. let r = c .before .before .before in let l = r .before .before in let a = l .before .before .args in
     let h = l .before .before .pre .2 (l .loop .k) in (
       search needs,

@@ -28,7 +28,7 @@ rank-lists-spec =
     (λ c. (search needs, search needs, search needs, rw sub-zero))
     (λ c κs. search needs)
     (λ c. search needs)
-    -- returns, enum-known-p, add-k, loop-less, loop-again, returns-2
+    -- The needs are returns, enum-known-p, add-k, loop-less, loop-again and returns-2.
     (λ c. let r = c .before .before .before in let l = r .before .before in let a = l .before .before .args in
     rank-refuses (a .sheet .now) (a .below) (a .n) (l .loop .k) (l .loop .used) (l .loop .at) (l .loop .inv .3) (r .before .loop-test .taken)
     (sym (c .before .why .given .1) ∙ r .list .ensures))

@@ -37,7 +37,7 @@ pub rest-spec : {M : Type 1} → statement M
 unfolding judgedWith
 rest-spec =
     tie.close
-    -- proper-ranks, counts, refused, vertices, body
+    -- The needs are proper-ranks, counts, refused, vertices and body.
     (tie.spec (λ c κs. search needs)
     (λ c κs. let p = c .before .before .pre .0 in omega arith)
     (λ c. search needs)

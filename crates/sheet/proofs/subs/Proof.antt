@@ -31,7 +31,7 @@ subs-spec =
     (tie.spec Inv μ
     (λ c. (search needs, search needs, rw sub-zero))
     (λ c κs. search needs)
-    -- returns, field-requires, returns-2, returns-3
+    -- The needs are returns, field-requires, returns-2 and returns-3.
     (λ c. let l = c .before .before .before in let a = l .before .before .args in
     subs-cut (a .sheet .now) (a .below) (a .n) (l .loop .k) (l .loop .low) (l .loop .at) (l .loop .inv .2) (c .before .before .loop-test .taken)
     (sym (c .before .whole .ensures) ∙ not-true _ (c .if1 .taken)))
@@ -43,7 +43,7 @@ subs-spec =
     subs-low (a .sheet .now) (a .below) (a .n) (l .loop .k) (l .loop .low) (l .loop .at) (l .loop .inv .2) (f .before .before .before .loop-test .taken) (fine (f .before))
     (omega (arith, c .before .if2 .left, f .field .ensures))
     (omega (arith, c .if3 .taken, f .field .ensures)))
-    -- add-low, add-at, add-k, loop-less, loop-again, returns-4
+    -- The needs are add-low, add-at, add-k, loop-less, loop-again and returns-4.
     (λ c. search needs)
     (λ c. search needs)
     (λ c. search needs)

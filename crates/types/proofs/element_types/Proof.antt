@@ -15,18 +15,18 @@ pub element-types-spec : {M : Type 1} → statement M
 element-types-spec =
     tie.close
     (tie.spec
-    -- preflight-requires, enum-known-verdict, enum-told
+    -- The needs are preflight-requires, enum-known-verdict and enum-told.
     (λ c κs. search needs)
     (λ c. search needs)
     (λ c. search needs)
-    -- types-given-requires
+    -- The need is types-given-requires.
     (λ c κs. let t = c .before .before .before .before in
     let p = t .before .before .before .before .before .before .before in
     benched _ _ _ _ _ _ (p .preflight .ensures) (t .enum-told .given .1))
     -- same-length, for the workspace
     (λ c. search needs)
     (λ c. search needs)
-    -- returns
+    -- The need is returns.
     (λ c. let v = c .before in
     let p = v .before .before .before .before .before .before .before in
     let t = told _ _ _ (old p) (old p) _ (refused-call _ _ _ _ _ _ (p .preflight .ensures) _ (v .verdict .given .1) (old p)) in
@@ -36,7 +36,7 @@ element-types-spec =
     (λ c. search needs)
     (λ c. search needs)
     (λ c. search needs)
-    -- returns-2
+    -- The need is returns-2.
     (λ c. let g = c .before .before .before .before .before .before .before .before in
     let t = g .before .before .before .before .before in
     let p = t .before .before .before .before .before .before .before in

@@ -24,7 +24,7 @@ types-given-spec =
     (λ c. search needs)
     (λ c. search needs)
     (λ c. search needs)
-    -- returns
+    -- The need is returns.
     (λ c. let g = c .before .before .before .before in
     let i = g .before .before .before .before in
     let t = i .before .before .before .before .before .before in
@@ -33,7 +33,7 @@ types-given-spec =
     -- same-length, for the workspace
     (λ c. search needs)
     (λ c. search needs)
-    -- returns-2
+    -- The need is returns-2.
     (λ c. let t = c .before .before .before .before .before .before in
     let s = t .before .before .before .before .before .before .before in
     unsettled-given _ _ _ _ _ _ (old s) (rw (c .enum-told2 .given .1) at (t .types-of .ensures))))

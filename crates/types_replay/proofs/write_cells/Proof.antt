@@ -22,7 +22,7 @@ write-cells-spec =
     (λ c. search needs)
     (λ c. search needs)
     (λ c. search needs)
-    -- cast-write-number
+    -- The need is cast-write-number.
     (λ c. omega (arith, c .shared-slice-known2 .given (c .before .before .loop .i)))
     (λ c κs. search needs)
     (λ c. search needs)

@@ -19,13 +19,13 @@ find-key-spec =
     tie.close
     (tie.spec Inv μ
     (λ c. (search needs, sought-first _ _ _ _))
-    -- add-get, get-requires
+    -- The needs are add-get and get-requires.
     (λ c. search needs)
     (λ c κs. search needs)
-    -- same-key-requires
+    -- The need is same-key-requires.
     (λ c κs. let s = c .before .before .before .before in
     (rw (c .get .ensures) (s .pre .1 .0 _ (c .before .loop-test .taken)), s .pre .1 .1))
-    -- returns, add-j, loop-less, loop-again, returns-2
+    -- The needs are returns, add-j, loop-less, loop-again and returns-2.
     (λ c. let l = c .before .before .before .before in
     sought-yes _ _ _ _ (l .loop .j) (c .before .before .before .loop-test .taken) (l .loop .inv .1)
     (rw (c .before .before .get .ensures) at (sym (c .if1 .taken) ∙ c .before .same-key .ensures)))

@@ -9,12 +9,12 @@ pub same-key-spec : {M : Type 1} → statement M
 same-key-spec =
     tie.close
     (tie.spec
-    -- get-requires, get-requires-2, returns
+    -- The needs are get-requires, get-requires-2 and returns.
     (λ c κs. search needs)
     (λ c κs. search needs)
     (λ c. let s = c .before .before .before .before in
     keys-part _ _ _ _ _ (c .before .before .get .ensures) (c .before .get2 .ensures) (s .pre .0) (s .pre .1) (c .if1 .taken))
-    -- add-same-run, add-same-run-2, add-same-run-3, same-run-requires, returns-2
+    -- The needs are add-same-run, add-same-run-2, add-same-run-3, same-run-requires and returns-2.
     (λ c. search needs)
     (λ c. search needs)
     (λ c. search needs)

@@ -36,12 +36,12 @@ same-run-spec =
     tie.close
     (tie.spec Inv μ
     (λ c. (search needs, refl))
-    -- add-get, get-requires, add-get-2, get-requires-2
+    -- The needs are add-get, get-requires, add-get-2 and get-requires-2.
     (λ c. search needs)
     (λ c κs. search needs)
     (λ c. search needs)
     (λ c κs. search needs)
-    -- returns, add-k, loop-less, loop-again, returns-2
+    -- The needs are returns, add-k, loop-less, loop-again and returns-2.
     (λ c. let i = c .before .before .before in
     let r = run i _ _ (c .before .before .get .ensures) (c .before .get2 .ensures) in
     same-no _ _ (i .before .loop .k) (inside i .0) (inside i .1) (i .before .loop .inv .1) (λ e. c .if1 .taken (r .0 ∙ e ∙ sym (r .1))))

@@ -25,39 +25,39 @@ pub type-count-spec : {M : Type 1} → statement M
 type-count-spec =
     tie.close
     (tie.spec Inv μ
-    -- loop-holds
+    -- The need is loop-holds.
     (λ c. tally-first _ _ _)
-    -- mul-first
+    -- The need is mul-first.
     (λ c. search needs)
-    -- element-copy-out-first
+    -- The need is element-copy-out-first.
     (λ c. omega (arith, ranks c))
-    -- add-next
+    -- The need is add-next.
     (λ c. omega (arith, ranks (c .before)))
-    -- mul-next
+    -- The need is mul-next.
     (λ c. omega (arith, ranks (c .before)))
-    -- element-copy-out-next
+    -- The need is element-copy-out-next.
     (λ c. ranks (c .before) .2)
-    -- add-types-in
+    -- The need is add-types-in.
     (λ c. let i = c .before .before in omega (arith, ranks i, i .before .before .before .pre .room))
-    -- sub-types-in
+    -- The need is sub-types-in.
     (λ c. omega (arith, ranks (c .before .before)))
-    -- types-in-requires
+    -- The need is types-in-requires.
     (λ c κs. let i = c .before .before in
     let l = i .before in
     let s = l .before .before in
     (run-in _ _ _ (s .pre) _ _ (l .loop .inv) (i .loop-test .taken), run-numbered _ _ _ (s .pre) _ _ (l .loop .inv) (i .loop-test .taken)))
-    -- add-n
+    -- The need is add-n.
     (λ c. let i = c .before .before .before in
     let l = i .before in
     let s = l .before .before in
     omega (arith, sum-fits _ _ _ (s .pre) _ _ (l .loop .inv) (i .loop-test .taken) _ (c .types-in .ensures)))
-    -- add-r
+    -- The need is add-r.
     (λ c. omega (arith, ranks (c .before .before .before)))
-    -- loop-less
+    -- The need is loop-less.
     (λ c. search needs)
-    -- loop-again
+    -- The need is loop-again.
     (λ c. let i = c .before .before .before in
     let l = i .before in
     tally-next _ _ _ (l .before .before .pre) _ _ (l .loop .inv) (i .loop-test .taken) _ (c .types-in .ensures))
-    -- returns
+    -- The need is returns.
     (λ c. let l = c .before in tally-end _ _ _ (l .before .before .pre) _ _ (l .loop .inv) (c .loop-test .left)))

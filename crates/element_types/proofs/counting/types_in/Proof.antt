@@ -17,12 +17,12 @@ pub types-in-spec : {M : Type 1} → statement M
 types-in-spec =
     tie.close
     (tie.spec Inv μ
-    -- loop-holds, add-get, get-requires, add-e
+    -- The needs are loop-holds, add-get, get-requires and add-e.
     (λ c. (omega arith, past-first _ _))
     (λ c. search needs)
     (λ c κs. search needs)
     (λ c. search needs)
-    -- add-m
+    -- The need is add-m.
     (λ c. let i = c .before .before in
     let l = i .before in
     let s = l .before .before in
@@ -34,17 +34,17 @@ types-in-spec =
       types-few (a .words .now) (a .from) (a .n) (s .pre .0),
       s .pre .0,
     ))
-    -- loop-less, loop-again
+    -- The needs are loop-less and loop-again.
     (λ c. search needs)
     (λ c. let i = c .before .before in
     let l = i .before in
     (omega (arith, i .loop-test .taken), past-new _ _ _ _ (l .loop .inv .1) _ (c .before .get .ensures) (omega (arith, c .if1 .taken))))
-    -- loop-less-2, loop-again-2
+    -- The needs are loop-less-2 and loop-again-2.
     (λ c. search needs)
     (λ c. let i = c .before .before in
     let l = i .before in
     (omega (arith, i .loop-test .taken), past-old _ _ _ _ (l .loop .inv .1) _ (c .before .get .ensures) (c .if1 .left)))
-    -- returns
+    -- The need is returns.
     (λ c. let l = c .before in
     let s = l .before .before in
     let a = s .args in

@@ -10,10 +10,10 @@ pub number-one-spec : {M : Type 1} → statement M
 number-one-spec =
     tie.close
     (tie.spec
-    -- write-key-requires, find-key-requires
+    -- The needs are write-key-requires and find-key-requires.
     (λ c κs. c .before .before .pre .key)
     (λ c κs. find-asks _ _ _ _ _ _ _ _ _ (c .before .before .before .before .before .before .pre) _ (c .before .before .before .write-key .ensures .1))
-    -- cast-words, mul-words, slice-write-words
+    -- The needs are cast-words, mul-words and slice-write-words.
     (λ c. let w = c .before .before .before .before in
     let s = w .before .before .before in
     omega (arith, s .pre .small, number-small _ _ _ _ _ _ _ _ _ (s .pre) _ (w .write-key .ensures .1) _ (c .find-key .ensures)))
@@ -21,12 +21,12 @@ number-one-spec =
     omega (arith, cells-in _ _ _ _ _ _ _ _ _ (w .before .before .before .pre) _ (w .write-key .ensures .1)))
     (λ c. let w = c .before .before .before .before in
     cells-in _ _ _ _ _ _ _ _ _ (w .before .before .before .pre) _ (w .write-key .ensures .1) .0)
-    -- same-length, returns
+    -- The needs are same-length and returns.
     (λ c. let w = c .before .before .before .before .before in
     simp length-set (cells-in _ _ _ _ _ _ _ _ _ (w .before .before .before .pre) _ (w .write-key .ensures .1) .2))
     (λ c. let w = c .before .before .before .before .before in
     noted-old _ _ _ _ _ _ _ _ _ (w .before .before .before .pre) _ (w .write-key .ensures .1) _ (c .before .find-key .ensures) (c .if1 .taken))
-    -- cast-words-2, add-words, mul-words-2, slice-write-words-2
+    -- The needs are cast-words-2, add-words, mul-words-2 and slice-write-words-2.
     (λ c. omega (arith, c .before .before .before .before .before .before .before .before .pre .small))
     (λ c. let w = c .before .before .before .before .before in
     omega (arith, cells-in _ _ _ _ _ _ _ _ _ (w .before .before .before .pre) _ (w .write-key .ensures .1)))
@@ -34,7 +34,7 @@ number-one-spec =
     omega (arith, cells-in _ _ _ _ _ _ _ _ _ (w .before .before .before .pre) _ (w .write-key .ensures .1)))
     (λ c. let w = c .before .before .before .before .before in
     simp length-set (cells-in _ _ _ _ _ _ _ _ _ (w .before .before .before .pre) _ (w .write-key .ensures .1) .1))
-    -- same-length-2, returns-2
+    -- The needs are same-length-2 and returns-2.
     (λ c. let w = c .before .before .before .before .before in
     simp length-set (cells-in _ _ _ _ _ _ _ _ _ (w .before .before .before .pre) _ (w .write-key .ensures .1) .2))
     (λ c. let w = c .before .before .before .before .before in

@@ -50,11 +50,11 @@ pub number-rank-spec : {M : Type 1} → statement M
 number-rank-spec =
     tie.close
     (tie.spec Inv μ
-    -- add-reps, add-q, loop-holds
+    -- The needs are add-reps, add-q and loop-holds.
     (λ c. omega (arith, c .before .pre .room))
     (λ c. omega (arith, c .before .pre .room))
     (λ c. scan-first _ _ _ _ _ _ _ (c .before .pre))
-    -- mul-i, add-i, add-number-one, add-number-one-2, number-one-requires
+    -- The needs are mul-i, add-i, add-number-one, add-number-one-2 and number-one-requires.
     (λ c. omega (arith, sums c))
     (λ c. omega (arith, sums c))
     (λ c. omega (arith, sums (c .before)))
@@ -62,15 +62,15 @@ number-rank-spec =
     (λ c κs. let i = c .before in
     let l = i .before in
     opened _ _ _ _ _ _ _ (l .before .before .pre) _ _ _ _ (l .loop .inv) (i .loop-test .taken))
-    -- add-e, add-q-2
+    -- The needs are add-e and add-q-2.
     (λ c. let i = c .before .before .before .before in omega (arith, i .loop-test .taken, i .before .before .before .fits))
     (λ c. omega (arith, sums (c .before .before .before .before .before)))
-    -- slice-reshare-prefix-count-at, slice-aggregate-count-at, count-at-requires
+    -- The needs are slice-reshare-prefix-count-at, slice-aggregate-count-at and count-at-requires.
     (λ c. back c .0)
     (λ c. let n = c .before .before .before .before in
     sym (length-take-le (n .before .before .before .before .before .args .low) (n .number-one .last .0) (back (c .before) .0)))
     (λ c κs. back (c .before) .2)
-    -- add-q-3, add-m, loop-less, loop-again
+    -- The needs are add-q-3, add-m, loop-less and loop-again.
     (λ c. omega (arith, sums (c .before .before .before .before .before .before .before), many c))
     (λ c. let i = c .before .before .before .before .before .before .before in omega (arith, i .before .loop .inv .few, sums i))
     (λ c. search needs)
@@ -79,12 +79,12 @@ number-rank-spec =
     let i = n .before .before in
     let l = i .before in
     scan-new _ _ _ _ _ _ _ (l .before .before .pre) _ _ _ _ (l .loop .inv) (i .loop-test .taken) _ _ (n .number-one .ensures .0) (n .number-one .ensures .1) (t .if1 .taken) _ (many c))
-    -- loop-less-2, loop-again-2
+    -- The needs are loop-less-2 and loop-again-2.
     (λ c. search needs)
     (λ c. let n = c .before .before .before in
     let i = n .before .before in
     let l = i .before in
     scan-old _ _ _ _ _ _ _ (l .before .before .pre) _ _ _ _ (l .loop .inv) (i .loop-test .taken) _ _ (n .number-one .ensures .0) (n .number-one .ensures .1) (c .if1 .left))
-    -- same-length, returns
+    -- The needs are same-length and returns.
     (λ c. c .before .loop .inv .long)
     (λ c. let l = c .before in scan-end _ _ _ _ _ _ _ (l .before .before .pre) _ _ _ _ (l .loop .inv) (c .loop-test .left)))

@@ -20,7 +20,7 @@ copy-down-spec =
     tie.close
     (tie.spec Inv μ
     (λ c. (search needs, refl, copied-first _ _ _ _ (c .pre .0) (c .pre .1)))
-    -- add-x, mul-x, slice-read-x, add-words, mul-words, slice-write-words, add-k, loop-less
+    -- The needs are add-x, mul-x, slice-read-x, add-words, mul-words, slice-write-words, add-k and loop-less.
     (λ c. search needs)
     (λ c. search needs)
     (λ c. search needs)
@@ -29,7 +29,7 @@ copy-down-spec =
     (λ c. search needs)
     (λ c. search needs)
     (λ c. search needs)
-    -- loop-again, same-length, returns
+    -- The needs are loop-again, same-length and returns.
     (λ c. let l = c .before .before in (
       search needs,
       simp length-set (l .loop .inv .1),

@@ -9,7 +9,7 @@ pub step-at-spec : {M : Type 1} → statement M
 step-at-spec =
     tie.close
     (tie.spec
-    -- number-rank-requires, copy-down-requires, same-length, returns
+    -- The needs are number-rank-requires, copy-down-requires, same-length and returns.
     (λ c κs. search needs)
     (λ c κs. search needs)
     (λ c. search needs)

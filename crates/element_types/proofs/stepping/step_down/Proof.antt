@@ -10,37 +10,37 @@ pub step-down-spec : {M : Type 1} → statement M
 step-down-spec =
     tie.close
     (tie.spec
-    -- mul-first
+    -- The need is mul-first.
     (λ c. search needs)
-    -- element-copy-out-first
+    -- The need is element-copy-out-first.
     (λ c. search needs)
-    -- add-next
+    -- The need is add-next.
     (λ c. search needs)
-    -- mul-next
+    -- The need is mul-next.
     (λ c. search needs)
-    -- element-copy-out-next
+    -- The need is element-copy-out-next.
     (λ c. search needs)
-    -- add-out
+    -- The need is add-out.
     (λ c. search needs)
-    -- mul-out
+    -- The need is mul-out.
     (λ c. search needs)
-    -- element-copy-out-out
+    -- The need is element-copy-out-out.
     (λ c. search needs)
-    -- add-out-2
+    -- The need is add-out-2.
     (λ c. omega (arith, down-fits _ _ _ _ (c .before .before .before .before .pre)))
-    -- mul-step-at
+    -- The need is mul-step-at.
     (λ c. omega (arith, down-fits _ _ _ _ (c .before .before .before .before .before .pre)))
-    -- add-step-at
+    -- The need is add-step-at.
     (λ c. omega (arith, down-fits _ _ _ _ (c .before .before .before .before .before .pre)))
-    -- sub-step-at
+    -- The need is sub-step-at.
     (λ c. down-fits _ _ _ _ (c .before .before .before .before .before .pre) .0)
-    -- add-step-at-2
+    -- The need is add-step-at-2.
     (λ c. omega (arith, down-fits _ _ _ _ (c .before .before .before .before .before .pre)))
-    -- add-step-at-3
+    -- The need is add-step-at-3.
     (λ c. omega (arith, down-fits _ _ _ _ (c .before .before .before .before .before .pre)))
-    -- step-at-requires
+    -- The need is step-at-requires.
     (λ c κs. down-ready _ _ _ _ (c .before .before .before .before .before .pre))
-    -- same-length
+    -- The need is same-length.
     (λ c. search needs)
-    -- returns
+    -- The need is returns.
     (λ c. down-stepped _ _ _ _ (c .before .before .before .before .before .before .before .before .pre) _ (c .before .before .step-at .ensures)))

@@ -10,41 +10,41 @@ pub step-up-spec : {M : Type 1} → statement M
 step-up-spec =
     tie.close
     (tie.spec
-    -- mul-first
+    -- The need is mul-first.
     (λ c. search needs)
-    -- element-copy-out-first
+    -- The need is element-copy-out-first.
     (λ c. search needs)
-    -- add-n
+    -- The need is add-n.
     (λ c. search needs)
-    -- mul-n
+    -- The need is mul-n.
     (λ c. search needs)
-    -- element-copy-out-n
+    -- The need is element-copy-out-n.
     (λ c. search needs)
-    -- sub-n
+    -- The need is sub-n.
     (λ c. up-fits _ _ _ _ (c .before .before .before .pre) .0)
-    -- sub-base
+    -- The need is sub-base.
     (λ c. search needs)
-    -- mul-base
+    -- The need is mul-base.
     (λ c. search needs)
-    -- element-copy-out-base
+    -- The need is element-copy-out-base.
     (λ c. search needs)
-    -- add-base
+    -- The need is add-base.
     (λ c. omega (arith, up-fits _ _ _ _ (c .before .before .before .before .pre)))
-    -- add-out
+    -- The need is add-out.
     (λ c. search needs)
-    -- mul-out
+    -- The need is mul-out.
     (λ c. search needs)
-    -- element-copy-out-out
+    -- The need is element-copy-out-out.
     (λ c. search needs)
-    -- add-out-2
+    -- The need is add-out-2.
     (λ c. omega (arith, up-fits _ _ _ _ (c .before .before .before .before .before .pre)))
-    -- mul-step-at
+    -- The need is mul-step-at.
     (λ c. omega (arith, up-fits _ _ _ _ (c .before .before .before .before .before .before .pre)))
-    -- add-step-at
+    -- The need is add-step-at.
     (λ c. omega (arith, up-fits _ _ _ _ (c .before .before .before .before .before .before .pre)))
-    -- step-at-requires
+    -- The need is step-at-requires.
     (λ c κs. up-ready _ _ _ _ (c .before .before .before .before .before .before .pre))
-    -- same-length
+    -- The need is same-length.
     (λ c. search needs)
-    -- returns
+    -- The need is returns.
     (λ c. up-stepped _ _ _ _ (c .before .before .before .before .before .before .before .before .before .pre) _ (c .before .before .step-at .ensures)))

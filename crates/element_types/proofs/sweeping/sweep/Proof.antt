@@ -9,7 +9,7 @@ pub sweep-spec : {M : Type 1} → statement M
 sweep-spec =
     tie.close
     (tie.spec
-    -- sweep-up-requires, sweep-down-requires, same-length, returns
+    -- The needs are sweep-up-requires, sweep-down-requires, same-length and returns.
     (λ c κs. search needs)
     (λ c κs. let u = c .before .before .before in sweepable-kept _ _ _ _ (u .sweep-up .kept .0) (u .sweep-up .ensures .0) (u .before .before .before .pre))
     (λ c. search needs)

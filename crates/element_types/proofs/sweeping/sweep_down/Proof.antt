@@ -19,7 +19,7 @@ pub sweep-down-spec : {M : Type 1} → statement M
 sweep-down-spec =
     tie.close
     (tie.spec Inv μ
-    -- loop-holds, sub-r, step-down-requires, loop-less, loop-again, same-length, returns
+    -- The needs are loop-holds, sub-r, step-down-requires, loop-less, loop-again, same-length and returns.
     (λ c. (omega arith, swept-first _ _ _ _))
     (λ c. search needs)
     (λ c κs. let i = c .before in

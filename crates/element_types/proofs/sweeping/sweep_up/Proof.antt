@@ -19,7 +19,7 @@ pub sweep-up-spec : {M : Type 1} → statement M
 sweep-up-spec =
     tie.close
     (tie.spec Inv μ
-    -- loop-holds, step-up-requires, add-r, loop-less, loop-again, same-length, returns
+    -- The needs are loop-holds, step-up-requires, add-r, loop-less, loop-again, same-length and returns.
     (λ c. (omega arith, swept-first _ _ _ _))
     (λ c κs. let i = c .before in
     let l = i .before in

@@ -34,28 +34,28 @@ change-spec =
     (λ c. search needs)
     (λ c. search needs)
     (λ c. search needs)
-    -- subs-at-requires
+    -- The need is subs-at-requires.
     (λ c κs. let s = c .before .before .before in rw (add-one (s .args .r)) (omega (arith, both s .up .head)))
     (λ c. search needs)
     (λ c. search needs)
     (λ c. search needs)
-    -- sups-at-requires
+    -- The need is sups-at-requires.
     (λ c κs. omega (arith, both (c .before .before .before .before) .down .head))
     (λ c. search needs)
     (λ c. search needs)
-    -- subs-at-requires-2
+    -- The need is subs-at-requires-2.
     (λ c κs. omega (arith, both (c .before .before .before .before .before) .fits))
     (λ c. search needs)
     (λ c. search needs)
-    -- other-between-requires
+    -- The need is other-between-requires.
     (λ c κs. let s = c .before .before .before .before .before .before in
     rw (c .before .before .subs-at .ensures, c .before .sups-at .ensures, c .subs-at2 .ensures, add-one (s .args .r)) (both s))
-    -- enum-known-found, enum-told, mul-elements, array-write-elements
+    -- The needs are enum-known-found, enum-told, mul-elements and array-write-elements.
     (λ c. search needs)
     (λ c. search needs)
     (λ c. search needs)
     (λ c. search needs)
-    -- returns
+    -- The need is returns.
     (λ c. let b = c .before in let s = b .before .before .before .before .before .before .before in let a = s .args in
     let e = rw (b .before .before .before .subs-at .ensures, b .before .subs-at2 .ensures, add-one (a .r)) at (b .other-between .ensures) in
     changed (a .sh) (a .w .now) (s .pre .0) (a .self .elements) (a .r) (s .pre .1 .0 .0) (s .pre .1 .0 .1) (s .pre .1 .1 .0) (c .match .other)

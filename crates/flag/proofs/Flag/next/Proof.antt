@@ -24,15 +24,15 @@ unfolding moreOf
 next-spec =
     tie.close
     (tie.spec Inv μ
-    -- loop-holds, moved-at-requires
+    -- The needs are loop-holds and moved-at-requires.
     (λ c. let s = c .before .before in let a = s .args in (omega arith, ended-first (a .sh) (a .w .now) (s .pre .0) (a .self .elements) (search needs) (s .pre .1)))
     (λ c κs. let l = c .before .loop in let s = c .before .before .before .before in let a = s .args in
     (s .pre .0, (c .loop-test .taken, above-in (a .sh) (a .w .now) (s .pre .0) (a .self .elements) (search needs) (s .pre .1) (l .r) (c .loop-test .taken))))
-    -- enum-told, returns
+    -- The needs are enum-told and returns.
     (λ c. search needs)
     (λ c. let m = c .before .before .moved-at in let i = c .before .before .before in let l = i .before .loop in let s = i .before .before .before .before in let a = s .args in
     follows-yes (a .sh) (a .w .now) (s .pre .0) (a .self .elements) (search needs) (s .pre .1) (l .r) (i .loop-test .taken) (l .inv .1) (moreOf (m .result .advance)) (m .result .flag .elements) (m .ensures) (ap moreOf (c .enum-told .given .1)))
-    -- enum-told-2, add-r, loop-less, loop-again, returns-2
+    -- The needs are enum-told-2, add-r, loop-less, loop-again and returns-2.
     (λ c. search needs)
     (λ c. search needs)
     (λ c. search needs)

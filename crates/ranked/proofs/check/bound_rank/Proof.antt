@@ -30,10 +30,10 @@ bound-rank-spec =
     tie.close
     (tie.spec Inv μ
     (λ c. (search needs, refl))
-    -- sups-at-requires, count-at-requires
+    -- The needs are sups-at-requires and count-at-requires.
     (λ c κs. let s = c .before .before .before in omega (arith, s .pre (c .before .loop .e) (c .loop-test .taken)))
     (λ c κs. let s = c .before .before .before .before in rw (c .sups-at .ensures) (s .pre (c .before .before .loop .e) (c .before .loop-test .taken)))
-    -- returns, add-e, loop-less, loop-again, returns-2
+    -- The needs are returns, add-e, loop-less, loop-again and returns-2.
     (λ c. let l = c .before .before .before .before in
     let a = l .before .before .args in
     range-no (p (a .w .now) (a .first)) 0 (a .n) (l .loop .e) (l .loop .e) (omega arith) (c .before .before .before .loop-test .taken) (l .loop .inv .1)

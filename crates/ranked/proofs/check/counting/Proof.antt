@@ -38,15 +38,15 @@ counting-spec =
     tie.close
     (tie.spec Inv μ
     (λ c κs. search needs)
-    -- loop-holds, entry-at-requires, add-k
+    -- The needs are loop-holds, entry-at-requires and add-k.
     (λ c. (search needs, search needs, c .count-at .ensures, omega arith))
     (λ c κs. (search needs, search needs))
     (λ c. search needs)
-    -- mul-holds-at, add-holds-at, holds-at-requires
+    -- The needs are mul-holds-at, add-holds-at and holds-at-requires.
     (λ c. omega (arith, lies c))
     (λ c. omega (arith, lies c))
     (λ c κs. lies c)
-    -- add-m, loop-less, loop-again
+    -- The needs are add-m, loop-less and loop-again.
     (λ c. search needs)
     (λ c. search needs)
     (λ c. let l = c .before .before .before .before in
@@ -57,7 +57,7 @@ counting-spec =
       met-yes _ _ (l .loop .k) (l .loop .m) (omega (arith, k, l .loop .inv .2)) (l .loop .inv .3)
           (rw (c .before .before .entry-at .ensures) at (sym (c .before .holds-at .ensures) ∙ c .if1 .taken)),
     ))
-    -- loop-less-2, loop-again-2, returns
+    -- The needs are loop-less-2, loop-again-2 and returns.
     (λ c. search needs)
     (λ c. let l = c .before .before .before .before in
     let k = c .before .before .before .loop-test .taken in (

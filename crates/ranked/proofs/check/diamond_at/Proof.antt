@@ -53,11 +53,11 @@ unfolding twoAt
 diamond-at-spec =
     tie.close
     (tie.spec Inv μ
-    -- subs-at-requires, subs-at-requires-2, count-at-requires
+    -- The needs are subs-at-requires, subs-at-requires-2 and count-at-requires.
     (λ c κs. omega (arith, c .before .pre .up))
     (λ c κs. omega (arith, c .before .before .pre .fits))
     (λ c κs. rw (c .before .subs-at .ensures) (c .before .before .before .pre .up))
-    -- loop-holds, entry-at-requires
+    -- The needs are loop-holds and entry-at-requires.
     (λ c. let i = c .before .before .subs-at .ensures in
     record {
       bound = omega arith;
@@ -68,12 +68,12 @@ diamond-at-spec =
     })
     (λ c κs. let l = c .before in
     (rw (l .loop .inv .i-is) (l .before .before .before .before .before .pre .up), rw (l .loop .inv .i-is) (omega (arith, c .loop-test .taken, l .loop .inv .n-is))))
-    -- subs-at-requires-3, diamond-under-requires
+    -- The needs are subs-at-requires-3 and diamond-under-requires.
     (λ c κs. let s = c .before .before .before .before .before .before .before in omega (arith, s .pre .subs _ (entry c)))
     (λ c κs. let l = c .before .before .before in
     let s = l .before .before .before .before .before in
     rw (c .subs-at3 .ensures, l .loop .inv .i-is, l .loop .inv .base-is) (s .pre .subs _ (entry (c .before)), (λ h m. s .pre .forks _ h (entry (c .before)) m)))
-    -- returns, add-k, loop-less, loop-again, returns-2
+    -- The needs are returns, add-k, loop-less, loop-again and returns-2.
     (λ c. let e = c .before .before .before in
     let l = e .before .before in
     let a = l .before .before .before .before .before .args in

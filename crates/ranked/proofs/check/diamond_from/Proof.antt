@@ -53,7 +53,7 @@ unfolding twoFrom
 diamond-from-spec =
     tie.close
     (tie.spec Inv μ
-    -- loop-holds, add-loop
+    -- The needs are loop-holds and add-loop.
     (λ c. let q : c .before .args .from - c .before .args .from ≡ 0 = omega arith in (search needs, search needs, rw q refl))
     (λ c. search needs)
     -- The shape's numbers: mul, element-copy-out; and add before them, three times.
@@ -68,12 +68,12 @@ diamond-from-spec =
     (λ c. search needs)
     (λ c. omega (arith, c .before .before .before .before .before .before .pre .0 .tall))
     (λ c. omega (arith, c .before .before .before .before .before .before .pre .0 .tall))
-    -- sub-diamond-rank, diamond-rank-requires
+    -- The needs are sub-diamond-rank and diamond-rank-requires.
     (λ c. let l = c .before .before .before .before .before in let s = l .before .before in
     rising (s .args .t2) (s .args .w .now) (l .loop .low) (s .pre .0) (omega (arith, c .before .before .before .before .loop-test .taken)))
     (λ c κs. let l = c .before .before .before .before .before in let s = l .before .before in
     tiers (s .args .t2) (s .args .w .now) (l .loop .low) (s .pre .0) (omega (arith, c .before .before .before .before .loop-test .taken)))
-    -- returns, add-low, loop-less, loop-again, returns-2
+    -- The needs are returns, add-low, loop-less, loop-again and returns-2.
     (λ c. let b = c .before in let i = b .before .before .before .before .before in let l = i .before in let s = l .before .before in
     let more = i .loop-test .taken in let after = l .loop .inv .0 in
     range-no (p (s .args .t2) (s .args .w .now)) (suc (s .args .from)) _ (l .loop .low - s .args .from) (suc (l .loop .low)) (omega arith) (omega arith) (l .loop .inv .2)

@@ -22,10 +22,10 @@ unfolding twoRank
 diamond-rank-spec =
     tie.close
     (tie.spec Inv μ
-    -- loop-holds, diamond-at-requires
+    -- The needs are loop-holds and diamond-at-requires.
     (λ c. (search needs, refl))
     (λ c κs. let s = c .before .before .before in s .pre (c .before .loop .g) (c .loop-test .taken))
-    -- returns, add-g, loop-less, loop-again, returns-2
+    -- The needs are returns, add-g, loop-less, loop-again and returns-2.
     (λ c. let l = c .before .before .before in
     let a = l .before .before .args in
     range-no (twoAt (a .w .now) (a .at) (a .above)) 0 (a .n) (l .loop .g) (l .loop .g) (omega arith) (c .before .before .loop-test .taken) (l .loop .inv .1)

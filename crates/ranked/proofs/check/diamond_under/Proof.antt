@@ -39,13 +39,13 @@ diamond-under-spec =
     tie.close
     (tie.spec Inv μ
     (λ c κs. search needs)
-    -- loop-holds, entry-at-requires
+    -- The needs are loop-holds and entry-at-requires.
     (λ c. (search needs, c .count-at .ensures, refl))
     (λ c κs. (search needs, search needs))
-    -- sups-at-requires, between-requires
+    -- The needs are sups-at-requires and between-requires.
     (λ c κs. omega (arith, fork c .down))
     (λ c κs. rw (c .sups-at .ensures) (fork (c .before)))
-    -- returns, add-k, loop-less, loop-again, returns-2
+    -- The needs are returns, add-k, loop-less, loop-again and returns-2.
     (λ c. let e = c .before .before .before in
     let l = e .before .before in
     let a = l .before .before .before .args in

@@ -44,7 +44,7 @@ pub is-bound-spec : {M : Type 1} → statement M
 is-bound-spec =
     tie.close
     (tie.spec Inv μ
-    -- loop-holds, add-loop
+    -- The needs are loop-holds and add-loop.
     (λ c. (search needs, refl))
     (λ c. search needs)
     -- The shape's numbers: add, mul, element-copy-out, twice.
@@ -54,12 +54,12 @@ is-bound-spec =
     (λ c. search needs)
     (λ c. omega (arith, c .before .before .before .before .pre .tall))
     (λ c. omega (arith, c .before .before .before .before .pre .tall))
-    -- sub-bound-rank, bound-rank-requires
+    -- The needs are sub-bound-rank and bound-rank-requires.
     (λ c. let l = c .before .before .before in let s = l .before .before in
     rising (s .args .t2) (s .args .w .now) (l .loop .k) (s .pre) (omega (arith, c .before .before .loop-test .taken)))
     (λ c κs. let l = c .before .before .before in let s = l .before .before in
     lies (s .args .t2) (s .args .w .now) (l .loop .k) (s .pre) (omega (arith, c .before .before .loop-test .taken)))
-    -- returns, add-k, loop-less, loop-again, returns-2
+    -- The needs are returns, add-k, loop-less, loop-again and returns-2.
     (λ c. let b = c .before in let l = b .before .before .before .before in let s = l .before .before in
     let more = b .before .before .before .loop-test .taken in
     range-no (p (s .args .t2) (s .args .w .now)) 1 _ (l .loop .k) (l .loop .k + 1) (omega arith) (omega arith) (l .loop .inv .1)

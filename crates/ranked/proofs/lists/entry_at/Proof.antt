@@ -12,7 +12,7 @@ entry-at-spec =
     tie.close
     (tie.spec
     (λ c κs. search needs)
-    -- add-get, get-requires-2
+    -- The needs are add-get and get-requires-2.
     (λ c. let s = c .before .before in omega (arith, c .get .ensures, list-in _ _ (s .pre .0)))
     (λ c κs. let s = c .before .before in omega (arith, c .get .ensures, list-in _ _ (s .pre .0)))
     (λ c. let s = c .before .before .before in

@@ -21,10 +21,10 @@ holds-at-spec =
     tie.close
     (tie.spec Inv μ
     (λ c κs. search needs)
-    -- loop-holds, entry-at-requires
+    -- The needs are loop-holds and entry-at-requires.
     (λ c. (search needs, c .count-at .ensures, refl))
     (λ c κs. (search needs, search needs))
-    -- returns, add-k, loop-less, loop-again, returns-2
+    -- The needs are returns, add-k, loop-less, loop-again and returns-2.
     (λ c. let l = c .before .before .before in
     holds-yes _ _ (l .loop .k) (omega (arith, c .before .before .loop-test .taken, l .loop .inv .1)) (l .loop .inv .2) (sym (c .before .entry-at .ensures) ∙ c .if1 .taken))
     (λ c. search needs)

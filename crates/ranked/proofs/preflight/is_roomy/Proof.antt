@@ -11,6 +11,6 @@ is-roomy-spec = tie.close (tie.spec
     (λ c. search needs)
     (λ c. search needs)
     (λ c. search needs)
-    -- returns, returns-2
+    -- The needs are returns and returns-2.
     (λ c. rw (le-leb _ _ (c .if1 .taken)))
     (λ c. rw (lt-leb _ _ (c .if1 .left))))

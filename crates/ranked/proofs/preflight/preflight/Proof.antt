@@ -24,7 +24,7 @@ preflight-spec = tie.close (tie.spec
     (λ c. search needs)
     (λ c κs. let p = read c in header-fits _ (p .0) (p .1) _ (p .2))
     (λ c κs. search needs)
-    -- returns, settle-requires, returns-2
+    -- The needs are returns, settle-requires and returns-2.
     (λ c. let i = c .before .before in
     let p = read (i .before) in
     cramped-in _ _ _ _ _ _ refl refl (p .0) (p .1) _ (p .2) _ (i .is-roomy .ensures) (not-true _ (c .before .if1 .taken)) (c .unready2 .ensures))
@@ -35,7 +35,7 @@ preflight-spec = tie.close (tie.spec
     (λ c. let v = c .before .before in
     let j = v .before .before .before in
     unread _ _ _ _ _ _ refl refl (refused-is (j .before .before .before .before .args .sheet .now) (j .judge .result) (j .judge .ensures) (v .verdict .given .1)) (c .unready .ensures))
-    -- same-length, same-length-2, returns-3
+    -- The needs are same-length, same-length-2 and returns-3.
     (λ c. search needs)
     (λ c. search needs)
     (λ c. let s = c .before .before .before .before in

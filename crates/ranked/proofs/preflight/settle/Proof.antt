@@ -13,7 +13,7 @@ settle-spec = tie.close (tie.spec
     (λ c κs. let t = c .before .before .before .before in
     let s = t .before .before .before .before .before .before .before in
     (low-asked (s .args .sheet .now) _ (s .pre .0) (s .args .header) (s .pre .1 .0) (t .store .ensures), t .store .ensures .held .some))
-    -- slice-reshare-prefix-checked, slice-aggregate-checked, checked-requires
+    -- The needs are slice-reshare-prefix-checked, slice-aggregate-checked and checked-requires.
     (λ c. let t = c .before .before .before .before .before in
     let s = t .before .before .before .before .before .before .before in
     omega (arith, low-in (s .args .sheet .now) _ (s .pre .0) (s .args .header) (s .pre .1 .0) (t .store .ensures) _ (c .low-of .ensures)))
@@ -25,11 +25,11 @@ settle-spec = tie.close (tie.spec
     let t = l .before .before .before .before .before in
     let s = t .before .before .before .before .before .before .before in
     held-low (s .args .sheet .now) _ (s .pre .0) (s .args .header) (s .pre .1 .0) (t .store .ensures) _ (l .low-of .ensures))
-    -- enum-known-verdict, unready-requires, enum-told
+    -- The needs are enum-known-verdict, unready-requires and enum-told.
     (λ c. search needs)
     (λ c κs. search needs)
     (λ c. search needs)
-    -- same-length, same-length-2, returns
+    -- The needs are same-length, same-length-2 and returns.
     (λ c. search needs)
     (λ c. search needs)
     (λ c. let v = c .before .before in
@@ -38,7 +38,7 @@ settle-spec = tie.close (tie.spec
     let t = l .before .before .before .before .before in
     let s = t .before .before .before .before .before .before .before in
     unsettled (s .args .sheet .now) _ (s .pre .0) (s .args .header) (s .pre .1 .0) (t .store .ensures) _ (l .low-of .ensures) _ (k .checked .ensures) _ (v .verdict .given .1) _ (c .unready .ensures))
-    -- same-length-3, same-length-4, returns-2
+    -- The needs are same-length-3, same-length-4 and returns-2.
     (λ c. search needs)
     (λ c. search needs)
     (λ c. let k = c .before .before in

@@ -32,11 +32,11 @@ unfolding entry far
 from10-spec =
     tie.close
     (tie.spec
-    -- slice-reshare-prefix-first-far, slice-aggregate-first-far, first-far-requires
+    -- The needs are slice-reshare-prefix-first-far, slice-aggregate-first-far and first-far-requires.
     (λ c. let s = c .before .before .before .before .before in omega (arith, s .pre .0 .words-in))
     (λ c. let s = c .before .before .before .before .before .before in sym (length-take-le (s .args .low) (s .args .words .now) (s .pre .0 .words-in)))
     (λ c κs. let s = c .before .before .before .before .before .before .before in (s .pre .0 .held, (s .pre .1 .0, points-in (s .pre .0))))
-    -- enum-told, enum-known-far, exchange-requires, from15-requires
+    -- The needs are enum-told, enum-known-far, exchange-requires and from15-requires.
     (λ c. search needs)
     (λ c. search needs)
     (λ c κs. let v = c .before .before in let s = entry (far v) in (laid (s .pre .0), (s .pre .1 .0, low v)))
@@ -53,14 +53,14 @@ from10-spec =
             _ (v .far .given .1) _ (x .exchange .ensures .0) (s .pre .1 .1),
       ),
     ))
-    -- same-length, same-length-2, returns
+    -- The needs are same-length, same-length-2 and returns.
     (λ c. search needs)
     (λ c. search needs)
     (λ c. let r = c .before .before in
     let s = entry r in
     let a = s .args in
     centred (a .sh) (a .low) (a .words .now) (a .floats .now) (a .rotations) (outOf (a .matrices .now) (a .rows .now) (a .marks .now)) (s .pre .0) (s .pre .1 .0) _ (r .first-far .ensures) (c .enum-told .given .1))
-    -- same-length-3 to same-length-7, returns-2
+    -- The needs are same-length-3 to same-length-7 and returns-2.
     (λ c. search needs)
     (λ c. search needs)
     (λ c. search needs)

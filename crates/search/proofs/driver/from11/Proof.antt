@@ -24,16 +24,16 @@ from11-spec =
     (λ c. let s = c .before .before .before .before .before .before in sym (length-take-le (s .args .low) (s .args .words .now) (s .pre .0 .words-in)))
     (λ c κs. let s = c .before .before .before .before .before .before .before .before in (s .pre .0 .held, (s .pre .0 .diamonds, (s .pre .1 .0 .0, points-in (s .pre .0)))))
     (λ c κs. entry c .pre .0 .held .wide)
-    -- same-length, same-length-2, returns
+    -- The needs are same-length, same-length-2 and returns.
     (λ c. search needs)
     (λ c. search needs)
     (λ c. let r = c .before in
     let i = r .before in
     let a = entry i .args in
     flat (a .sh) (a .low) (a .words .now) (a .floats .now) (a .rotations) (outOf (a .matrices .now) (a .rows .now) (a .marks .now)) _ _ _ _ (i .first-inverse .ensures) (r .is-regular .ensures) (not-true _ (c .if1 .taken)))
-    -- from-inverse-requires
+    -- The need is from-inverse-requires.
     (λ c κs. entry (c .before .before .before .before .before .before .before) .pre)
-    -- same-length-3 to same-length-7, returns-2
+    -- The needs are same-length-3 to same-length-7 and returns-2.
     (λ c. search needs)
     (λ c. search needs)
     (λ c. search needs)

@@ -30,21 +30,21 @@ from15-spec =
         ),
       ),
     ))
-    -- enum-told-2, same-length to same-length-5
+    -- The needs are enum-told-2 and same-length to same-length-5.
     (λ c. search needs)
     (λ c. search needs)
     (λ c. search needs)
     (λ c. search needs)
     (λ c. search needs)
     (λ c. search needs)
-    -- returns
+    -- The need is returns.
     (λ c. let k = c .before .before .before .before .before .before .before .before .before .before in
     let i = k .before .before .before .before .before .before in
     let t = i .before .before .before .before .before .before in
     let s = entry t in
     let a = s .args in
     settled (a .sh) (a .low) _ _ _ _ (a .rotations) (outOf (a .matrices .now) (a .rows .now) (a .marks .now)) _ (t .types-of .ensures) (i .enum-told .given .1) (a .f) _ (k .from11 .ensures))
-    -- same-length-6, same-length-7, returns-2
+    -- The needs are same-length-6, same-length-7 and returns-2.
     (λ c. search needs)
     (λ c. search needs)
     (λ c. let t = c .before .before .before .before .before .before in

@@ -22,13 +22,13 @@ from8-spec =
     let a = s .args in
     let h = tall (a .sh) (a .low) (a .words .now) (a .floats .now) (a .rotations) (outOf (a .matrices .now) (a .rows .now) (a .marks .now)) _ (f .is-full .ensures) (i .if1 .taken) in
     (s .pre, h))
-    -- same-length to same-length-5
+    -- The needs are same-length to same-length-5.
     (λ c. search needs)
     (λ c. search needs)
     (λ c. search needs)
     (λ c. search needs)
     (λ c. search needs)
-    -- returns, returns-2
+    -- The needs are returns and returns-2.
     (λ c. let k = c .before .before .before .before .before .before .before .before .before .before in
     let i = k .before .before .before .before .before .before in
     let f = i .before in

@@ -25,24 +25,24 @@ unfolding entry
 from9-spec =
     tie.close
     (tie.spec
-    -- array-read-v, array-read-v-2, sub-v, no-double-requires
+    -- The needs are array-read-v, array-read-v-2, sub-v and no-double-requires.
     (λ c. search needs)
     (λ c. search needs)
     (λ c. let s = c .before .before .before .before .before .before in omega (arith, s .pre .0 .held .some 1 (omega (arith, s .pre .1 .0))))
     (λ c κs. let s = c .before .before .before .before .before .before .before in (s .pre .0 .held .wide, points s))
-    -- from10-requires
+    -- The need is from10-requires.
     (λ c κs. let i = c .before .before .before .before .before in
     let n = i .before in
     let s = entry n in
     let a = s .args in
     (s .pre .0, (s .pre .1 .0, parted (a .sh) (a .low) (a .words .now) (a .floats .now) (a .rotations) (outOf (a .matrices .now) (a .rows .now) (a .marks .now)) (s .pre .1 .0) _ refl _ (n .no-double .ensures) (i .if1 .taken) (s .pre .1 .1))))
-    -- same-length to same-length-5
+    -- The needs are same-length to same-length-5.
     (λ c. search needs)
     (λ c. search needs)
     (λ c. search needs)
     (λ c. search needs)
     (λ c. search needs)
-    -- returns, same-length-6, returns-2
+    -- The needs are returns, same-length-6 and returns-2.
     (λ c. let k = c .before .before .before .before .before .before .before .before .before .before in
     let i = k .before .before .before .before .before .before in
     let n = i .before in

@@ -27,13 +27,13 @@ unfolding entry printed listed roomOf
 from-inverse-spec =
     tie.close
     (tie.spec
-    -- add-last, mul-at, element-copy-out-at, add-at, write-prints-requires
+    -- The needs are add-last, mul-at, element-copy-out-at, add-at and write-prints-requires.
     (λ c. let s = c .before .before .before .before .before in omega (arith, s .pre .0 .held .tall))
     (λ c. let s = c .before .before .before .before .before in omega (arith, s .pre .0 .held .tall))
     (λ c. let s = c .before .before .before .before .before in omega (arith, s .pre .0 .held .tall))
     (λ c. let s = c .before .before .before .before .before .before in omega (arith, prints-in (s .pre .0) _ (after-types (s .args .t3) (s .args .low)) .1))
     (λ c κs. let s = c .before .before .before .before .before .before .before in (s .pre .0 .held, prints-in (s .pre .0) _ (after-types (s .args .t3) (s .args .low))))
-    -- list-members-requires
+    -- The need is list-members-requires.
     (λ c κs. let p = c .before .before .before .before .before .before in
     let s = entry p in
     searching (s .pre .0) _ (after-types (s .args .t3) (s .args .low)) _ (p .write-prints .kept .0) (p .write-prints .ensures .0) (p .write-prints .ensures .1) (s .pre .1 .0 .0) (s .pre .1 .1 .0) (s .pre .1 .1 .1))
@@ -51,7 +51,7 @@ from-inverse-spec =
     none-listed (s .pre .0) (a .f) (s .pre .1 .0) (s .pre .1 .1 .0) _ (after-types (a .t3) (a .low)) _ (p .write-prints .kept .0) (p .write-prints .ensures .0) (p .write-prints .ensures .1)
     (corner (a .t3 .dimension) (a .inv)) (a .rotations) (outOf (a .matrices .now) (a .rows .now) (a .marks .now)) (l .list-members .result) _ _ (l .list-members .ensures)
     _ (c .answer-of .ensures) (t .if1 .taken))
-    -- exchange-requires, array-read-v, array-read-v-2, sub-v
+    -- The needs are exchange-requires, array-read-v, array-read-v-2 and sub-v.
     (λ c κs. let l = c .before .before .before .before .before .before in
     let p = printed l in
     let s = entry p in
@@ -60,7 +60,7 @@ from-inverse-spec =
     (λ c. search needs)
     (λ c. search needs)
     (λ c. let s = entry (printed (listed (c .before .before .before))) in omega (arith, s .pre .0 .held .some 1 (omega (arith, s .pre .1 .0 .0))))
-    -- write-marks-requires
+    -- The need is write-marks-requires.
     (λ c κs. let x = c .before .before .before .before .before .before .before in
     let l = listed x in
     let p = printed l in

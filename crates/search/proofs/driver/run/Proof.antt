@@ -14,7 +14,7 @@ unfolding entry
 run-spec =
     tie.close
     (tie.spec
-    -- preflight-requires, enum-known-verdict, enum-told, from8-requires
+    -- The needs are preflight-requires, enum-known-verdict, enum-told and from8-requires.
     (λ c κs. search needs)
     (λ c. search needs)
     (λ c. search needs)
@@ -22,14 +22,14 @@ run-spec =
     let p = v .before .before .before .before .before .before .before in
     let a = entry p .args in
     benched _ _ _ _ _ _ (p .preflight .ensures) (a .rotations) (outOf (a .matrices .now) (a .rows .now) (a .marks .now)) (v .enum-told .given .1))
-    -- same-length, same-length-2, returns
+    -- The needs are same-length, same-length-2 and returns.
     (λ c. search needs)
     (λ c. search needs)
     (λ c. let v = c .before in
     let p = v .before .before .before .before .before .before .before in
     let a = entry p .args in
     refused-call _ _ _ _ _ _ (p .preflight .ensures) (a .rotations) (outOf (a .matrices .now) (a .rows .now) (a .marks .now)) _ (v .verdict .given .1))
-    -- same-length-3 to same-length-7, returns-2
+    -- The needs are same-length-3 to same-length-7 and returns-2.
     (λ c. search needs)
     (λ c. search needs)
     (λ c. search needs)

@@ -35,7 +35,7 @@ unfolding start farOf ofBits eps
 first-far-spec =
     tie.close
     (tie.spec Inv μ
-    -- sub-r, add-n, mul-n, array-read-n, mul-n-2, array-read-n-2, sub-n
+    -- The needs are sub-r, add-n, mul-n, array-read-n, mul-n-2, array-read-n-2 and sub-n.
     (λ c. let s = c .before .before .before .before in omega (arith, s .pre .1 .0))
     (λ c. let s = c .before .before .before .before in omega (arith, s .pre .0 .tall))
     (λ c. let s = c .before .before .before .before in omega (arith, s .pre .0 .tall))
@@ -43,18 +43,18 @@ first-far-spec =
     (λ c. let s = c .before .before .before .before in omega (arith, s .pre .0 .tall))
     (λ c. let s = c .before .before .before .before in omega (arith, s .pre .0 .tall))
     (λ c. let s = c .before .before .before .before in rw (add-one (s .args .sh .rank - 1)) (omega (arith, s .pre .0 .some (s .args .sh .rank - 1) (omega arith))))
-    -- loop-holds, element-distance-requires
+    -- The needs are loop-holds and element-distance-requires.
     (λ c. (search needs, refl))
     (λ c κs. let s = start (c .before) in
     (s .pre .0, ((omega (arith, s .pre .1 .0), omega arith, omega (arith, facets (s .args .sh), c .loop-test .taken)), s .pre .1 .1)))
-    -- returns
+    -- The need is returns.
     (λ c. let e = c .before in
     let t = e .before in
     let s = start (t .before) in
     let a = s .args in
     rw (← facets (a .sh)) (far-found (solidOn (a .sh) (a .w .now) (a .points .now) (a .sh .dimension)) _ _ (t .loop-test .taken) (t .before .loop .inv .1)
     (test-is (a .sh) (a .w .now) (a .points .now) _ _ true (e .element-distance .ensures) (c .if1 .taken))))
-    -- add-f, loop-less, loop-again, returns-2
+    -- The needs are add-f, loop-less, loop-again and returns-2.
     (λ c. let t = c .before .before in
     let s = start (t .before) in
     let n = s .args .sh .rank - 1 in

@@ -21,11 +21,11 @@ pub first-inverse-spec : {M : Type 1} → statement M
 first-inverse-spec =
     tie.close
     (tie.spec
-    -- first-requires, columns-requires, inverse-requires
+    -- The needs are first-requires, columns-requires and inverse-requires.
     (λ c κs. search needs)
     (λ c κs. let s = c .before .before .before in (s .pre .0, (s .pre .1 .0, (is-flag c, (omega (arith, s .pre .1 .1 .0), s .pre .1 .1 .1)))))
     (λ c κs. c .before .before .before .before .before .pre .0 .wide)
-    -- returns
+    -- The need is returns.
     (λ c. let f = c .before .before .before in
     let a = f .before .before .before .args in
     let d = a .sh .dimension in

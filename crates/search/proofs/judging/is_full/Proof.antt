@@ -9,7 +9,7 @@ pub is-full-spec : {M : Type 1} → statement M
 is-full-spec =
     tie.close
     (tie.spec
-    -- sub-result, returns, returns-2
+    -- The needs are sub-result, returns and returns-2.
     (λ c. search needs)
     (λ c. rw (le-leb _ _ (c .before .before .if1 .taken)))
     (λ c. rw (lt-leb _ _ (c .if1 .left))))

@@ -11,7 +11,7 @@ unfolding regular ifRegular
 is-regular-spec =
     tie.close
     (tie.spec
-    -- all-finite-requires, returns, returns-2
+    -- The needs are all-finite-requires, returns and returns-2.
     (λ c κs. search needs)
     (λ c. rw (c .before .if1 .taken) (c .all-finite .ensures))
     (λ c. rw (c .if1 .left)))

@@ -31,22 +31,22 @@ unfolding entry
 write-marks-spec =
     tie.close
     (tie.spec
-    -- add-last, mul-at, element-copy-out-at, add-at
+    -- The needs are add-last, mul-at, element-copy-out-at and add-at.
     (λ c. let s = c .before .before .before .before in omega (arith, s .pre .0 .held .tall))
     (λ c. let s = c .before .before .before .before in omega (arith, s .pre .0 .held .tall))
     (λ c. let s = c .before .before .before .before in omega (arith, s .pre .0 .held .tall))
     (λ c. let s = entry c in omega (arith, prints-in (s .pre .0) _ (after-types (s .args .t3) (s .args .low)) .1))
-    -- slice-reshare-prefix-all-classes, slice-aggregate-all-classes, all-classes-requires
+    -- The needs are slice-reshare-prefix-all-classes, slice-aggregate-all-classes and all-classes-requires.
     (λ c. search needs)
     (λ c. let s = entry (c .before) in sym (length-take-le (s .args .low) (s .args .words .now) (s .pre .0 .words-in)))
     (λ c κs. let s = entry (c .before .before) in (s .pre .0 .held, roomy-floats _ _ (s .pre .0 .held) _ (s .pre .0 .floats)))
-    -- write-prints-requires, are-apart-requires
+    -- The needs are write-prints-requires and are-apart-requires.
     (λ c κs. let s = entry (c .before .before .before .before .before .before) in
     (s .pre .0 .held, prints-in (s .pre .0) _ (after-types (s .args .t3) (s .args .low))))
     (λ c κs. let p = c .before .before .before in
     let s = entry (p .before .before .before .before .before .before .before) in
     ready (s .pre .0) _ (after-types (s .args .t3) (s .args .low)) _ (p .write-prints .kept .0) (p .write-prints .ensures .0) (p .write-prints .ensures .1))
-    -- slice-reshare-prefix-mark-rows, slice-aggregate-mark-rows, slice-aggregate-mark-rows-2
+    -- The needs are slice-reshare-prefix-mark-rows, slice-aggregate-mark-rows and slice-aggregate-mark-rows-2.
     (λ c. let p = c .before .before .before .before in
     let s = entry (p .before .before .before .before .before .before .before) in
     omega (arith, p .write-prints .kept .0, s .pre .0 .words-in))
@@ -55,7 +55,7 @@ write-marks-spec =
     let h : s .args .low ≤ length (p .write-prints .last .0) = omega (arith, p .write-prints .kept .0, s .pre .0 .words-in) in
     sym (length-take-le (s .args .low) (p .write-prints .last .0) h))
     (λ c. search needs)
-    -- mark-rows-requires
+    -- The need is mark-rows-requires.
     (λ c κs. let q = c .before .before .before .before in
     let p = q .before .before .before .before in
     let a = p .before .before .before .before in
@@ -63,7 +63,7 @@ write-marks-spec =
       markable (s .pre .0) _ _ (a .all-classes .ensures) _ (kept p) _ (q .are-apart .ensures) _ (omega arith),
       (rw (kept p) (s .pre .1 .0), s .pre .1 .1, s .pre .1 .2),
     ))
-    -- same-length, same-length-2, same-length-3, returns
+    -- The needs are same-length, same-length-2, same-length-3 and returns.
     (λ c. search needs)
     (λ c. search needs)
     (λ c. search needs)

@@ -26,16 +26,16 @@ pub find-class-spec : {M : Type 1} → statement M
 find-class-spec =
     tie.close
     (tie.spec Inv μ
-    -- loop-holds, add-get, get-requires
+    -- The needs are loop-holds, add-get and get-requires.
     (λ c. let s = c .before .before in (search needs, class-first _ _ _ _ _ _))
     (λ c. search needs)
     (λ c κs. search needs)
-    -- add-same-class, mul-same-class, shared-slice-read-same-class, same-class-requires
+    -- The needs are add-same-class, mul-same-class, shared-slice-read-same-class and same-class-requires.
     (λ c. let k = rep-in c in omega arith)
     (λ c. let k = rep-in c in search needs)
     (λ c. rep-in (c .before))
     (λ c κs. search needs)
-    -- returns, add-j, loop-less, loop-again, returns-2
+    -- The needs are returns, add-j, loop-less, loop-again and returns-2.
     (λ c. let g = c .before .before .before in
     let l = g .before .before in
     class-yes _ _ _ _ _ _ (l .loop .j) (l .loop .inv .1) (g .before .loop-test .taken) (rw (g .get .ensures) at (sym (c .before .same-class .ensures) ∙ c .if1 .taken)))

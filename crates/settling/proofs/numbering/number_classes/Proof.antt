@@ -34,40 +34,40 @@ pub number-classes-spec : {M : Type 1} → statement M
 number-classes-spec =
     tie.close
     (tie.spec Inv μ
-    -- loop-holds
+    -- The need is loop-holds.
     (λ c. scan-first _ _ _ _ _ _ (c .before .before .pre))
-    -- add-x, mul-x, shared-slice-read-x
+    -- The needs are add-x, mul-x and shared-slice-read-x.
     (λ c. let k = c .before .before .before .before .pre .inside in omega (arith, c .loop-test .taken))
     (λ c. let k = c .before .before .before .before .pre .inside in search needs)
     (λ c. let k = c .before .before .before .before .before .pre .inside in omega (arith, c .before .loop-test .taken))
-    -- find-class-requires
+    -- The need is find-class-requires.
     (λ c κs. let i = c .before .before in
     let l = i .before in
     reps-in _ _ _ _ _ _ (l .before .before .before .pre) _ _ _ (l .loop .inv) (i .loop-test .taken))
-    -- cast-words, add-words, mul-words, slice-write-words, add-e
+    -- The needs are cast-words, add-words, mul-words, slice-write-words and add-e.
     (λ c. let l = c .before .before .before .before in omega (arith, within c, l .loop .inv .few, l .loop .inv .bound, l .before .before .before .pre .small))
     (λ c. omega (arith, room c))
     (λ c. omega (arith, room c))
     (λ c. room c .0)
     (λ c. omega (arith, room c))
-    -- cast-words-2, add-words-2, mul-words-2, slice-write-words-2, add-m
+    -- The needs are cast-words-2, add-words-2, mul-words-2, slice-write-words-2 and add-m.
     (λ c. let i = c .before .before .before .before in omega (arith, i .loop-test .taken, i .before .before .before .before .pre .small))
     (λ c. omega (arith, room (c .before)))
     (λ c. omega (arith, room (c .before)))
     (λ c. simp length-set (room (c .before) .1))
     (λ c. omega (arith, room (c .before)))
-    -- loop-less, loop-again
+    -- The needs are loop-less and loop-again.
     (λ c. search needs)
     (λ c. let p = c .before in
     let i = p .before .before .before in
     let l = i .before in
     scan-new _ _ _ _ _ _ (l .before .before .before .pre) _ _ _ (l .loop .inv) (i .loop-test .taken) _ (p .find-class .ensures) (c .if1 .taken))
-    -- loop-less-2, loop-again-2
+    -- The needs are loop-less-2 and loop-again-2.
     (λ c. search needs)
     (λ c. let p = c .before in
     let i = p .before .before .before in
     let l = i .before in
     scan-old _ _ _ _ _ _ (l .before .before .before .pre) _ _ _ (l .loop .inv) (i .loop-test .taken) _ (p .find-class .ensures) (c .if1 .left))
-    -- same-length, returns
+    -- The needs are same-length and returns.
     (λ c. c .before .loop .inv .long)
     (λ c. let l = c .before in scan-end _ _ _ _ _ _ (l .before .before .before .pre) _ _ _ (l .loop .inv) (c .loop-test .left)))

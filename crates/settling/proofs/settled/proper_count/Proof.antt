@@ -10,9 +10,9 @@ pub proper-count-spec : {M : Type 1} → statement M
 proper-count-spec =
     tie.close
     (tie.spec
-    -- returns
+    -- The need is returns.
     (λ c. let p = c .before .pre in none-proper _ (p .0) (p .1) (c .if1 .taken) .0)
-    -- mul-result, array-read-result, array-read-result-2, sub-result, returns-2
+    -- The needs are mul-result, array-read-result, array-read-result-2, sub-result and returns-2.
     (λ c. let p = c .before .before .pre in omega (arith, p .1 .tall))
     (λ c. let p = c .before .before .pre in omega (arith, p .1 .tall))
     (λ c. search needs)

@@ -28,22 +28,22 @@ unfolding first endOf
 settle-spec =
     tie.close
     (tie.spec Inv μ
-    -- sweep-requires, type-count-requires
+    -- The needs are sweep-requires and type-count-requires.
     (λ c κs. c .before .before .pre .sweepable)
     (λ c κs. first-countable _ _ _ _ (swept (c .before .before .before)))
-    -- proper-count-requires, add-left
+    -- The needs are proper-count-requires and add-left.
     (λ c κs. let s = c .before .before .before .before .before .before .before in
     (take (s .args .low) (s .args .words .now), s .pre .sweepable .held))
     (λ c. let s = c .before .before .before .before .before .before .before .before in
     omega (arith, c .proper-count .ensures, s .pre .room, s .pre .sweepable .held .some (s .args .sh .rank) (omega arith)))
-    -- loop-holds
+    -- The need is loop-holds.
     (λ c. settling-first _ _ _ _ _ (c .before .type-count .ensures))
-    -- sweep-requires-2, type-count-requires-2
+    -- The needs are sweep-requires-2 and type-count-requires-2.
     (λ c κs. let l = c .before .before in ready _ _ _ _ (swept (first l)) _ _ _ _ (l .loop .inv))
     (λ c κs. let u = c .before .before .before in
     let l = u .before .before .before in
     next-countable _ _ _ _ (swept (first l)) _ _ _ _ (l .loop .inv) _ (u .sweep2 .kept .0) (u .sweep2 .ensures .0) (u .sweep2 .ensures .1))
-    -- same-length, returns
+    -- The needs are same-length and returns.
     (λ c. let u = c .before .before .before .before .before in
     let l = u .before .before .before in
     u .sweep2 .kept .0 ∙ l .loop .inv .long ∙ first l .sweep .kept .0)
@@ -56,7 +56,7 @@ settle-spec =
     (u-lists _ _ _ _ (swept f) _ _ _ _ (l .loop .inv) _ (u .sweep2 .kept .0) (u .sweep2 .ensures .0) (u .sweep2 .ensures .1))
     (next-countable _ _ _ _ (swept f) _ _ _ _ (l .loop .inv) _ (u .sweep2 .kept .0) (u .sweep2 .ensures .0) (u .sweep2 .ensures .1))
     (stays _ _ _ _ (swept f) _ _ _ _ (l .loop .inv) _ (u .sweep2 .kept .0) (u .sweep2 .ensures .0) (u .sweep2 .ensures .1) (i .loop-test .taken) _ (t .type-count2 .ensures) (c .if1 .taken)))
-    -- sub-left, loop-less, loop-again
+    -- The needs are sub-left, loop-less and loop-again.
     (λ c. search needs)
     (λ c. search needs)
     (λ c. let t = c .before in
@@ -64,7 +64,7 @@ settle-spec =
     let i = u .before .before in
     let l = i .before in
     settling-next _ _ _ _ (swept (first l)) _ _ _ _ (l .loop .inv) _ (u .sweep2 .kept .0) (u .sweep2 .ensures .0) (u .sweep2 .ensures .1) (i .loop-test .taken) _ (t .type-count2 .ensures) (c .if1 .left))
-    -- same-length-2, returns-2
+    -- The needs are same-length-2 and returns-2.
     (λ c. let l = c .before in l .loop .inv .long ∙ first l .sweep .kept .0)
     (λ c. let l = c .before in
     let f = first l in

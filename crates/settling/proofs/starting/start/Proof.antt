@@ -34,44 +34,44 @@ unfolding entry
 start-spec =
     tie.close
     (tie.spec Inv μ
-    -- mul-last, element-copy-out-last
+    -- The needs are mul-last and element-copy-out-last.
     (λ c. omega (arith, c .before .before .pre .sweepable .held .tall))
     (λ c. omega (arith, c .before .before .pre .sweepable .held .tall))
-    -- add-out, mul-out, element-copy-out-out, add-out-2
+    -- The needs are add-out, mul-out, element-copy-out-out and add-out-2.
     (λ c. omega (arith, c .before .before .before .pre .sweepable .held .tall))
     (λ c. omega (arith, c .before .before .before .pre .sweepable .held .tall))
     (λ c. omega (arith, c .before .before .before .pre .sweepable .held .tall))
     (λ c. omega (arith, out-in _ _ _ _ (entry c .pre)))
-    -- mul-words, slice-write-words, add-words, mul-words-2, slice-write-words-2
+    -- The needs are mul-words, slice-write-words, add-words, mul-words-2 and slice-write-words-2.
     (λ c. omega (arith, starts-in _ _ _ _ (entry c .pre) (entry c .args .t3 .rank) (omega arith)))
     (λ c. omega (arith, starts-in _ _ _ _ (entry c .pre) (entry c .args .t3 .rank) (omega arith)))
     (λ c. omega (arith, starts-in _ _ _ _ (entry c .pre) (entry c .args .t3 .rank) (omega arith)))
     (λ c. omega (arith, starts-in _ _ _ _ (entry c .pre) (entry c .args .t3 .rank) (omega arith)))
     (λ c. simp length-set (starts-in _ _ _ _ (entry c .pre) (entry c .args .t3 .rank) (omega arith)))
-    -- loop-holds
+    -- The need is loop-holds.
     (λ c. begun-first _ _ _ _ (startable-opened _ _ _ _ (entry c .pre)))
-    -- mul-first, element-copy-out-first, add-next, mul-next, element-copy-out-next
+    -- The needs are mul-first, element-copy-out-first, add-next, mul-next and element-copy-out-next.
     (λ c. omega (arith, ranks c))
     (λ c. omega (arith, ranks c))
     (λ c. omega (arith, ranks (c .before)))
     (λ c. omega (arith, ranks (c .before)))
     (λ c. omega (arith, ranks (c .before)))
-    -- element-copy-out-done, sub-done
+    -- The needs are element-copy-out-done and sub-done.
     (λ c. search needs)
     (λ c. ranks (c .before .before .before) .0)
-    -- add-number-classes, sub-number-classes, number-classes-requires
+    -- The needs are add-number-classes, sub-number-classes and number-classes-requires.
     (λ c. omega (arith, ranks (c .before .before .before .before)))
     (λ c. omega (arith, ranks (c .before .before .before .before)))
     (λ c κs. let i = c .before .before .before .before in
     let l = i .before in
     fitting _ _ _ _ (startable-opened _ _ _ _ (entry (l .before) .pre)) _ _ (l .loop .inv) (i .loop-test .taken))
-    -- add-r, loop-less, loop-again
+    -- The needs are add-r, loop-less and loop-again.
     (λ c. omega (arith, ranks (c .before .before .before .before .before .before .before)))
     (λ c. search needs)
     (λ c. let k = c .before .before in
     let i = k .before .before .before .before .before in
     let l = i .before in
     begun-next _ _ _ _ (startable-opened _ _ _ _ (entry (l .before) .pre)) _ _ (l .loop .inv) (i .loop-test .taken) _ (k .number-classes .ensures))
-    -- same-length, returns
+    -- The needs are same-length and returns.
     (λ c. let l = c .before in l .loop .inv .long ∙ long₂ _ _ _ _ (entry (l .before) .pre))
     (λ c. let l = c .before in begun-end _ _ _ _ (entry (l .before) .pre) _ _ (l .loop .inv) (c .loop-test .left)))

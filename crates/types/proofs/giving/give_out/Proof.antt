@@ -31,25 +31,25 @@ pub give-out-spec : {M : Type 1} → statement M
 give-out-spec =
     tie.close
     (tie.spec
-    -- type-count-requires, proper-count-requires
+    -- The needs are type-count-requires and proper-count-requires.
     (λ c κs. search needs)
     (λ c κs. search needs)
-    -- returns
+    -- The need is returns.
     (λ c. let p = c .before in
     let s = p .before .before .before .before .before in
     short-elements _ _ _ (s .pre) (old s) (omega (arith, c .if1 .taken, p .proper-count .ensures)))
-    -- mul-if2, returns-2
+    -- The needs are mul-if2 and returns-2.
     (λ c. let t = c .before .before in
     let s = t .before .before .before .before in
     omega (arith, t .type-count .ensures, types-few _ _ _ (s .pre) (old s)))
     (λ c. let p = c .before .before in
     let s = p .before .before .before .before .before in
     short-types _ _ _ (s .pre) (old s) (omega (arith, c .before .if1 .left, p .proper-count .ensures)) (omega (arith, c .if2 .taken, p .before .type-count .ensures)))
-    -- write-types-requires, write-table-requires
+    -- The needs are write-types-requires and write-table-requires.
     (λ c κs. let s = c .before .before .before .before .before .before .before .before in
     (s .pre, omega (arith, room (c .before), proper-is (s .args .sh) (take (s .args .low) (s .args .words .now)) (s .pre .held))))
     (λ c κs. search needs)
-    -- same-length, same-length-2, returns-3
+    -- The needs are same-length, same-length-2 and returns-3.
     (λ c. search needs)
     (λ c. search needs)
     (λ c. let w = c .before .before in

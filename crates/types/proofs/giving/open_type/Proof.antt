@@ -26,6 +26,6 @@ open-type-spec =
     (λ c. search needs)
     (λ c. search needs)
     (λ c. simp length-set (omega arith))
-    -- same-length, returns
+    -- The needs are same-length and returns.
     (λ c. simp length-set)
     (λ c. let a = c .args in sets-four (a .table .now) (a .at) (a .r) (a .t) (a .e) 1))

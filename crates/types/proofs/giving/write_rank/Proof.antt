@@ -46,15 +46,15 @@ pub write-rank-spec : {M : Type 1} → statement M
 write-rank-spec =
     tie.close
     (tie.spec Inv μ
-    -- loop-holds
+    -- The need is loop-holds.
     (λ c. rows-first _ _ _ _ _ _)
-    -- add-get, get-requires
+    -- The needs are add-get and get-requires.
     (λ c. search needs)
     (λ c κs. search needs)
-    -- cast-here, add-e
+    -- The needs are cast-here and add-e.
     (λ c. omega (arith, fits c))
     (λ c. omega (arith, fits c))
-    -- add-open-type, mul-open-type, cast-open-type, cast-open-type-2, open-type-requires
+    -- The needs are add-open-type, mul-open-type, cast-open-type, cast-open-type-2 and open-type-requires.
     (λ c. omega (arith, fits (c .before .before)))
     (λ c. omega (arith, fits (c .before .before)))
     (λ c. omega (arith, fits (c .before .before)))
@@ -62,21 +62,21 @@ write-rank-spec =
     (λ c κs. let g = c .before .before in
     let l = g .before .before in
     record-fits _ _ _ _ _ _ (l .before .before .before .pre) _ _ _ (l .loop .inv) (g .before .loop-test .taken) _ (g .get .ensures) (c .before .if1 .taken))
-    -- add-k, loop-less, loop-again
+    -- The needs are add-k, loop-less and loop-again.
     (λ c. omega (arith, fits (c .before .before .before .before .before)))
     (λ c. search needs)
     (λ c. let g = c .before .before .before .before .before in
     let l = g .before .before in
     rw (c .before .before .open-type .ensures)
     (rows-new _ _ _ _ _ _ (l .before .before .before .pre) _ _ _ (l .loop .inv) (g .before .loop-test .taken) _ (g .get .ensures) (c .before .before .before .before .if1 .taken)))
-    -- add-cell, mul-cell, add-cell-2
+    -- The needs are add-cell, mul-cell and add-cell-2.
     (λ c. omega (arith, cell c))
     (λ c. omega (arith, cell c))
     (λ c. omega (arith, cell c))
-    -- mul-count, slice-read-count
+    -- The needs are mul-count and slice-read-count.
     (λ c. omega (arith, cell c))
     (λ c. cell (c .before) .0)
-    -- add-table, mul-table, slice-write-table
+    -- The needs are add-table, mul-table and slice-write-table.
     (λ c. let g = c .before .before in
     let l = g .before .before in
     omega (
@@ -85,11 +85,11 @@ write-rank-spec =
     ))
     (λ c. omega (arith, cell (c .before)))
     (λ c. cell (c .before) .0)
-    -- loop-less-2, loop-again-2
+    -- The needs are loop-less-2 and loop-again-2.
     (λ c. search needs)
     (λ c. let g = c .before .before in
     let l = g .before .before in
     rows-old _ _ _ _ _ _ (l .before .before .before .pre) _ _ _ (l .loop .inv) (g .before .loop-test .taken) _ (g .get .ensures) (c .before .if1 .left))
-    -- same-length, returns
+    -- The needs are same-length and returns.
     (λ c. let l = c .before in rows-long _ _ _ _ _ _ (l .before .before .before .pre) _ _ _ (l .loop .inv))
     (λ c. let l = c .before in rows-end _ _ _ _ _ _ (l .before .before .before .pre) _ _ _ (l .loop .inv) (c .loop-test .left)))

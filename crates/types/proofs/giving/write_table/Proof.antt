@@ -26,31 +26,31 @@ pub write-table-spec : {M : Type 1} → statement M
 write-table-spec =
     tie.close
     (tie.spec Inv μ
-    -- loop-holds
+    -- The need is loop-holds.
     (λ c. tabled-first _ _ _ _)
-    -- mul-first, element-copy-out-first
+    -- The needs are mul-first and element-copy-out-first.
     (λ c. search needs)
     (λ c. omega (arith, ranks c))
-    -- add-next, mul-next, element-copy-out-next
+    -- The needs are add-next, mul-next and element-copy-out-next.
     (λ c. omega (arith, ranks (c .before)))
     (λ c. omega (arith, ranks (c .before)))
     (λ c. ranks (c .before) .2)
-    -- add-write-rank, sub-write-rank
+    -- The needs are add-write-rank and sub-write-rank.
     (λ c. let i = c .before .before in omega (arith, ranks i, i .before .before .before .before .pre .0 .room))
     (λ c. omega (arith, ranks (c .before .before)))
-    -- write-rank-requires
+    -- The need is write-rank-requires.
     (λ c κs. let i = c .before .before .before in
     let l = i .before in
     let s = l .before .before .before in
     listable _ _ _ (s .pre .0) _ (s .pre .1) _ _ _ (l .loop .inv) (i .loop-test .taken))
-    -- add-m, add-r
+    -- The needs are add-m and add-r.
     (λ c. let k = c .before .before in
     let i = k .before .before .before .before in
     let l = i .before in
     let s = l .before .before .before in
     omega (arith, types-fit _ _ _ (s .pre .0) _ (s .pre .1) _ _ _ (l .loop .inv) (i .loop-test .taken) _ (k .write-rank .ensures .0)))
     (λ c. omega (arith, ranks (c .before .before .before .before .before .before)))
-    -- loop-less, loop-again
+    -- The needs are loop-less and loop-again.
     (λ c. search needs)
     (λ c. let k = c .before .before in
     let i = k .before .before .before .before in
@@ -58,7 +58,7 @@ write-table-spec =
     let s = l .before .before .before in
     rw (k .write-rank .ensures .1)
     (tabled-next _ _ _ (s .pre .0) _ (s .pre .1) _ _ _ (l .loop .inv) (i .loop-test .taken) _ (k .write-rank .ensures .0)))
-    -- same-length, returns
+    -- The needs are same-length and returns.
     (λ c. let l = c .before in
     let s = l .before .before .before in
     tabled-long _ _ _ (s .pre .0) _ (s .pre .1) _ _ _ (l .loop .inv))

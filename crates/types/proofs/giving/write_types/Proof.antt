@@ -29,13 +29,13 @@ pub write-types-spec : {M : Type 1} → statement M
 write-types-spec =
     tie.close
     (tie.spec Inv μ
-    -- proper-count-requires
+    -- The need is proper-count-requires.
     (λ c κs. omega (arith, c .before .before .pre .0 .held .tall))
-    -- element-copy-out-first
+    -- The need is element-copy-out-first.
     (λ c. search needs)
-    -- loop-holds
+    -- The need is loop-holds.
     (λ c. copied-first _ _ _ _)
-    -- add-get, add-get-2, get-requires
+    -- The needs are add-get, add-get-2 and get-requires.
     (λ c. omega (arith, inside (c .before .before .before)))
     (λ c. omega (arith, inside (c .before .before .before)))
     (λ c κs. omega (arith, inside (c .before .before .before)))
@@ -50,14 +50,14 @@ write-types-spec =
     let p = l .before .before in
     let s = p .before .before .before in
     omega (arith, inside p, copied-long _ _ _ (s .pre .0) _ (s .pre .1) _ (p .proper-count .ensures) _ _ (l .loop .inv)))
-    -- add-k, loop-less, loop-again
+    -- The needs are add-k, loop-less and loop-again.
     (λ c. omega (arith, inside (c .before .before .before .before)))
     (λ c. search needs)
     (λ c. let l = c .before .before in
     let p = l .before .before in
     let s = p .before .before .before in
     copied-next _ _ _ (s .pre .0) _ (s .pre .1) _ (p .proper-count .ensures) _ _ (l .loop .inv) (c .before .loop-test .taken) _ (c .get .ensures))
-    -- same-length, returns
+    -- The needs are same-length and returns.
     (λ c. let l = c .before in
     let p = l .before .before in
     let s = p .before .before .before in

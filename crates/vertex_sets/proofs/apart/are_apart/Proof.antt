@@ -25,10 +25,10 @@ unfolding properRanks
 are-apart-spec =
     tie.close
     (tie.spec Inv μ
-    -- loop-holds, rank-apart-requires
+    -- The needs are loop-holds and rank-apart-requires.
     (λ c. passed-none _ _ _)
     (λ c κs. let s = c .before .before .before in (s .pre, (c .before .loop .inv .low, c .loop-test .taken)))
-    -- returns, add-r, loop-less, loop-again, returns-2
+    -- The needs are returns, add-r, loop-less, loop-again and returns-2.
     (λ c. let a = c .before in let i = a .before in let l = i .before in let s = l .before .before in
     passed-no (l .loop .inv) (omega (arith, i .loop-test .taken, (top-is (s .args .sh) (take (s .args .low) (s .args .words .now))), l .loop .inv .low)) (sym (a .rank-apart .ensures) ∙ not-true _ (c .if1 .taken)))
     (λ c. let a = c .before in let i = a .before in let l = i .before in let s = l .before .before in omega (arith, i .loop-test .taken, s .pre .held .tall))

@@ -19,7 +19,7 @@ pub is-repeated-spec : {M : Type 1} → statement M
 is-repeated-spec =
     tie.close
     (tie.spec
-    -- slice-aggregate-vertex-list, slice-aggregate-vertex-list-2, vertex-list-requires
+    -- The needs are slice-aggregate-vertex-list, slice-aggregate-vertex-list-2 and vertex-list-requires.
     (λ c. front-long (c .before .before .pre .0))
     (λ c. search needs)
     (λ c κs. let s = c .before .before .before in (s .pre .0 .held, can-list (s .pre .0 .held) _ _ (s .pre .1)))

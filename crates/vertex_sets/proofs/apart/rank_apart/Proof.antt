@@ -31,7 +31,7 @@ rank-apart-spec =
     -- loop-holds, is-repeated-requires
     (λ c. let s = c .before .before .before in (many-is (s .pre .0 .held) _ (s .pre .1 .1), refl))
     (λ c κs. let s = c .before .before .before .before .before in (s .pre .0, element _ _ _ (s .pre .1 .0) (s .pre .1 .1) (c .loop-test .taken)))
-    -- returns, add-e, loop-less, loop-again, returns-2
+    -- The needs are returns, add-e, loop-less, loop-again and returns-2.
     (λ c. let i = c .before .before in let l = i .before in
     alone-no _ _ (l .loop .e) (rw (l .loop .inv .0) at (i .loop-test .taken)) (l .loop .inv .1) (sym (c .if1 .taken) ∙ c .before .is-repeated .ensures))
     (λ c. let i = c .before .before in let s = i .before .before .before .before .before in omega (arith, few-here (s .pre .0 .held) (s .args .r) (i .before .loop .e) (s .pre .1 .1) (i .loop-test .taken)))

@@ -30,22 +30,22 @@ is-found-spec =
     (λ c. let s = c .before .before .before in omega (arith, ranks-fit (s .pre .0 .held) (s .args .r) (s .pre .1 .0 .1)))
     (λ c. let s = c .before .before .before in omega (arith, ranks-fit (s .pre .0 .held) (s .args .r) (s .pre .1 .0 .1)))
     (λ c. let s = c .before .before .before .before in omega (arith, ranks-fit (s .pre .0 .held) (s .args .r) (s .pre .1 .0 .1)))
-    -- loop-holds, add-e, add-get, add-get-2, get-requires
+    -- The needs are loop-holds, add-e, add-get, add-get-2 and get-requires.
     (λ c. let s = c .before .before .before .before in (many-is (s .pre .0 .held) (s .args .r) (s .pre .1 .0 .1), refl))
     (λ c. let i = c in let l = i .before in let s = l .before .before .before .before .before in omega (arith, few-here (s .pre .0 .held) (s .args .r) (l .loop .e) (s .pre .1 .0 .1) (i .loop-test .taken)))
     (λ c. let i = c in let l = i .before in let s = l .before .before .before .before .before in omega (arith, print-in (s .pre .0) (s .args .r) (l .loop .e) (element _ _ _ (s .pre .1 .0 .0) (s .pre .1 .0 .1) (i .loop-test .taken))))
     (λ c. let i = c in let l = i .before in let s = l .before .before .before .before .before in omega (arith, print-in (s .pre .0) (s .args .r) (l .loop .e) (element _ _ _ (s .pre .1 .0 .0) (s .pre .1 .0 .1) (i .loop-test .taken))))
     (λ c κs. let i = c in let l = i .before in let s = l .before .before .before .before .before in print-in (s .pre .0) (s .args .r) (l .loop .e) (element _ _ _ (s .pre .1 .0 .0) (s .pre .1 .0 .1) (i .loop-test .taken)))
-    -- slice-aggregate-same-vertices, same-vertices-requires
+    -- The needs are slice-aggregate-same-vertices and same-vertices-requires.
     (λ c. let i = c .before .before .before in let l = i .before in let s = l .before .before .before .before .before in front-long (s .pre .0))
     (λ c κs. let i = c .before .before .before in let l = i .before in let s = l .before .before .before .before .before in (s .pre .0 .held, ((element _ _ _ (s .pre .1 .0 .0) (s .pre .1 .0 .1) (i .loop-test .taken)), s .pre .1 .1 .0)))
-    -- returns, loop-less, loop-again
+    -- The needs are returns, loop-less and loop-again.
     (λ c. let i = c .before .before .before .before .before in let l = i .before in let s = l .before .before .before .before .before in
     sought-yes _ _ _ (s .args .from) (l .loop .e) (rw (l .loop .inv .0) at (i .loop-test .taken)) (l .loop .inv .1) (sym (c .if2 .taken) ∙ c .before .same-vertices .ensures))
     (λ c. search needs)
     (λ c. let i = c .before .before .before .before .before in let l = i .before in let s = l .before .before .before .before .before in
     (l .loop .inv .0, sought-no _ _ _ (s .args .from) (l .loop .e) (rw (l .loop .inv .0) at (i .loop-test .taken)) (l .loop .inv .1) (sym (c .if2 .left) ∙ c .before .same-vertices .ensures)))
-    -- loop-less-2, loop-again-2, returns-2
+    -- The needs are loop-less-2, loop-again-2 and returns-2.
     (λ c. search needs)
     (λ c. let i = c .before .before in let l = i .before in let s = l .before .before .before .before .before in
     (l .loop .inv .0, sought-no _ _ _ (s .args .from) (l .loop .e) (rw (l .loop .inv .0) at (i .loop-test .taken)) (l .loop .inv .1) (print-differs (s .pre .0) _ _ (element _ _ _ (s .pre .1 .0 .0) (s .pre .1 .0 .1) (i .loop-test .taken)) _ _ _ (c .before .get .ensures) (s .pre .1 .1 .1) (c .if1 .left))))

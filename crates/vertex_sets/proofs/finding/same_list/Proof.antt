@@ -42,7 +42,7 @@ same-list-spec =
     (λ c. search needs)
     (λ c. search needs)
     (λ c. search needs)
-    -- returns, add-k, loop-less, loop-again, returns-2
+    -- The needs are returns, add-k, loop-less, loop-again and returns-2.
     (λ c. let i = c .before .before .before in
     let r = read i in
     same-no _ _ (i .before .loop .k) (inside i .0) (inside i .1) (i .before .loop .inv .1) (λ e. c .if1 .taken (sym (r .0) ∙ e ∙ r .1)))

@@ -12,13 +12,13 @@ pub same-vertices-spec : {M : Type 1} → statement M
 same-vertices-spec =
     tie.close
     (tie.spec
-    -- slice-aggregate-vertex-list, vertex-list-requires
+    -- The needs are slice-aggregate-vertex-list and vertex-list-requires.
     (λ c. search needs)
     (λ c κs. let s = c .before .before .before in (s .pre .0, can-list (s .pre .0) _ _ (s .pre .1 .0)))
-    -- returns
+    -- The need is returns.
     (λ c. let v = c .before .before in let s = v .before .before .before .before in let a = s .args in
     lengths-part (solidIn (a .sh) (a .w .now)) (a .r) (a .e) _ _ _ (v .vertex-list .ensures) _ _ (s .pre .1 .1) (c .if1 .taken))
-    -- slice-aggregate-same-list, same-list-requires, returns-2
+    -- The needs are slice-aggregate-same-list, same-list-requires and returns-2.
     (λ c. search needs)
     (λ c κs. let v = c .before .before .before in let s = v .before .before .before .before in let a = s .args in
     (rw (c .before .if1 .left) at (list-long (solidIn (a .sh) (a .w .now)) (a .r) (a .e) _ _ _ (v .vertex-list .ensures)), s .pre .1 .1))

@@ -15,7 +15,7 @@ pub print-element-spec : {M : Type 1} → statement M
 print-element-spec =
     tie.close
     (tie.spec
-    -- slice-aggregate-vertex-list, vertex-list-requires
+    -- The needs are slice-aggregate-vertex-list and vertex-list-requires.
     (λ c. search needs)
     (λ c κs. let s = c .before .before in (s .pre .0, can-list (s .pre .0) _ _ (s .pre .1)))
     -- slice-aggregate-print-of, print-of-requires, cast-result, returns

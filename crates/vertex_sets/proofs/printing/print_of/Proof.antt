@@ -22,16 +22,16 @@ pub print-of-spec : {M : Type 1} → statement M
 print-of-spec =
     tie.close
     (tie.spec Inv μ
-    -- loop-holds, mul-v, shared-slice-read-v, cast-v
+    -- The needs are loop-holds, mul-v, shared-slice-read-v and cast-v.
     (λ c. summed-first _ _)
     (λ c. search needs)
     (λ c. search needs)
     (λ c. omega (arith, small c))
-    -- mul-p, add-p
+    -- The needs are mul-p and add-p.
     (λ c. omega (arith, square-fits _ (small c)))
     (λ c. let l = c .before .before in
     omega (arith, sum-fits _ _ _ _ (l .loop .inv) (c .before .loop-test .taken) (l .before .pre .0) _ refl (l .before .pre .1) (small c)))
-    -- add-k, loop-less, loop-again, returns
+    -- The needs are add-k, loop-less, loop-again and returns.
     (λ c. search needs)
     (λ c. search needs)
     (λ c. let l = c .before .before in

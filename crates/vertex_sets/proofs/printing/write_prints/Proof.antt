@@ -18,17 +18,17 @@ pub write-prints-spec : {M : Type 1} → statement M
 write-prints-spec =
     tie.close
     (tie.spec Inv μ
-    -- loop-holds, write-rank-requires
+    -- The needs are loop-holds and write-rank-requires.
     (λ c. round-first _ _ _ _)
     (λ c κs. let l = c .before .before in let s = l .before .before in
     let q : s .args .at + total (s .args .sh) ≤ length (l .loop .words) = omega (arith, l .loop .inv .long, s .pre .1 .1) in
     (round-held (l .loop .inv) (s .pre .0) (s .pre .1 .0), ((s .pre .1 .0, q), (l .loop .inv .proper, c .before .loop-test .taken))))
-    -- add-r, loop-less, loop-again
+    -- The needs are add-r, loop-less and loop-again.
     (λ c. let s = c .before .before .before .before .before .before .before in omega (arith, c .before .before .before .before .loop-test .taken, s .pre .0 .tall))
     (λ c. search needs)
     (λ c. let l = c .before .before .before .before .before in let s = l .before .before in let w = c .before .before in
     round-next (l .loop .inv) (s .pre .0) (s .pre .1 .0) (c .before .before .before .before .loop-test .taken) _ (w .write-rank .kept .0) (w .write-rank .ensures .0) (w .write-rank .ensures .1))
-    -- same-length, returns
+    -- The needs are same-length and returns.
     (λ c. c .before .loop .inv .long)
     (λ c. let l = c .before in let s = l .before .before in
     (l .loop .inv .kept, round-end (l .loop .inv) (s .pre .0) (s .pre .1 .0) (c .loop-test .left) (s .pre .1 .1))))

@@ -27,18 +27,18 @@ write-rank-spec =
     (λ c. let s = c .before .before in omega (arith, ranks-fit (s .pre .0) _ (s .pre .1 .1 .1)))
     (λ c. let s = c .before .before in omega (arith, ranks-fit (s .pre .0) _ (s .pre .1 .1 .1)))
     (λ c. let s = c .before .before .before in omega (arith, ranks-fit (s .pre .0) _ (s .pre .1 .1 .1)))
-    -- loop-holds
+    -- The need is loop-holds.
     (λ c. row-first _ _ _ _ _)
-    -- slice-reshare-prefix-print-element, slice-aggregate-print-element, print-element-requires
+    -- The needs are slice-reshare-prefix-print-element, slice-aggregate-print-element and print-element-requires.
     (λ c. let l = c .before in let s = l .before .before .before .before in row-front (l .loop .inv) (s .pre .0) (s .pre .1 .0 .0) (s .pre .1 .0 .1) (s .pre .1 .1 .0) (s .pre .1 .1 .1))
     (λ c. let l = c .before .before in let s = l .before .before .before .before in sym (length-take-le (s .args .low) (l .loop .words) (row-front (l .loop .inv) (s .pre .0) (s .pre .1 .0 .0) (s .pre .1 .0 .1) (s .pre .1 .1 .0) (s .pre .1 .1 .1))))
     (λ c κs. let l = c .before .before in let s = l .before .before .before .before in (row-held (l .loop .inv) (s .pre .0) (s .pre .1 .0 .0) (s .pre .1 .0 .1) (s .pre .1 .1 .0) (s .pre .1 .1 .1), row-element (l .loop .inv) (s .pre .0) (s .pre .1 .0 .0) (s .pre .1 .0 .1) (s .pre .1 .1 .0) (s .pre .1 .1 .1) (c .before .loop-test .taken)))
-    -- add-words, add-words-2, mul-words, slice-write-words
+    -- The needs are add-words, add-words-2, mul-words and slice-write-words.
     (λ c. let l = c .before .before .before in let s = l .before .before .before .before in omega (arith, row-in (l .loop .inv) (s .pre .0) (s .pre .1 .0 .0) (s .pre .1 .0 .1) (s .pre .1 .1 .0) (s .pre .1 .1 .1) (c .before .before .loop-test .taken)))
     (λ c. let l = c .before .before .before in let s = l .before .before .before .before in omega (arith, row-in (l .loop .inv) (s .pre .0) (s .pre .1 .0 .0) (s .pre .1 .0 .1) (s .pre .1 .1 .0) (s .pre .1 .1 .1) (c .before .before .loop-test .taken)))
     (λ c. let l = c .before .before .before in let s = l .before .before .before .before in omega (arith, row-in (l .loop .inv) (s .pre .0) (s .pre .1 .0 .0) (s .pre .1 .0 .1) (s .pre .1 .1 .0) (s .pre .1 .1 .1) (c .before .before .loop-test .taken)))
     (λ c. let l = c .before .before .before in let s = l .before .before .before .before in omega (arith, row-in (l .loop .inv) (s .pre .0) (s .pre .1 .0 .0) (s .pre .1 .0 .1) (s .pre .1 .1 .0) (s .pre .1 .1 .1) (c .before .before .loop-test .taken)))
-    -- add-e, loop-less, loop-again, same-length, returns
+    -- The needs are add-e, loop-less, loop-again, same-length and returns.
     (λ c. let l = c .before .before .before in let s = l .before .before .before .before in omega (arith, row-in (l .loop .inv) (s .pre .0) (s .pre .1 .0 .0) (s .pre .1 .0 .1) (s .pre .1 .1 .0) (s .pre .1 .1 .1) (c .before .before .loop-test .taken)))
     (λ c. search needs)
     (λ c. let l = c .before .before .before in let s = l .before .before .before .before in
