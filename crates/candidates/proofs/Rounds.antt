@@ -24,7 +24,7 @@ use Rattle.float.specs.Reading.{corner}
 use Rattle.float.proofs.Written.{Written, none, next, end}
 use Rattle.float.proofs.Parts.{part-at, part-end}
 use Rattle.ranked.specs.declared.Shape.{Shape}
-use Rattle.ranked.specs.Words.{solidIn, Held}
+use Rattle.ranked.specs.Words.{absIn, Held}
 use Rattle.ranked.proofs.Solids.{size-is}
 use Rattle.distances.specs.Solids.{coordinates, solidOn}
 use Rattle.flag.proofs.Flags.{flag-in}
@@ -78,9 +78,9 @@ walk-from s F (suc n) k = ap (λ (l : List ℕ). elementAt (rounds s k F) 1 ∷ 
 pub record Walking (sh : Shape) (w : List ℕ) (fl : List Float) (F G : Flag) (old rows : List (List Float)) (i : ℕ) : Type 0 where
   pub low : 1 ≤ i
   pub high : 0 < sh .dimension → i ≤ sh .dimension
-  pub flag : IsFlag (solidIn sh w) G
-  pub at : G ≡ rounds (solidIn sh w) (i - 1) F
-  pub written : Written (take (sh .dimension)) (λ j. pointOf (solidOn sh w fl (sh .dimension)) (elementAt (rounds (solidIn sh w) j F) 1)) old rows i
+  pub flag : IsFlag (absIn sh w) G
+  pub at : G ≡ rounds (absIn sh w) (i - 1) F
+  pub written : Written (take (sh .dimension)) (λ j. pointOf (solidOn sh w fl (sh .dimension)) (elementAt (rounds (absIn sh w) j F) 1)) old rows i
 
 module _ (sh : Shape) (w : List ℕ) (fl : List Float) (h : Held sh w) (one : 1 ≤ sh .rank) (room : coordinates sh w ≤ length fl) where
   abbrev d : ℕ
@@ -89,33 +89,33 @@ module _ (sh : Shape) (w : List ℕ) (fl : List Float) (h : Held sh w) (one : 1 
   abbrev c : Concrete
   c = solidOn sh w fl d
 
-  module _ (els : List ℕ) (f : IsFlag (solidIn sh w) (take (suc (sh .rank)) els)) where
-    vertex : getD els 1 0 < size (solidIn sh w) 1
+  module _ (els : List ℕ) (f : IsFlag (absIn sh w) (take (suc (sh .rank)) els)) where
+    vertex : getD els 1 0 < size (absIn sh w) 1
     vertex = rw (size-is sh w 1 one) (flag-in sh w h els f 1 one)
 
     -- The vertex's coordinates lie in the slice.
     pub vertex-in : getD els 1 0 * d + d ≤ length fl
-    vertex-in = omega (arith, part-end (size (solidIn sh w) 1) d (getD els 1 0) vertex, room)
+    vertex-in = omega (arith, part-end (size (absIn sh w) 1) d (getD els 1 0) vertex, room)
 
     point-is : (x : List Float) → take d x ≡ take d (drop (getD els 1 0 * d) fl) → take d x ≡ pointOf c (elementAt (take (suc (sh .rank)) els) 1)
     unfolding pointOf
-    point-is x e = e ∙ sym (part-at (size (solidIn sh w) 1) d fl (getD els 1 0) vertex) ∙ ap (λ (v : ℕ). getD (parts (size (solidIn sh w) 1) d fl) v []) (sym (getD-take (suc (sh .rank)) els 1 0 (omega arith)))
+    point-is x e = e ∙ sym (part-at (size (absIn sh w) 1) d fl (getD els 1 0) vertex) ∙ ap (λ (v : ℕ). getD (parts (size (absIn sh w) 1) d fl) v []) (sym (getD-take (suc (sh .rank)) els 1 0 (omega arith)))
 
     pub walk-first : (zeros : List (List Float)) → 0 < length zeros → (x : List Float) → take d x ≡ take d (drop (getD els 1 0 * d) fl)
         → Walking sh w fl (take (suc (sh .rank)) els) (take (suc (sh .rank)) els) (set zeros 0 x) (set zeros 0 x) 1
     unfolding rounds
     walk-first zeros k x e =
-        let t = next {f = take d} {g = λ j. pointOf c (elementAt (rounds (solidIn sh w) j (take (suc (sh .rank)) els)) 1)} {l = zeros} x k (point-is x e) none in
+        let t = next {f = take d} {g = λ j. pointOf c (elementAt (rounds (absIn sh w) j (take (suc (sh .rank)) els)) 1)} {l = zeros} x k (point-is x e) none in
         record { low = omega arith; high = λ p. p; flag = f; at = refl; written = record { long = refl; read = t .read; rest = refl } }
 
     pub walk-next : (F G : Flag) (old rows : List (List Float)) (i : ℕ) → Walking sh w fl F G old rows i → i < d → i < length old
-        → Turned (solidIn sh w) G (take (suc (sh .rank)) els) → (x : List Float) → take d x ≡ take d (drop (getD els 1 0 * d) fl)
+        → Turned (absIn sh w) G (take (suc (sh .rank)) els) → (x : List Float) → take d x ≡ take d (drop (getD els 1 0 * d) fl)
         → Walking sh w fl F (take (suc (sh .rank)) els) old (set rows i x) (i + 1)
     unfolding rounds
     walk-next F G old rows zero t p q u x e = absurd (omega (arith, t .low))
     walk-next F G old rows (suc i) t p q u x e =
         let back : suc i - 1 ≡ i = omega arith in
-        let a : take (suc (sh .rank)) els ≡ rounds (solidIn sh w) (suc i) F = u .is ∙ ap (changes (solidIn sh w) (properRanks (solidIn sh w))) (rw back at (t .at)) in
+        let a : take (suc (sh .rank)) els ≡ rounds (absIn sh w) (suc i) F = u .is ∙ ap (changes (absIn sh w) (properRanks (absIn sh w))) (rw back at (t .at)) in
         let on : suc i + 1 - 1 ≡ suc i = omega arith in
         record {
           low = omega arith;
@@ -125,14 +125,14 @@ module _ (sh : Shape) (w : List ℕ) (fl : List Float) (h : Held sh w) (one : 1 
           written = next x q (point-is x e ∙ ap (λ (H : Flag). pointOf c (elementAt H 1)) a) (t .written);
         }
 
-  pub walk-end : (F G : Flag) (old rows : List (List Float)) (i : ℕ) → Walking sh w fl F G old rows i → d ≤ i → corner d rows ≡ map (pointOf c) (walk (solidIn sh w) d F)
+  pub walk-end : (F G : Flag) (old rows : List (List Float)) (i : ℕ) → Walking sh w fl F G old rows i → d ≤ i → corner d rows ≡ map (pointOf c) (walk (absIn sh w) d F)
   unfolding corner rounds range
   walk-end F G old rows i t p =
       go d (t .high) p
-      ∙ sym (map-map (λ j. elementAt (rounds (solidIn sh w) j F) 1) (pointOf c) (range 0 d))
-      ∙ ap (map (pointOf c)) (sym (walk-from (solidIn sh w) F d 0))
+      ∙ sym (map-map (λ j. elementAt (rounds (absIn sh w) j F) 1) (pointOf c) (range 0 d))
+      ∙ ap (map (pointOf c)) (sym (walk-from (absIn sh w) F d 0))
     where
-      go : (n : ℕ) → (0 < n → i ≤ n) → n ≤ i → map (take d) (take n rows) ≡ map (λ j. pointOf c (elementAt (rounds (solidIn sh w) j F) 1)) (range 0 n)
+      go : (n : ℕ) → (0 < n → i ≤ n) → n ≤ i → map (take d) (take n rows) ≡ map (λ j. pointOf c (elementAt (rounds (absIn sh w) j F) 1)) (range 0 n)
       go zero a b = refl
       go (suc n) a b = end (suc n) (a (omega arith)) b (t .written)
 

@@ -14,7 +14,7 @@ use Rattle.spec.specs.Flags.{Flag, IsFlag, elementAt, firstFlag}
 use Rattle.spec.specs.Search.{Setting, sameTypes}
 use Rattle.spec.proofs.Lists.{getD-table, length-table, of-range}
 use Rattle.ranked.specs.declared.Shape.{Shape}
-use Rattle.ranked.specs.Words.{firstAt, sizeAt, total, subsIn, solidIn, Held}
+use Rattle.ranked.specs.Words.{firstAt, sizeAt, total, subsIn, absIn, Held}
 use Rattle.ranked.proofs.Solids.{number-in}
 use Rattle.ranked.proofs.Judged.{every-same}
 use Rattle.element_types.specs.State.{typesIn, stateIn}
@@ -34,7 +34,7 @@ type-read sh low w r e h k =
     ∙ getD-drop (low + firstAt sh r) w e 0)
 
 module _ (sh : Shape) (low : ℕ) (w : List ℕ) (h : Held sh (take low w)) (room : low + total sh ≤ length w) where
-  module _ (els : List ℕ) (f : IsFlag (solidIn sh (take low w)) (take (suc (sh .rank)) els)) (r : ℕ) (q : r ≤ sh .rank) where
+  module _ (els : List ℕ) (f : IsFlag (absIn sh (take low w)) (take (suc (sh .rank)) els)) (r : ℕ) (q : r ≤ sh .rank) where
     -- The word of an element's type.
     pub word-in : low + firstAt sh r + getD els r 0 < length w
     word-in = omega (arith, number-in sh (take low w) h r (getD els r 0) q (flag-in sh (take low w) h els f r q))
@@ -44,16 +44,16 @@ module _ (sh : Shape) (low : ℕ) (w : List ℕ) (h : Held sh (take low w)) (roo
         type-read sh low w r (getD els r 0) q (flag-in sh (take low w) h els f r q)
         ∙ ap (typeOf (stateIn sh low w) r) (sym (getD-take (suc (sh .rank)) els r 0 (omega arith)))
 
-  pub agree-is : (a b : List ℕ) → IsFlag (solidIn sh (take low w)) (take (suc (sh .rank)) a) → IsFlag (solidIn sh (take low w)) (take (suc (sh .rank)) b)
+  pub agree-is : (a b : List ℕ) → IsFlag (absIn sh (take low w)) (take (suc (sh .rank)) a) → IsFlag (absIn sh (take low w)) (take (suc (sh .rank)) b)
       → every (agree w low (sh .first) a b) (range 0 (suc (sh .rank))) ≡ typesAgree (stateIn sh low w) (sh .rank) (take (suc (sh .rank)) a) (take (suc (sh .rank)) b)
   agree-is a b f g =
       every-same _ _ (range 0 (suc (sh .rank)))
       (λ r m. let q : r ≤ sh .rank = omega (arith, of-range 0 (suc (sh .rank)) r m) in ap₂ eqb (read a f r q) (read b g r q))
 
 -- With the first flag for the second, it is the test of a search.
-pub with-first : (sh : Shape) (w : List ℕ) (t : Setting) → t .searched .abs ≡ solidIn sh w → (F : Flag)
-    → typesAgree (t .types) (sh .rank) F (firstFlag (solidIn sh w)) ≡ sameTypes t F
-unfolding sameTypes solidIn
+pub with-first : (sh : Shape) (w : List ℕ) (t : Setting) → t .searched .abs ≡ absIn sh w → (F : Flag)
+    → typesAgree (t .types) (sh .rank) F (firstFlag (absIn sh w)) ≡ sameTypes t F
+unfolding sameTypes absIn
 with-first sh w t e F =
     let n : length (t .searched .abs) ≡ suc (sh .rank) = ap length e ∙ length-table (λ r. map (subsIn sh w r) (range 0 (sizeAt sh r))) (suc (sh .rank)) in
     rw (n, e)

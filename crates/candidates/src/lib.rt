@@ -14,7 +14,7 @@ ghost use Rattle.spec.specs.Flags.{IsFlag};
 ghost use Rattle.spec.specs.Search.{flagColumns, rowOf, allFinite};
 ghost use Rattle.float.specs.Reading.{corner};
 ghost use Rattle.lookup.specs.Points.{Apart, Lone};
-ghost use Rattle.ranked.specs.Words.{total, solidIn, Held};
+ghost use Rattle.ranked.specs.Words.{total, absIn, Held};
 ghost use Rattle.distances.specs.Solids.{coordinates, solidOn};
 ghost use Rattle.element_types.specs.State.{stateIn};
 ghost use Rattle.flag.specs.Reading.{flagIn};
@@ -92,8 +92,8 @@ pub fn no_double(points: &[f64], d: usize, n: usize) -> bool
 pub fn same_types(words: &[u32], low: usize, sh: Shape, flag: Flag, first: Flag) -> bool
     requires { ⌜ Held sh (take low (now words)) ⌝ }
     requires { ⌜ low + total sh ≤ length (now words) ⌝ }
-    requires { ⌜ IsFlag (solidIn sh (take low (now words))) (flagIn (sh .rank) flag) ⌝ }
-    requires { ⌜ IsFlag (solidIn sh (take low (now words))) (flagIn (sh .rank) first) ⌝ }
+    requires { ⌜ IsFlag (absIn sh (take low (now words))) (flagIn (sh .rank) flag) ⌝ }
+    requires { ⌜ IsFlag (absIn sh (take low (now words))) (flagIn (sh .rank) first) ⌝ }
     ensures { λ res. ⌜ res ≡ typesAgree (stateIn sh low (now (words .entry))) (sh .rank) (flagIn (sh .rank) flag) (flagIn (sh .rank) first) ⌝ }
 {
     let starts = sh.first;
@@ -142,10 +142,10 @@ pub fn row_of(
 // The flag after one round: "change ranks 1 to R−1 in turn".
 fn turned(w: &[u32], sh: Shape, flag: Flag) -> Flag
     requires { ⌜ Held sh (now w) ⌝ }
-    requires { ⌜ diamond (solidIn sh (now w)) ≡ true ⌝ }
-    requires { ⌜ IsFlag (solidIn sh (now w)) (flagIn (sh .rank) flag) ⌝ }
+    requires { ⌜ diamond (absIn sh (now w)) ≡ true ⌝ }
+    requires { ⌜ IsFlag (absIn sh (now w)) (flagIn (sh .rank) flag) ⌝ }
     requires { ⌜ 1 ≤ sh .rank ⌝ }
-    ensures { λ res. ⌜ Turned (solidIn sh (now (w .entry))) (flagIn (sh .rank) flag) (flagIn (sh .rank) res) ⌝ }
+    ensures { λ res. ⌜ Turned (absIn sh (now (w .entry))) (flagIn (sh .rank) flag) (flagIn (sh .rank) res) ⌝ }
 {
     let rank = sh.rank;
     let mut f = flag;
@@ -161,8 +161,8 @@ fn turned(w: &[u32], sh: Shape, flag: Flag) -> Flag
 // "A flag's columns: its vertex; then, D−1 times, change ranks 1 to R−1 in turn and take the vertex."
 pub fn columns(w: &[u32], sh: Shape, points: &[f64], flag: Flag) -> [[f64; DIMENSION]; DIMENSION]
     requires { ⌜ Held sh (now w) ⌝ }
-    requires { ⌜ diamond (solidIn sh (now w)) ≡ true ⌝ }
-    requires { ⌜ IsFlag (solidIn sh (now w)) (flagIn (sh .rank) flag) ⌝ }
+    requires { ⌜ diamond (absIn sh (now w)) ≡ true ⌝ }
+    requires { ⌜ IsFlag (absIn sh (now w)) (flagIn (sh .rank) flag) ⌝ }
     requires { ⌜ 1 ≤ sh .rank ⌝ }
     requires { ⌜ coordinates sh (now w) ≤ length (now points) ⌝ }
     ensures { λ res. ⌜ corner (sh .dimension) res ≡ flagColumns (solidOn sh (now (w .entry)) (now (points .entry)) (sh .dimension)) (flagIn (sh .rank) flag) ⌝ }
@@ -192,8 +192,8 @@ pub fn candidate(
     inv: [[f64; DIMENSION]; DIMENSION],
 ) -> [[f64; DIMENSION]; DIMENSION]
     requires { ⌜ Held sh (now w) ⌝ }
-    requires { ⌜ diamond (solidIn sh (now w)) ≡ true ⌝ }
-    requires { ⌜ IsFlag (solidIn sh (now w)) (flagIn (sh .rank) flag) ⌝ }
+    requires { ⌜ diamond (absIn sh (now w)) ≡ true ⌝ }
+    requires { ⌜ IsFlag (absIn sh (now w)) (flagIn (sh .rank) flag) ⌝ }
     requires { ⌜ 1 ≤ sh .rank ⌝ }
     requires { ⌜ coordinates sh (now w) ≤ length (now points) ⌝ }
     ensures { λ res. ⌜ corner (sh .dimension) res

@@ -16,7 +16,7 @@ use Rattle.spec.specs.Solid.{Concrete}
 use Rattle.spec.specs.Classes.{distanceOf, distances, byRank, classTable, byTable}
 use Rattle.spec.proofs.Lists.{length-table}
 use Rattle.ranked.specs.declared.Shape.{Shape}
-use Rattle.ranked.specs.Words.{solidIn, Held}
+use Rattle.ranked.specs.Words.{absIn, Held}
 use Rattle.geometry.specs.Classes.{sameClass}
 use Rattle.geometry.proofs.ClassNumbers.{share-class}
 use Rattle.distances.specs.Solids.{before, beforeIn}
@@ -84,7 +84,7 @@ same-class-at c r e g low high he hg =
     ∙ share-class (distances c) (beforeIn (c .abs) r + e) (beforeIn (c .abs) r + g) (lies c r low high e he) (lies c r low high g hg)
 
 -- The offsets say how many lie below a rank.
-pub before-is : (sh : Shape) (w : List ℕ) → Held sh w → (r : ℕ) → 1 ≤ r → r ≤ suc (sh .rank) → beforeIn (solidIn sh w) r ≡ before sh r
+pub before-is : (sh : Shape) (w : List ℕ) → Held sh w → (r : ℕ) → 1 ≤ r → r ≤ suc (sh .rank) → beforeIn (absIn sh w) r ≡ before sh r
 unfolding beforeIn
 before-is sh w h r low high =
     let q : 1 + (r - 1) ≡ r = omega arith in

@@ -21,7 +21,7 @@ use Rattle.spec.specs.Classes.{pointOf, distanceOf}
 use Rattle.spec.proofs.Lists.{in-getD, in-range, of-range, map-same}
 use Rattle.spec.proofs.Counts.{keep-in, in-keep, holds-in}
 use Rattle.ranked.specs.declared.Shape.{Shape}
-use Rattle.ranked.specs.Words.{sizeAt, solidIn, Held}
+use Rattle.ranked.specs.Words.{sizeAt, absIn, Held}
 use Rattle.ranked.specs.Marks.{Front}
 use Rattle.ranked.proofs.Solids.{size-is}
 use Rattle.geometry.specs.Reading.{pointAt}
@@ -80,31 +80,31 @@ part-at d (suc k) l (suc v) h =
 
 -- ---- what the buffer's numbers give
 
-module _ (sh : Shape) (w : List ℕ) (points : List Float) (r e n : ℕ) (old list : List ℕ) (f : Front (vertices (solidIn sh w) r e) old list n) where
-  listed : take n list ≡ vertices (solidIn sh w) r e
-  listed = ap (take n) (f .cells) ∙ take-at (vertices (solidIn sh w) r e) (drop n old) n (sym (f .many))
+module _ (sh : Shape) (w : List ℕ) (points : List Float) (r e n : ℕ) (old list : List ℕ) (f : Front (vertices (absIn sh w) r e) old list n) where
+  listed : take n list ≡ vertices (absIn sh w) r e
+  listed = ap (take n) (f .cells) ∙ take-at (vertices (absIn sh w) r e) (drop n old) n (sym (f .many))
 
   pub distance-is : distance (sh .dimension) (hullOf (sh .dimension) (map (pointAt (sh .dimension) points) (take n list))) ≡ distanceOf (solidOn sh w points (sh .dimension)) r e
   unfolding distanceOf pointOf
   distance-is =
       ap (λ (l : List Vector). distance (sh .dimension) (hullOf (sh .dimension) l))
       (ap (map (pointAt (sh .dimension) points)) listed
-      ∙ map-same _ _ (vertices (solidIn sh w) r e) (λ v m. sym (part-at (sh .dimension) (size (solidIn sh w) 1) points v (vertex-below (solidIn sh w) r e v m))))
+      ∙ map-same _ _ (vertices (absIn sh w) r e) (λ v m. sym (part-at (sh .dimension) (size (absIn sh w) 1) points v (vertex-below (absIn sh w) r e v m))))
 
   pub list-long : n ≤ length list
-  list-long = omega (arith, f .many, ap length (f .cells), length-append (vertices (solidIn sh w) r e) (drop n old))
+  list-long = omega (arith, f .many, ap length (f .cells), length-append (vertices (absIn sh w) r e) (drop n old))
 
   pub some-listed : Held sh w → 1 ≤ r → r ≤ sh .rank → e < sizeAt sh r → 0 < n
   some-listed h low high i =
       let q : suc (r - 1) ≡ r = omega arith in
-      let k : e < size (solidIn sh w) (suc (r - 1)) = rw (q, size-is sh w r high) i in
-      let z : 0 < length (vertices (solidIn sh w) (suc (r - 1)) e) = some-vertex (solidIn sh w) (h .sound) (h .filled) (r - 1) e k in
-      let y : 0 < length (vertices (solidIn sh w) r e) = rw q at z in
+      let k : e < size (absIn sh w) (suc (r - 1)) = rw (q, size-is sh w r high) i in
+      let z : 0 < length (vertices (absIn sh w) (suc (r - 1)) e) = some-vertex (absIn sh w) (h .sound) (h .filled) (r - 1) e k in
+      let y : 0 < length (vertices (absIn sh w) r e) = rw q at z in
       omega (arith, f .many)
 
   pub point-lies : coordinates sh w ≤ length points → (j : ℕ) → j < n → (getD list j 0 + 1) * sh .dimension ≤ length points
   point-lies room j h =
-      let a : getD list j 0 ≡ getD (vertices (solidIn sh w) r e) j 0 = sym (getD-take n list j 0 h) ∙ ap (λ (l : List ℕ). getD l j 0) listed in
-      let b = vertex-below (solidIn sh w) r e (getD (vertices (solidIn sh w) r e) j 0) (in-getD 0 (vertices (solidIn sh w) r e) j (omega (arith, f .many))) in
-      let c : getD list j 0 + 1 ≤ size (solidIn sh w) 1 = omega (arith, a, b) in
+      let a : getD list j 0 ≡ getD (vertices (absIn sh w) r e) j 0 = sym (getD-take n list j 0 h) ∙ ap (λ (l : List ℕ). getD l j 0) listed in
+      let b = vertex-below (absIn sh w) r e (getD (vertices (absIn sh w) r e) j 0) (in-getD 0 (vertices (absIn sh w) r e) j (omega (arith, f .many))) in
+      let c : getD list j 0 + 1 ≤ size (absIn sh w) 1 = omega (arith, a, b) in
       le-trans (mul-le-mul-right (sh .dimension) c) room

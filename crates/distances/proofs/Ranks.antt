@@ -17,7 +17,7 @@ use Rattle.spec.specs.Classes.{distanceOf, distances}
 use Rattle.spec.proofs.Lists.{length-table}
 use Rattle.float.proofs.Written.{range-snoc}
 use Rattle.ranked.specs.declared.Shape.{Shape}
-use Rattle.ranked.specs.Words.{firstAt, sizeAt, solidIn, Held}
+use Rattle.ranked.specs.Words.{firstAt, sizeAt, absIn, Held}
 use Rattle.ranked.proofs.Solids.{top-is, size-is}
 use Rattle.distances.specs.Solids.{solidOn, coordinates, proper, before}
 use Rattle.distances.specs.Listed.{rankDistances, Grown, Ready, Classed}
@@ -118,7 +118,7 @@ module _ {sh : Shape} {w : List ℕ} {floats₀ : List Float} {vd n r cell done 
   pub last-turn : many ≤ e → Grown vd (vd + proper sh) (before sh r) floats₀ floats n m (rankDistances (solidOn sh w (take vd floats₀) (sh .dimension)) r)
   unfolding rankDistances
   last-turn h =
-      let i : e ≡ size (solidIn sh w) r = omega (arith, t .bound, t .many-is, size-is sh w r (omega (arith, a .high))) in
+      let i : e ≡ size (absIn sh w) r = omega (arith, t .bound, t .many-is, size-is sh w r (omega (arith, a .high))) in
       rw (← i, ← t .cell-is, ← t .done-is) (t .grown)
 
 -- ---- the proper ranks
@@ -149,7 +149,7 @@ below-all sh w fl d = rw (top-is sh w)
 
 rank-length : (sh : Shape) (w : List ℕ) (fl : List Float) (d r : ℕ) → r ≤ sh .rank → length (rankDistances (solidOn sh w fl d) r) ≡ sizeAt sh r
 unfolding rankDistances
-rank-length sh w fl d r h = length-table (distanceOf (solidOn sh w fl d) r) (size (solidIn sh w) r) ∙ size-is sh w r h
+rank-length sh w fl d r h = length-table (distanceOf (solidOn sh w fl d) r) (size (absIn sh w) r) ∙ size-is sh w r h
 
 -- The ranks below r were taken.
 pub record Round (sh : Shape) (w : List ℕ) (floats₀ : List Float) (vd : ℕ) (floats : List Float) (n r : ℕ) : Type 0 where

@@ -8,15 +8,15 @@ use Rattle.spec.specs.Types.{Solid, size}
 use Rattle.spec.specs.Copying.{parts}
 use Rattle.spec.specs.Solid.{Concrete}
 use Rattle.ranked.specs.declared.Shape.{Shape}
-use Rattle.ranked.specs.Words.{firstAt, solidIn}
+use Rattle.ranked.specs.Words.{firstAt, absIn}
 
 -- How many vertices there are. There are none where the least element is the top.
 abbrev pub vertexCount : Shape → List ℕ → ℕ
-vertexCount sh w = size (solidIn sh w) 1
+vertexCount sh w = size (absIn sh w) 1
 
 -- The solid in d dimensions whose vertices' coordinates stand one after another in fl.
 abbrev pub solidOn : Shape → List ℕ → List Float → ℕ → Concrete
-solidOn sh w fl d = record { dimension = d; points = parts (vertexCount sh w) d fl; abs = solidIn sh w }
+solidOn sh w fl d = record { dimension = d; points = parts (vertexCount sh w) d fl; abs = absIn sh w }
 
 -- How many floats the coordinates take.
 abbrev pub coordinates : Shape → List ℕ → ℕ

@@ -19,7 +19,7 @@ use Rattle.spec.proofs.Distinct.{pigeons}
 use Rattle.spec.proofs.Counts.{numbers, sum-le, in-keep, once-keep, in-holds}
 use Rattle.spec.proofs.Carry.{rising-once}
 use Rattle.ranked.specs.declared.Shape.{Shape}
-use Rattle.ranked.specs.Words.{firstAt, sizeAt, total, solidIn, Held}
+use Rattle.ranked.specs.Words.{firstAt, sizeAt, total, absIn, Held}
 use Rattle.ranked.specs.Store.{subEntries, lowOf}
 use Rattle.ranked.proofs.Solids.{top-is, size-is}
 use Rattle.element_types.specs.State.{entries, needed, Sweepable}
@@ -99,7 +99,7 @@ sub-entries-is sh J z e = rw (e, subEntries)
 
 module _ (sh : Shape) (l : List ℕ) (h : Held sh l) where
   abbrev s : Solid
-  s = solidIn sh l
+  s = absIn sh l
 
   abbrev E : ℕ
   E = elements s
@@ -233,16 +233,16 @@ module _ (sh : Shape) (l : List ℕ) (h : Held sh l) where
       )
 
 -- "workspace under 16 times (E+I+4) 32-bit words" is refused: what is not is enough, and its words can hold any place in it that a step uses
-pub room-enough : (sh : Shape) (low : ℕ) (w : List ℕ) → Held sh (take low w) → low ≡ lowOf sh (solids.entries (solidIn sh (take low w)))
-    → 16 * (elements (solidIn sh (take low w)) + solids.entries (solidIn sh (take low w)) + 4) ≤ length w
+pub room-enough : (sh : Shape) (low : ℕ) (w : List ℕ) → Held sh (take low w) → low ≡ lowOf sh (solids.entries (absIn sh (take low w)))
+    → 16 * (elements (absIn sh (take low w)) + solids.entries (absIn sh (take low w)) + 4) ≤ length w
     → (x : Step) → 1 ≤ at x → at x < sh .rank → (needed sh low w x ≤ length w) × (needed sh low w x < 2 ^ 32)
 unfolding needed
 room-enough sh low w h e room x a b =
     let p = step-words sh (take low w) h x a b in
     (omega arith, omega (arith, elements-few sh (take low w) h, stored-few sh (take low w) h))
 
-pub sweepable : (sh : Shape) (low : ℕ) (w : List ℕ) → Held sh (take low w) → low ≡ lowOf sh (solids.entries (solidIn sh (take low w)))
-    → 16 * (elements (solidIn sh (take low w)) + solids.entries (solidIn sh (take low w)) + 4) ≤ length w → Sweepable sh low w
+pub sweepable : (sh : Shape) (low : ℕ) (w : List ℕ) → Held sh (take low w) → low ≡ lowOf sh (solids.entries (absIn sh (take low w)))
+    → 16 * (elements (absIn sh (take low w)) + solids.entries (absIn sh (take low w)) + 4) ≤ length w → Sweepable sh low w
 sweepable sh low w h e room = record {
   held = h;
   room = λ x a b. room-enough sh low w h e room x a b .0;

@@ -19,7 +19,7 @@ use Rattle.spec.proofs.Lists.{in-getD, map-same, getD-table, length-table, of-r
 use Rattle.spec.proofs.Renumber.{length-renumber, renumber-pattern}
 use Rattle.spec.proofs.Counts.{lists}
 use Rattle.ranked.specs.declared.Shape.{Shape}
-use Rattle.ranked.specs.Words.{firstAt, sizeAt, total, listAt, solidIn, Held}
+use Rattle.ranked.specs.Words.{firstAt, sizeAt, total, listAt, absIn, Held}
 use Rattle.ranked.specs.Reading.{Lies, subsWord, supsWord}
 use Rattle.ranked.proofs.Solids.{size-is, number-in, subs-lie, sups-lie, subs-listed, sups-listed, sub-in, sup-in}
 use Rattle.element_types.specs.Runs.{over, under, keyOf}
@@ -91,13 +91,13 @@ Sums sh low w r a p c =
 -- What a step's elements look to, and where their lists are.
 pub record Looks (sh : Shape) (low : ℕ) (w : List ℕ) (x : Step) (base : ℕ) : Type 0 where
   pub next-in : next x ≤ sh .rank
-  pub listed : (e : ℕ) → e < sizeAt sh (at x) → listAt (take low w) (base + 4 * e) ≡ neighbours (solidIn sh (take low w)) x e
+  pub listed : (e : ℕ) → e < sizeAt sh (at x) → listAt (take low w) (base + 4 * e) ≡ neighbours (absIn sh (take low w)) x e
   pub lie : (e : ℕ) → e < sizeAt sh (at x) → Lies (take low w) (base + 4 * e)
-  pub inside : (e y : ℕ) → e < sizeAt sh (at x) → In y (neighbours (solidIn sh (take low w)) x e) → y < sizeAt sh (next x)
+  pub inside : (e y : ℕ) → e < sizeAt sh (at x) → In y (neighbours (absIn sh (take low w)) x e) → y < sizeAt sh (next x)
 
 module _ (sh : Shape) (low : ℕ) (w : List ℕ) (x : Step) (t : Steppable sh low w x) (listing : ℕ) (o : Looks sh low w x listing) where
   abbrev s : Solid
-  s = solidIn sh (take low w)
+  s = absIn sh (take low w)
 
   abbrev S : State
   S = stateIn sh low w
@@ -346,7 +346,7 @@ module _ (sh : Shape) (low : ℕ) (w : List ℕ) (r : ℕ) (t : Steppable sh low
       → take (low + firstAt sh (sh .rank + 1)) v
       ≡ over (take (low + firstAt sh (sh .rank + 1)) w) (low + firstAt sh r) (low + firstAt sh r + (firstAt sh (r + 1) - firstAt sh r))
       (renumber eqList (keysTo w low (4 * firstAt sh r) (low + firstAt sh (r - 1)) (low + firstAt sh r) (firstAt sh (r + 1) - firstAt sh r)))
-      → (take low v ≡ take low w) × (stateIn sh low v ≡ step (solidIn sh (take low w)) (stateIn sh low w) (up r))
+      → (take low v ≡ take low w) × (stateIn sh low v ≡ step (absIn sh (take low w)) (stateIn sh low w) (up r))
   up-stepped = stepped-read sh low w (up r) t (4 * firstAt sh r) (looks-up sh low w r t) (r + 1) (r - 1) (sh .rank + 1) (add-one r) (one-less r (t .above)) (add-one (sh .rank))
 
 module _ (sh : Shape) (low : ℕ) (w : List ℕ) (r : ℕ) (t : Steppable sh low w (down r)) where
@@ -360,5 +360,5 @@ module _ (sh : Shape) (low : ℕ) (w : List ℕ) (r : ℕ) (t : Steppable sh low
       → take (low + firstAt sh (sh .rank + 1)) v
       ≡ over (take (low + firstAt sh (sh .rank + 1)) w) (low + firstAt sh r) (low + firstAt sh r + (firstAt sh (r + 1) - firstAt sh r))
       (renumber eqList (keysTo w low (4 * firstAt sh r + 2) (low + firstAt sh (r + 1)) (low + firstAt sh r) (firstAt sh (r + 1) - firstAt sh r)))
-      → (take low v ≡ take low w) × (stateIn sh low v ≡ step (solidIn sh (take low w)) (stateIn sh low w) (down r))
+      → (take low v ≡ take low w) × (stateIn sh low v ≡ step (absIn sh (take low w)) (stateIn sh low w) (down r))
   down-stepped = stepped-read sh low w (down r) t (4 * firstAt sh r + 2) (looks-down sh low w r t) (r + 1) (r + 1) (sh .rank + 1) (add-one r) (add-one r) (add-one (sh .rank))

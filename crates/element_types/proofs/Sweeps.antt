@@ -9,7 +9,7 @@ use lib.ListN.{length, take}
 use Rattle.spec.specs.Lists.{range}
 use Rattle.spec.specs.Types.{Solid, properRanks, State, Step, up, down, at, step, play, sweepSteps, sweep}
 use Rattle.ranked.specs.declared.Shape.{Shape}
-use Rattle.ranked.specs.Words.{solidIn}
+use Rattle.ranked.specs.Words.{absIn}
 use Rattle.ranked.proofs.Solids.{top-is}
 use Rattle.element_types.specs.State.{stateIn, needed, Steppable, Sweepable, ups, downs}
 
@@ -48,7 +48,7 @@ unfolding downs range
 downs-end r h = let e : r - 1 ≡ 0 = omega arith in rw e refl
 
 -- "up at 1 to R−1, then down at R−1 to 1"
-steps-are : (sh : Shape) (l : List ℕ) → sweepSteps (solidIn sh l) ≡ ups 1 (sh .rank) ++ downs (sh .rank)
+steps-are : (sh : Shape) (l : List ℕ) → sweepSteps (absIn sh l) ≡ ups 1 (sh .rank) ++ downs (sh .rank)
 unfolding sweepSteps properRanks ups downs
 steps-are sh l = ap (λ (n : ℕ). map up (range 1 (n - 1)) ++ map down (reverse (range 1 (n - 1)))) (top-is sh l)
 
@@ -58,7 +58,7 @@ steps-are sh l = ap (λ (n : ℕ). map up (range 1 (n - 1)) ++ map down (reverse
 pub record Swept (sh : Shape) (low : ℕ) (w v : List ℕ) (xs ys : List Step) : Type 0 where
   pub long : length v ≡ length w
   pub kept : take low v ≡ take low w
-  pub state : play (solidIn sh (take low w)) (stateIn sh low v) xs ≡ play (solidIn sh (take low w)) (stateIn sh low w) ys
+  pub state : play (absIn sh (take low w)) (stateIn sh low v) xs ≡ play (absIn sh (take low w)) (stateIn sh low w) ys
 
 pub swept-first : (sh : Shape) (low : ℕ) (w : List ℕ) (xs : List Step) → Swept sh low w w xs xs
 swept-first sh low w xs = record { long = refl; kept = refl; state = refl }
@@ -82,26 +82,26 @@ module _ (sh : Shape) (low : ℕ) (w v : List ℕ) (xs ys : List Step) (i : Swep
 
   -- The first of those left leaves the others.
   pub swept-next : (x : Step) (zs : List Step) → xs ≡ x ∷ zs → (u : List ℕ) → length u ≡ length v → take low u ≡ take low v
-      → stateIn sh low u ≡ step (solidIn sh (take low v)) (stateIn sh low v) x → Swept sh low w u zs ys
+      → stateIn sh low u ≡ step (absIn sh (take low v)) (stateIn sh low v) x → Swept sh low w u zs ys
   unfolding play
   swept-next x zs e u long kept state = record {
     long = long ∙ i .long;
     kept = kept ∙ i .kept;
-    state = ap (λ (S : State). play (solidIn sh (take low w)) S zs) (rw (i .kept) at state) ∙ (rw e at (i .state));
+    state = ap (λ (S : State). play (absIn sh (take low w)) S zs) (rw (i .kept) at state) ∙ (rw e at (i .state));
   }
 
-  pub swept-end : xs ≡ [] → (take low v ≡ take low w) × (stateIn sh low v ≡ play (solidIn sh (take low w)) (stateIn sh low w) ys)
+  pub swept-end : xs ≡ [] → (take low v ≡ take low w) × (stateIn sh low v ≡ play (absIn sh (take low w)) (stateIn sh low w) ys)
   unfolding play
   swept-end e = (i .kept, rw e at (i .state))
 
 -- ups and then downs
-pub both : (sh : Shape) (low : ℕ) (w v : List ℕ) → take low v ≡ take low w → stateIn sh low v ≡ play (solidIn sh (take low w)) (stateIn sh low w) (ups 1 (sh .rank))
-    → (u : List ℕ) → take low u ≡ take low v → stateIn sh low u ≡ play (solidIn sh (take low v)) (stateIn sh low v) (downs (sh .rank))
-    → (take low u ≡ take low w) × (stateIn sh low u ≡ sweep (solidIn sh (take low w)) (stateIn sh low w))
+pub both : (sh : Shape) (low : ℕ) (w v : List ℕ) → take low v ≡ take low w → stateIn sh low v ≡ play (absIn sh (take low w)) (stateIn sh low w) (ups 1 (sh .rank))
+    → (u : List ℕ) → take low u ≡ take low v → stateIn sh low u ≡ play (absIn sh (take low v)) (stateIn sh low v) (downs (sh .rank))
+    → (take low u ≡ take low w) × (stateIn sh low u ≡ sweep (absIn sh (take low w)) (stateIn sh low w))
 unfolding sweep
 both sh low w v k e u k′ e′ = (
   k′ ∙ k,
-  (rw k at e′) ∙ ap (λ (S : State). play (solidIn sh (take low w)) S (downs (sh .rank))) e
-      ∙ sym (play-append (solidIn sh (take low w)) (stateIn sh low w) (ups 1 (sh .rank)) (downs (sh .rank)))
-      ∙ ap (play (solidIn sh (take low w)) (stateIn sh low w)) (sym (steps-are sh (take low w))),
+  (rw k at e′) ∙ ap (λ (S : State). play (absIn sh (take low w)) S (downs (sh .rank))) e
+      ∙ sym (play-append (absIn sh (take low w)) (stateIn sh low w) (ups 1 (sh .rank)) (downs (sh .rank)))
+      ∙ ap (play (absIn sh (take low w)) (stateIn sh low w)) (sym (steps-are sh (take low w))),
 )

@@ -16,7 +16,7 @@ use Rattle.spec.proofs.Lists.{in-getD, in-place, map-same, getD-table, in-range
 use Rattle.spec.proofs.Distinct.{pigeons, in-distinct, of-distinct, once-distinct}
 use Rattle.spec.proofs.Counts.{numbers}
 use Rattle.ranked.specs.declared.Shape.{Shape}
-use Rattle.ranked.specs.Words.{firstAt, total, solidIn}
+use Rattle.ranked.specs.Words.{firstAt, total, absIn}
 use Rattle.ranked.proofs.Solids.{top-is}
 use Rattle.element_types.specs.State.{typesIn, stateIn, Countable}
 use Rattle.element_types.proofs.Room.{rising}
@@ -127,7 +127,7 @@ module _ (sh : Shape) (low : ℕ) (w : List ℕ) where
   unfolding stateIn
   types-at q h = getD-table (typesIn sh low w) [] (suc (sh .rank)) q (omega arith)
 
-  pub counts-all : countsFrom sh low w 1 ≡ typeCount (solidIn sh (take low w)) (stateIn sh low w)
+  pub counts-all : countsFrom sh low w 1 ≡ typeCount (absIn sh (take low w)) (stateIn sh low w)
   unfolding countsFrom typeCount properRanks countIn
   counts-all =
       rw (top-is sh (take low w))
@@ -184,5 +184,5 @@ module _ (sh : Shape) (low : ℕ) (w : List ℕ) (a : Countable sh low w) (n r :
           let c : k ≡ countIn sh low w r = e ∙ ap (λ (t : List ℕ). length (distinct eqb t)) (run-is ∙ types-at sh low w r (omega arith)) in
           record { proper = omega arith; few = few-more; rest = omega (arith, i .rest, counts-next sh low w r h) }
 
-  pub tally-end : sh .rank ≤ r → n ≡ typeCount (solidIn sh (take low w)) (stateIn sh low w)
+  pub tally-end : sh .rank ≤ r → n ≡ typeCount (absIn sh (take low w)) (stateIn sh low w)
   tally-end h = omega (arith, i .rest, counts-end sh low w r h, counts-all sh low w)

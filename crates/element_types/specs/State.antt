@@ -7,7 +7,7 @@ use Rattle.spec.specs.Lists.{range, sum}
 use Rattle.spec.specs.Types.{Solid, size, State, Step, up, down, at, neighbours}
 use Rattle.spec.specs.TypeLaws.{Numbered}
 use Rattle.ranked.specs.declared.Shape.{Shape}
-use Rattle.ranked.specs.Words.{firstAt, sizeAt, total, solidIn, Held}
+use Rattle.ranked.specs.Words.{firstAt, sizeAt, total, absIn, Held}
 
 -- The types of a rank's elements. The element with the number g over all ranks, which is first[r] + e, has its type at word low + g.
 unfoldable pub typesIn : Shape → ℕ → List ℕ → ℕ → List ℕ
@@ -23,7 +23,7 @@ entries s x = sum (map (λ e. length (neighbours s x e)) (range 0 (size s (at x)
 -- How many words a step uses: the lists, the types, and for each element of its rank a number, a place, and a key of two words and the types of its
 -- neighbours.
 unfoldable pub needed : Shape → ℕ → List ℕ → Step → ℕ
-needed sh low w x = low + total sh + 4 * sizeAt sh (at x) + entries (solidIn sh (take low w)) x
+needed sh low w x = low + total sh + 4 * sizeAt sh (at x) + entries (absIn sh (take low w)) x
 
 -- What a step at a proper rank needs, for the solid that the first `low` words hold.
 pub record Steppable (sh : Shape) (low : ℕ) (w : List ℕ) (x : Step) : Type 0 where
@@ -51,4 +51,4 @@ downs r = map down (reverse (range 1 (r - 1)))
 pub record Countable (sh : Shape) (low : ℕ) (w : List ℕ) : Type 0 where
   pub held : Held sh (take low w)
   pub room : low + total sh ≤ length w
-  pub numbered : (r : ℕ) → 1 ≤ r → r < sh .rank → Numbered (solidIn sh (take low w)) (stateIn sh low w) r
+  pub numbered : (r : ℕ) → 1 ≤ r → r < sh .rank → Numbered (absIn sh (take low w)) (stateIn sh low w) r

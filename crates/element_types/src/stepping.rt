@@ -7,7 +7,7 @@ ghost use lib.ListN.{length, take};
 ghost use lib.Seq.{slice};
 ghost use Rattle.spec.specs.Lists.{renumber, eqList};
 ghost use Rattle.spec.specs.Types.{up, down, step};
-ghost use Rattle.ranked.specs.Words.{solidIn};
+ghost use Rattle.ranked.specs.Words.{absIn};
 ghost use Rattle.element_types.specs.Runs.{over};
 ghost use Rattle.element_types.specs.Numbers.{Ready, keysTo};
 ghost use Rattle.element_types.specs.State.{stateIn, Steppable};
@@ -48,7 +48,7 @@ fn step_at(
 pub fn step_up(words: &mut [u32], low: usize, sh: Shape, r: usize)
     requires { ⌜ Steppable sh low (now words) (up r) ⌝ }
     ensures { λ _. ⌜ take low (now (words .exit)) ≡ take low (now (words .entry)) ⌝ }
-    ensures { λ _. ⌜ stateIn sh low (now (words .exit)) ≡ step (solidIn sh (take low (now (words .entry)))) (stateIn sh low (now (words .entry))) (up r) ⌝ }
+    ensures { λ _. ⌜ stateIn sh low (now (words .exit)) ≡ step (absIn sh (take low (now (words .entry)))) (stateIn sh low (now (words .entry))) (up r) ⌝ }
 {
     let rank = sh.rank;
     let first = sh.first[r];
@@ -62,7 +62,7 @@ pub fn step_up(words: &mut [u32], low: usize, sh: Shape, r: usize)
 pub fn step_down(words: &mut [u32], low: usize, sh: Shape, r: usize)
     requires { ⌜ Steppable sh low (now words) (down r) ⌝ }
     ensures { λ _. ⌜ take low (now (words .exit)) ≡ take low (now (words .entry)) ⌝ }
-    ensures { λ _. ⌜ stateIn sh low (now (words .exit)) ≡ step (solidIn sh (take low (now (words .entry)))) (stateIn sh low (now (words .entry))) (down r) ⌝ }
+    ensures { λ _. ⌜ stateIn sh low (now (words .exit)) ≡ step (absIn sh (take low (now (words .entry)))) (stateIn sh low (now (words .entry))) (down r) ⌝ }
 {
     let rank = sh.rank;
     let first = sh.first[r];

@@ -5,13 +5,13 @@ use ranked::Shape;
 ghost use mathlib.Core.Path.{_≡_};
 ghost use lib.ListN.{take};
 ghost use Rattle.spec.specs.Types.{play, sweep};
-ghost use Rattle.ranked.specs.Words.{solidIn};
+ghost use Rattle.ranked.specs.Words.{absIn};
 ghost use Rattle.element_types.specs.State.{stateIn, Sweepable, ups, downs};
 
 fn sweep_up(words: &mut [u32], low: usize, sh: Shape)
     requires { ⌜ Sweepable sh low (now words) ⌝ }
     ensures { λ _. ⌜ take low (now (words .exit)) ≡ take low (now (words .entry)) ⌝ }
-    ensures { λ _. ⌜ stateIn sh low (now (words .exit)) ≡ play (solidIn sh (take low (now (words .entry)))) (stateIn sh low (now (words .entry)))
+    ensures { λ _. ⌜ stateIn sh low (now (words .exit)) ≡ play (absIn sh (take low (now (words .entry)))) (stateIn sh low (now (words .entry)))
         (ups 1 (sh .rank)) ⌝ }
 {
     let rank = sh.rank;
@@ -25,7 +25,7 @@ fn sweep_up(words: &mut [u32], low: usize, sh: Shape)
 fn sweep_down(words: &mut [u32], low: usize, sh: Shape)
     requires { ⌜ Sweepable sh low (now words) ⌝ }
     ensures { λ _. ⌜ take low (now (words .exit)) ≡ take low (now (words .entry)) ⌝ }
-    ensures { λ _. ⌜ stateIn sh low (now (words .exit)) ≡ play (solidIn sh (take low (now (words .entry)))) (stateIn sh low (now (words .entry)))
+    ensures { λ _. ⌜ stateIn sh low (now (words .exit)) ≡ play (absIn sh (take low (now (words .entry)))) (stateIn sh low (now (words .entry)))
         (downs (sh .rank)) ⌝ }
 {
     let mut r: usize = sh.rank;
@@ -38,7 +38,7 @@ fn sweep_down(words: &mut [u32], low: usize, sh: Shape)
 pub fn sweep(words: &mut [u32], low: usize, sh: Shape)
     requires { ⌜ Sweepable sh low (now words) ⌝ }
     ensures { λ _. ⌜ take low (now (words .exit)) ≡ take low (now (words .entry)) ⌝ }
-    ensures { λ _. ⌜ stateIn sh low (now (words .exit)) ≡ sweep (solidIn sh (take low (now (words .entry)))) (stateIn sh low (now (words .entry))) ⌝ }
+    ensures { λ _. ⌜ stateIn sh low (now (words .exit)) ≡ sweep (absIn sh (take low (now (words .entry)))) (stateIn sh low (now (words .entry))) ⌝ }
 {
     sweep_up(words, low, sh);
     sweep_down(words, low, sh);

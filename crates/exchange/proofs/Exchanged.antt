@@ -21,7 +21,7 @@ use Rattle.spec.specs.SolidLaws.{swap}
 use Rattle.spec.specs.Passed.{Kept}
 use Rattle.spec.proofs.Exchange.{swap-low, size-same, subs-n, subs-other, elements-same, entries-same, bound-same, every-exchange}
 use Rattle.ranked.specs.declared.Shape.{Shape}
-use Rattle.ranked.specs.Words.{firstAt, sizeAt, total, listAt, subsIn, solidIn, Held}
+use Rattle.ranked.specs.Words.{firstAt, sizeAt, total, listAt, subsIn, absIn, Held}
 use Rattle.ranked.specs.Derive.{pairs, Stored}
 use Rattle.ranked.specs.Store.{subEntries, lowOf, baseOf}
 use Rattle.ranked.specs.Bench.{solidAt, Bench, Laid}
@@ -54,21 +54,21 @@ swap-past f e n m = rw (ne-eqb e 0 n, ne-eqb e f m, swap)
 -- ---- facets
 
 module _ (sh : Shape) (w : List ℕ) where
-  top-facets : top (solidIn sh w) - 1 ≡ sh .rank - 1
+  top-facets : top (absIn sh w) - 1 ≡ sh .rank - 1
   top-facets = ap (λ (n : ℕ). n - 1) (top-is sh w)
 
   module _ (tall : 2 ≤ sh .rank) where
-    tall-s : 2 ≤ top (solidIn sh w)
+    tall-s : 2 ≤ top (absIn sh w)
     tall-s = rw (top-is sh w) tall
 
-    low-s : (f : ℕ) → f < sizeAt sh (sh .rank - 1) → f < size (solidIn sh w) (top (solidIn sh w) - 1)
+    low-s : (f : ℕ) → f < sizeAt sh (sh .rank - 1) → f < size (absIn sh w) (top (absIn sh w) - 1)
     low-s f h = rw (top-facets, size-is sh w (sh .rank - 1) (omega arith)) h
 
 -- ---- the words below the sups' entries
 
-module _ (sh : Shape) (w : List ℕ) (st : Stored sh w) (d : diamond (solidIn sh w) ≡ true) (tall : 2 ≤ sh .rank) (f : ℕ) (low : f < sizeAt sh (sh .rank - 1)) where
+module _ (sh : Shape) (w : List ℕ) (st : Stored sh w) (d : diamond (absIn sh w) ≡ true) (tall : 2 ≤ sh .rank) (f : ℕ) (low : f < sizeAt sh (sh .rank - 1)) where
   abbrev s : Solid
-  s = solidIn sh w
+  s = absIn sh w
 
   abbrev g : ℕ
   g = firstAt sh (sh .rank - 1)
@@ -152,7 +152,7 @@ module _ (sh : Shape) (w : List ℕ) (st : Stored sh w) (d : diamond (solidIn sh
   abbrev t : Solid
   t = exchangedIn s f
 
-  same-subs : (r e : ℕ) → r ≤ sh .rank → e < sizeAt sh r → subs (solidIn sh w′) r e ≡ subs t r e
+  same-subs : (r e : ℕ) → r ≤ sh .rank → e < sizeAt sh r → subs (absIn sh w′) r e ≡ subs t r e
   unfolding subsIn
   same-subs r e h k = subs-is sh w′ r e h k ∙ go (ℕ-discrete r (sh .rank - 1))
     where
@@ -164,13 +164,13 @@ module _ (sh : Shape) (w : List ℕ) (st : Stored sh w) (d : diamond (solidIn sh
           ∙ sym (rw (top-facets sh w) at (subs-n s tall-here f low-here e)))
       go (no n) = other-list r e h k n ∙ sym (subs-is sh w r e h k) ∙ sym (subs-other s tall-here f low-here r (λ q. n (q ∙ top-facets sh w)) e)
 
-  ranks : length (solidIn sh w′) ≡ suc (sh .rank)
+  ranks : length (absIn sh w′) ≡ suc (sh .rank)
   ranks = omega (arith, top-is sh w′)
 
-  pub solid-is : solidIn sh w′ ≡ t
+  pub solid-is : absIn sh w′ ≡ t
   unfolding exchangedIn
   solid-is =
-      solid-ext (solidIn sh w′) t (ranks ∙ sym (length-set s (top s - 1) _ ∙ omega (arith, top-is sh w)))
+      solid-ext (absIn sh w′) t (ranks ∙ sym (length-set s (top s - 1) _ ∙ omega (arith, top-is sh w)))
       (λ r h. size-is sh w′ r (omega (arith, ranks)) ∙ sym (size-is sh w r (omega (arith, ranks))) ∙ sym (size-same s tall-here f low-here r))
       (λ r e h k. same-subs r e (omega (arith, ranks)) (rw (size-is sh w′ r (omega (arith, ranks))) at k))
 
@@ -186,7 +186,7 @@ module _ (sh : Shape) (w : List ℕ) (st : Stored sh w) (d : diamond (solidIn sh
   pub bound-is : bound t ≡ bound s
   bound-is = bound-same s tall-here f low-here
 
-  pub pairs-same : length (pairs sh (solidIn sh w′)) ≡ length (pairs sh s)
+  pub pairs-same : length (pairs sh (absIn sh w′)) ≡ length (pairs sh s)
   pairs-same =
       pairs-are sh w′ (rw solid-is (kept .sound)) (rw solid-is (kept .filled))
       ∙ ap (subEntries sh) (ap entries solid-is ∙ entries-is)
@@ -215,11 +215,11 @@ module _ (sh : Shape) (w : List ℕ) (st : Stored sh w) (d : diamond (solidIn sh
 -- ---- the whole bench
 
 module _ (sh : Shape) (low : ℕ) (ws : List ℕ) (l : Laid sh low ws) (f : ℕ) (asked : (2 ≤ sh .rank) × (f < sizeAt sh (sh .rank - 1))) where
-  b : Bench sh low ws (replicate (8 * (elements (solidIn sh (take low ws)) + 8)) zeroF)
+  b : Bench sh low ws (replicate (8 * (elements (absIn sh (take low ws)) + 8)) zeroF)
   b = some-bench sh low ws l
 
   abbrev whole : Solid
-  whole = solidIn sh (take low ws)
+  whole = absIn sh (take low ws)
 
   abbrev base : ℕ
   base = baseOf sh (entries whole)
@@ -227,10 +227,10 @@ module _ (sh : Shape) (low : ℕ) (ws : List ℕ) (l : Laid sh low ws) (f : ℕ)
   abbrev v : List ℕ
   v = take base ws
 
-  alone : solidIn sh v ≡ whole
+  alone : absIn sh v ≡ whole
   alone = b .subs-alone
 
-  diamonds : diamond (solidIn sh v) ≡ true
+  diamonds : diamond (absIn sh v) ≡ true
   diamonds = rw alone (b .diamonds)
 
   -- ---- the steps' numbers
@@ -279,34 +279,34 @@ module _ (sh : Shape) (low : ℕ) (ws : List ℕ) (l : Laid sh low ws) (f : ℕ)
       stored₁ : Stored sh (take base ws₁)
       stored₁ = rw low₁ (stored sh v (b .stored) diamonds (asked .0) f (asked .1))
 
-      solid₁ : solidIn sh (take base ws₁) ≡ exchangedIn whole f
+      solid₁ : absIn sh (take base ws₁) ≡ exchangedIn whole f
       solid₁ = rw low₁ (solid-is sh v (b .stored) diamonds (asked .0) f (asked .1) ∙ ap (λ (t : Solid). exchangedIn t f) alone)
 
-      low-is : base + length (pairs sh (solidIn sh (take base ws₁))) ≡ low
+      low-is : base + length (pairs sh (absIn sh (take base ws₁))) ≡ low
       low-is =
-          let p : length (pairs sh (solidIn sh (take base ws₁))) ≡ length (pairs sh whole) = rw low₁ (pairs-same sh v (b .stored) diamonds (asked .0) f (asked .1) ∙ ap (λ (t : Solid). length (pairs sh t)) alone) in
+          let p : length (pairs sh (absIn sh (take base ws₁))) ≡ length (pairs sh whole) = rw low₁ (pairs-same sh v (b .stored) diamonds (asked .0) f (asked .1) ∙ ap (λ (t : Solid). length (pairs sh t)) alone) in
           omega (arith, base-pairs b)
 
-      pub derive-call : Stored sh (take (2 * n + low / 2) ws₁) × ((2 * n + low / 2 + length (pairs sh (solidIn sh (take (2 * n + low / 2) ws₁))) ≤ length ws₁)
-          × (2 * n + low / 2 + length (pairs sh (solidIn sh (take (2 * n + low / 2) ws₁))) < 2 ^ 32))
+      pub derive-call : Stored sh (take (2 * n + low / 2) ws₁) × ((2 * n + low / 2 + length (pairs sh (absIn sh (take (2 * n + low / 2) ws₁))) ≤ length ws₁)
+          × (2 * n + low / 2 + length (pairs sh (absIn sh (take (2 * n + low / 2) ws₁))) < 2 ^ 32))
       derive-call = rw base-is (stored₁, (omega (arith, low-is, b .words-in, len₁), omega (arith, low-is, low-small b)))
 
       -- The sups are derived.
       module _ (ws₂ : List ℕ) (len₂ : length ws₂ ≡ length ws₁)
-          (h′ : Held sh (take (2 * n + low / 2 + length (pairs sh (solidIn sh (take (2 * n + low / 2) ws₁)))) ws₂))
-          (s′ : solidIn sh (take (2 * n + low / 2 + length (pairs sh (solidIn sh (take (2 * n + low / 2) ws₁)))) ws₂) ≡ solidIn sh (take (2 * n + low / 2) ws₁))
-          (st′ : Stored sh (take (2 * n + low / 2) ws₂)) (a′ : solidIn sh (take (2 * n + low / 2) ws₂) ≡ solidIn sh (take (2 * n + low / 2) ws₁))
-          (p′ : drop (2 * n + low / 2 + length (pairs sh (solidIn sh (take (2 * n + low / 2) ws₁)))) ws₂ ≡ drop (2 * n + low / 2 + length (pairs sh (solidIn sh (take (2 * n + low / 2) ws₁)))) ws₁) where
+          (h′ : Held sh (take (2 * n + low / 2 + length (pairs sh (absIn sh (take (2 * n + low / 2) ws₁)))) ws₂))
+          (s′ : absIn sh (take (2 * n + low / 2 + length (pairs sh (absIn sh (take (2 * n + low / 2) ws₁)))) ws₂) ≡ absIn sh (take (2 * n + low / 2) ws₁))
+          (st′ : Stored sh (take (2 * n + low / 2) ws₂)) (a′ : absIn sh (take (2 * n + low / 2) ws₂) ≡ absIn sh (take (2 * n + low / 2) ws₁))
+          (p′ : drop (2 * n + low / 2 + length (pairs sh (absIn sh (take (2 * n + low / 2) ws₁)))) ws₂ ≡ drop (2 * n + low / 2 + length (pairs sh (absIn sh (take (2 * n + low / 2) ws₁)))) ws₁) where
         held₂ : Held sh (take low ws₂)
         held₂ = rw (base-is, low-is) at h′
 
-        pub solid₂ : solidIn sh (take low ws₂) ≡ exchangedIn whole f
+        pub solid₂ : absIn sh (take low ws₂) ≡ exchangedIn whole f
         solid₂ = (rw (base-is, low-is) at s′) ∙ solid₁
 
         stored₂ : Stored sh (take base ws₂)
         stored₂ = rw base-is at st′
 
-        alone₂ : solidIn sh (take base ws₂) ≡ exchangedIn whole f
+        alone₂ : absIn sh (take base ws₂) ≡ exchangedIn whole f
         alone₂ = (rw base-is at a′) ∙ solid₁
 
         pub past₂ : drop low ws₂ ≡ drop low ws
@@ -340,13 +340,13 @@ module _ (sh : Shape) (low : ℕ) (ws : List ℕ) (l : Laid sh low ws) (f : ℕ)
 -- ---- for callers: what was a bench is one, of the exchanged solid, and its vertices are where they were
 
 module _ {sh : Shape} {low : ℕ} {ws : List ℕ} {fs : List Float} (o : Bench sh low ws fs) (f : ℕ) (asked : (2 ≤ sh .rank) × (f < sizeAt sh (sh .rank - 1)))
-    (vs : List ℕ) (e : solidIn sh (take low vs) ≡ exchangedIn (solidIn sh (take low ws)) f) where
+    (vs : List ℕ) (e : absIn sh (take low vs) ≡ exchangedIn (absIn sh (take low ws)) f) where
   pub bench-exchanged : Laid sh low vs → Bench sh low vs fs
-  bench-exchanged l = l fs (rw (e, elements-same (solidIn sh (take low ws)) (tall-s sh (take low ws) (asked .0)) f (low-s sh (take low ws) (asked .0) f (asked .1))) (o .floats))
+  bench-exchanged l = l fs (rw (e, elements-same (absIn sh (take low ws)) (tall-s sh (take low ws) (asked .0)) f (low-s sh (take low ws) (asked .0) f (asked .1))) (o .floats))
 
   pub solid-exchanged : solidAt sh low vs fs ≡ exchanged (solidAt sh low ws fs) f
   unfolding exchanged
   solid-exchanged =
       rw e
-      (ap (λ (n : ℕ). record { dimension = sh .dimension; points = parts n (sh .dimension) (take (n * sh .dimension) fs); abs = exchangedIn (solidIn sh (take low ws)) f })
-      (size-same (solidIn sh (take low ws)) (tall-s sh (take low ws) (asked .0)) f (low-s sh (take low ws) (asked .0) f (asked .1)) 1))
+      (ap (λ (n : ℕ). record { dimension = sh .dimension; points = parts n (sh .dimension) (take (n * sh .dimension) fs); abs = exchangedIn (absIn sh (take low ws)) f })
+      (size-same (absIn sh (take low ws)) (tall-s sh (take low ws) (asked .0)) f (low-s sh (take low ws) (asked .0) f (asked .1)) 1))

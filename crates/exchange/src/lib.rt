@@ -5,7 +5,7 @@ ghost use mathlib.Core.Path.{_≡_};
 ghost use Prim.Native.Nat.{suc, _+_, _-_, _*_, _/_, _^_, _≤_, _<_};
 ghost use lib.ListN.{length, take, drop};
 ghost use Rattle.spec.specs.Search.{exchangedIn};
-ghost use Rattle.ranked.specs.Words.{firstAt, sizeAt, total, solidIn};
+ghost use Rattle.ranked.specs.Words.{firstAt, sizeAt, total, absIn};
 ghost use Rattle.ranked.specs.Bench.{Laid};
 ghost use Rattle.exchange.specs.Swapping.{swapped, swappedLists};
 
@@ -41,7 +41,7 @@ fn first_of(sh: Shape, r: usize) -> usize
 pub fn exchange(words: &mut [u32], low: usize, sh: Shape, f: usize)
     requires { ⌜ Laid sh low (now words) ⌝ }
     requires { ⌜ (2 ≤ sh .rank) × (f < sizeAt sh (sh .rank - 1)) ⌝ }
-    ensures { λ _. ⌜ solidIn sh (take low (now (words .exit))) ≡ exchangedIn (solidIn sh (take low (now (words .entry)))) f ⌝ }
+    ensures { λ _. ⌜ absIn sh (take low (now (words .exit))) ≡ exchangedIn (absIn sh (take low (now (words .entry)))) f ⌝ }
     ensures { λ _. ⌜ Laid sh low (now (words .exit)) ⌝ }
     ensures { λ _. ⌜ drop low (now (words .exit)) ≡ drop low (now (words .entry)) ⌝ }
 {

@@ -18,7 +18,7 @@ use Rattle.spec.specs.Solid.{between}
 use Rattle.spec.specs.Flags.{IsFlag, elementAt, firstTo, firstFlag, other, change}
 use Rattle.spec.proofs.Lists.{in-getD}
 use Rattle.ranked.specs.declared.Shape.{Shape}
-use Rattle.ranked.specs.Words.{firstAt, sizeAt, solidIn, Held}
+use Rattle.ranked.specs.Words.{firstAt, sizeAt, absIn, Held}
 use Rattle.ranked.specs.Reading.{subsWord, holding}
 use Rattle.ranked.proofs.Solids.{top-is, size-is, sub-in}
 use Rattle.ranked.proofs.Judged.{down-is}
@@ -28,14 +28,14 @@ use Rattle.flag.specs.Reading.{firstIn, otherIn}
 
 -- A list of subs is not empty, and its first is of the rank below.
 module _ (sh : Shape) (w : List ℕ) (h : Held sh w) where
-  pub some-sub : (r e : ℕ) → 0 < r → r ≤ sh .rank → e < sizeAt sh r → 0 < length (subs (solidIn sh w) r e)
+  pub some-sub : (r e : ℕ) → 0 < r → r ≤ sh .rank → e < sizeAt sh r → 0 < length (subs (absIn sh w) r e)
   some-sub zero e a b k = absurd (omega arith)
   some-sub (suc r) e a b k = h .filled r e (rw (size-is sh w (suc r) b) k)
 
-  first-in : (r e : ℕ) → suc r ≤ sh .rank → e < sizeAt sh (suc r) → getD (subs (solidIn sh w) (suc r) e) 0 0 < sizeAt sh r
+  first-in : (r e : ℕ) → suc r ≤ sh .rank → e < sizeAt sh (suc r) → getD (subs (absIn sh w) (suc r) e) 0 0 < sizeAt sh r
   first-in r e b k =
-      sub-in sh w h r e (getD (subs (solidIn sh w) (suc r) e) 0 0) b
-      (in-getD 0 (subs (solidIn sh w) (suc r) e) 0 (h .filled r e (rw (size-is sh w (suc r) b) k)))
+      sub-in sh w h r e (getD (subs (absIn sh w) (suc r) e) 0 0) b
+      (in-getD 0 (subs (absIn sh w) (suc r) e) 0 (h .filled r e (rw (size-is sh w (suc r) b) k)))
 
 -- The elements above rank r are found, and e is the one at r.
 pub record Down (sh : Shape) (w goal els : List ℕ) (r e : ℕ) : Type 0 where
@@ -43,18 +43,18 @@ pub record Down (sh : Shape) (w goal els : List ℕ) (r e : ℕ) : Type 0 where
   pub inside : e < sizeAt sh r
   pub here : getD els r 0 ≡ e
   pub long : length els ≡ 6
-  pub done : firstTo (solidIn sh w) r e ++ take (sh .rank - r) (drop (suc r) els) ≡ goal
+  pub done : firstTo (absIn sh w) r e ++ take (sh .rank - r) (drop (suc r) els) ≡ goal
 
 module _ (sh : Shape) (w : List ℕ) (h : Held sh w) where
   -- Nothing stands above the top.
   pub top-down : (els : List ℕ) → getD els (sh .rank) 0 ≡ 0
-      → firstTo (solidIn sh w) (sh .rank) (getD els (sh .rank) 0) ++ take (sh .rank - sh .rank) (drop (suc (sh .rank)) els) ≡ firstFlag (solidIn sh w)
+      → firstTo (absIn sh w) (sh .rank) (getD els (sh .rank) 0) ++ take (sh .rank - sh .rank) (drop (suc (sh .rank)) els) ≡ firstFlag (absIn sh w)
   unfolding firstFlag
   top-down els z =
       let none : sh .rank - sh .rank ≡ 0 = omega arith in
-      rw (none, z) (append-nil (firstTo (solidIn sh w) (sh .rank) 0) ∙ ap (λ (n : ℕ). firstTo (solidIn sh w) n 0) (sym (top-is sh w)))
+      rw (none, z) (append-nil (firstTo (absIn sh w) (sh .rank) 0) ∙ ap (λ (n : ℕ). firstTo (absIn sh w) n 0) (sym (top-is sh w)))
 
-  pub next-down : (goal els : List ℕ) (r e : ℕ) → Down sh w goal els r e → 0 < r → (f : ℕ) → f ≡ getD (subs (solidIn sh w) r e) 0 0 → Down sh w goal (set els (r - 1) f) (r - 1) f
+  pub next-down : (goal els : List ℕ) (r e : ℕ) → Down sh w goal els r e → 0 < r → (f : ℕ) → f ≡ getD (subs (absIn sh w) r e) 0 0 → Down sh w goal (set els (r - 1) f) (r - 1) f
   unfolding firstTo
   next-down goal els zero e d p f q = absurd (omega arith)
   next-down goal els (suc r) e d p f q =
@@ -71,9 +71,9 @@ module _ (sh : Shape) (w : List ℕ) (h : Held sh w) where
         here = getD-set-same els r f 0 l;
         long = length-set els r f ∙ d .long;
         done =
-            ap (λ (m : List ℕ). firstTo (solidIn sh w) r f ++ m) step
-            ∙ sym (append-assoc (firstTo (solidIn sh w) r f) (e ∷ []) (take (sh .rank - suc r) (drop (suc (suc r)) els)))
-            ∙ ap (λ (x : ℕ). (firstTo (solidIn sh w) r x ++ (e ∷ [])) ++ take (sh .rank - suc r) (drop (suc (suc r)) els)) q
+            ap (λ (m : List ℕ). firstTo (absIn sh w) r f ++ m) step
+            ∙ sym (append-assoc (firstTo (absIn sh w) r f) (e ∷ []) (take (sh .rank - suc r) (drop (suc (suc r)) els)))
+            ∙ ap (λ (x : ℕ). (firstTo (absIn sh w) r x ++ (e ∷ [])) ++ take (sh .rank - suc r) (drop (suc (suc r)) els)) q
             ∙ d .done;
       })
 
@@ -140,13 +140,13 @@ module _ (e : ℕ) (l : List ℕ) where
 -- ---- a change
 
 between-is : (sh : Shape) (w : List ℕ) → Held sh w → (g r x : ℕ) → 0 < r → r < sh .rank → g < sizeAt sh (suc r)
-    → holding w (subsWord (firstAt sh (suc r)) g) (4 * (firstAt sh r + 0)) x ≡ between (solidIn sh w) r g x
+    → holding w (subsWord (firstAt sh (suc r)) g) (4 * (firstAt sh r + 0)) x ≡ between (absIn sh w) r g x
 between-is sh w h g zero x a b k = absurd (omega arith)
 between-is sh w h g (suc q) x a b k = let z : 4 * (firstAt sh (suc q) + 0) ≡ 4 * firstAt sh (suc q) = omega arith in rw z (down-is sh w h q b g k x)
 
 pub changed : (sh : Shape) (w : List ℕ) → Held sh w → (els : List ℕ) (r : ℕ) → 0 < r → r < sh .rank → getD els (suc r) 0 < sizeAt sh (suc r)
     → (e : ℕ) → e ≡ other (getD els r 0) (holding w (subsWord (firstAt sh (suc r)) (getD els (suc r) 0)) (4 * (firstAt sh r + 0)) (getD els (r - 1) 0))
-    → take (suc (sh .rank)) (set els r e) ≡ change (solidIn sh w) r (take (suc (sh .rank)) els)
+    → take (suc (sh .rank)) (set els r e) ≡ change (absIn sh w) r (take (suc (sh .rank)) els)
 unfolding change
 changed sh w h els r a b k e q =
     let n = suc (sh .rank) in
@@ -162,7 +162,7 @@ changed sh w h els r a b k e q =
 
 -- ---- the elements of a flag are the solid's: what a caller of a change has to show
 
-pub flag-in : (sh : Shape) (w : List ℕ) → Held sh w → (els : List ℕ) → IsFlag (solidIn sh w) (take (suc (sh .rank)) els)
+pub flag-in : (sh : Shape) (w : List ℕ) → Held sh w → (els : List ℕ) → IsFlag (absIn sh w) (take (suc (sh .rank)) els)
     → (r : ℕ) → r ≤ sh .rank → getD els r 0 < sizeAt sh r
 flag-in sh w h els f r low = rw (← getD-take (suc (sh .rank)) els r 0 (omega arith)) (go (ℕ-discrete r (sh .rank)))
   where

@@ -14,7 +14,7 @@ use Rattle.spec.specs.Types.{Solid, top, size, subs}
 use Rattle.spec.specs.Flags.{Flag, IsFlag, elementAt, firstTo, flagsTo, flags}
 use Rattle.spec.proofs.Lists.{in-getD}
 use Rattle.ranked.specs.declared.Shape.{Shape}
-use Rattle.ranked.specs.Words.{firstAt, sizeAt, listAt, solidIn, Held}
+use Rattle.ranked.specs.Words.{firstAt, sizeAt, listAt, absIn, Held}
 use Rattle.ranked.specs.Reading.{Lies, subsWord}
 use Rattle.ranked.proofs.Solids.{top-is, subs-lie, subs-listed, sub-in, list-in}
 use Rattle.flag.specs.Reading.{Follows, Moved, nextPlace}
@@ -36,14 +36,14 @@ module _ (sh : Shape) (w : List ℕ) (h : Held sh w) (els : List ℕ) (r : ℕ) 
     pub above-lies : Lies w i
     above-lies = rw (word ∙ above-at) (subs-lie sh w h (suc r) (getD els (suc r) 0) b up)
 
-    listed : listAt w i ≡ subs (solidIn sh w) (suc r) (getD els (suc r) 0)
+    listed : listAt w i ≡ subs (absIn sh w) (suc r) (getD els (suc r) 0)
     listed = ap (listAt w) (word ∙ above-at) ∙ subs-listed sh w h (suc r) (getD els (suc r) 0) b up
 
     module _ (k n : ℕ) (at : k ≡ place eqb (getD els r 0) (listAt w i)) (many : n ≡ length (listAt w i)) where
       pub place-fits : k + 1 ≤ length w + 1
       place-fits = omega (arith, place-in (getD els r 0) (listAt w i), list-in w i above-lies)
 
-      next-is : k + 1 ≡ nextPlace (solidIn sh w) els r
+      next-is : k + 1 ≡ nextPlace (absIn sh w) els r
       next-is = rw (add-one k) (ap suc (at ∙ ap (place eqb (getD els r 0)) listed))
 
       module _ (x : ℕ) (is : x ≡ getD (listAt w i) (k + 1) 0) (more : k + 1 < n) (long : length els ≡ 6) where
@@ -54,8 +54,8 @@ module _ (sh : Shape) (w : List ℕ) (h : Held sh w) (els : List ℕ) (r : ℕ) 
         moved-in = rw set-is (sub-in sh w h r (getD els (suc r) 0) x b (rw is (subst (λ (l : List ℕ). In (getD (listAt w i) (k + 1) 0) l) listed (in-getD 0 (listAt w i) (k + 1) (omega arith)))))
 
         pub moved-yes : (new : List ℕ)
-            → take (suc (sh .rank)) new ≡ firstTo (solidIn sh w) r (getD (set els r x) r 0) ++ take (sh .rank - r) (drop (suc r) (set els r x))
-            → Moved (solidIn sh w) (sh .rank) els r true new
+            → take (suc (sh .rank)) new ≡ firstTo (absIn sh w) r (getD (set els r x) r 0) ++ take (sh .rank - r) (drop (suc r) (set els r x))
+            → Moved (absIn sh w) (sh .rank) els r true new
         moved-yes new q = record {
           next = λ _. (
             omega (arith, next-is, many, ap length listed),
@@ -64,14 +64,14 @@ module _ (sh : Shape) (w : List ℕ) (h : Held sh w) (els : List ℕ) (r : ℕ) 
           end = λ z. absurd (true≢false z);
         }
 
-      pub moved-no : n ≤ k + 1 → (new : List ℕ) → Moved (solidIn sh w) (sh .rank) els r false new
+      pub moved-no : n ≤ k + 1 → (new : List ℕ) → Moved (absIn sh w) (sh .rank) els r false new
       moved-no m new = record { next = λ z. absurd (false≢true z); end = λ _. omega (arith, next-is, many, ap length listed) }
 
 -- ---- the loop over the ranks
 
-module _ (sh : Shape) (w : List ℕ) (h : Held sh w) (els : List ℕ) (long : length els ≡ 6) (f : IsFlag (solidIn sh w) (take (suc (sh .rank)) els)) where
+module _ (sh : Shape) (w : List ℕ) (h : Held sh w) (els : List ℕ) (long : length els ≡ 6) (f : IsFlag (absIn sh w) (take (suc (sh .rank)) els)) where
   abbrev s : Solid
-  s = solidIn sh w
+  s = absIn sh w
 
   abbrev F : Flag
   F = take (suc (sh .rank)) els

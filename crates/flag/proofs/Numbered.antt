@@ -11,7 +11,7 @@ use Rattle.spec.specs.Flags.{Flag, IsFlag, firstFlag, flags}
 use Rattle.spec.proofs.Lists.{in-getD}
 use Rattle.spec.proofs.FlagList.{every-flag-once, every-first}
 use Rattle.ranked.specs.declared.Shape.{Shape}
-use Rattle.ranked.specs.Words.{solidIn, Held}
+use Rattle.ranked.specs.Words.{absIn, Held}
 use Rattle.flag.specs.Reading.{Follows, Nth}
 
 some-in : {A : Type 0} (x : A) (l : List A) → In x l → 0 < length l
@@ -19,18 +19,18 @@ some-in x (y ∷ l) m = omega arith
 
 module _ (sh : Shape) (w : List ℕ) (h : Held sh w) where
   -- The first flag is flag 0.
-  pub nth-first : (F : Flag) → F ≡ firstFlag (solidIn sh w) → Nth (solidIn sh w) F 0
+  pub nth-first : (F : Flag) → F ≡ firstFlag (absIn sh w) → Nth (absIn sh w) F 0
   nth-first F e =
-      let f = every-first (solidIn sh w) (h .sound) (h .filled) in
-      record { low = some-in (firstFlag (solidIn sh w)) (flags (solidIn sh w)) (every-flag-once (solidIn sh w) (h .sound) .exact (firstFlag (solidIn sh w)) .1 (f .0)); is = e ∙ sym (f .1) }
+      let f = every-first (absIn sh w) (h .sound) (h .filled) in
+      record { low = some-in (firstFlag (absIn sh w)) (flags (absIn sh w)) (every-flag-once (absIn sh w) (h .sound) .exact (firstFlag (absIn sh w)) .1 (f .0)); is = e ∙ sym (f .1) }
 
   -- A flag of the list is a flag.
-  pub nth-flag : (F : Flag) (i : ℕ) → Nth (solidIn sh w) F i → IsFlag (solidIn sh w) F
-  nth-flag F i n = rw (n .is) (every-flag-once (solidIn sh w) (h .sound) .exact _ .0 (in-getD [] (flags (solidIn sh w)) i (n .low)))
+  pub nth-flag : (F : Flag) (i : ℕ) → Nth (absIn sh w) F i → IsFlag (absIn sh w) F
+  nth-flag F i n = rw (n .is) (every-flag-once (absIn sh w) (h .sound) .exact _ .0 (in-getD [] (flags (absIn sh w)) i (n .low)))
 
-  module _ (F : Flag) (more : Bool) (G : Flag) (f : Follows (solidIn sh w) F more G) (i : ℕ) (n : Nth (solidIn sh w) F i) where
-    pub nth-next : more ≡ true → Nth (solidIn sh w) G (suc i)
+  module _ (F : Flag) (more : Bool) (G : Flag) (f : Follows (absIn sh w) F more G) (i : ℕ) (n : Nth (absIn sh w) F i) where
+    pub nth-next : more ≡ true → Nth (absIn sh w) G (suc i)
     nth-next e = let g = f .next e i (n .low) (n .is) in record { low = g .0; is = g .1 }
 
-    pub nth-last : more ≡ false → suc i ≡ length (flags (solidIn sh w))
+    pub nth-last : more ≡ false → suc i ≡ length (flags (absIn sh w))
     nth-last e = f .end e i (n .low) (n .is)

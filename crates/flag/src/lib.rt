@@ -7,7 +7,7 @@ ghost use lib.Dec.{eqb};
 ghost use Rattle.spec.specs.Lists.{place};
 ghost use Rattle.spec.specs.Types.{subs};
 ghost use Rattle.spec.specs.Flags.{IsFlag, firstTo, firstFlag, change};
-ghost use Rattle.ranked.specs.Words.{sizeAt, listAt, solidIn, Held};
+ghost use Rattle.ranked.specs.Words.{sizeAt, listAt, absIn, Held};
 ghost use Rattle.ranked.specs.Reading.{Lies, Each, holding, Fork};
 ghost use Rattle.flag.specs.Reading.{flagIn, otherIn, otherOf, moreOf, Follows, Moved};
 use ranked::Shape;
@@ -45,7 +45,7 @@ enum Other {
 fn first_sub(w: &[u32], sh: Shape, r: usize, e: usize) -> usize
     requires { ⌜ Held sh (now w) ⌝ }
     requires { ⌜ (0 < r) × (r ≤ sh .rank) × (e < sizeAt sh r) ⌝ }
-    ensures { λ f. ⌜ f ≡ getD (subs (solidIn sh (now (w .entry))) r e) 0 0 ⌝ }
+    ensures { λ f. ⌜ f ≡ getD (subs (absIn sh (now (w .entry))) r e) 0 0 ⌝ }
 {
     lists::sub(w, sh, r, e, 0)
 }
@@ -88,7 +88,7 @@ fn down(w: &[u32], sh: Shape, start: [usize; RANKS], from: usize) -> [usize; RAN
     requires { ⌜ Held sh (now w) ⌝ }
     requires { ⌜ (from ≤ sh .rank) × (getD start from 0 < sizeAt sh from) ⌝ }
     ensures { λ res. ⌜ take (suc (sh .rank)) res
-        ≡ firstTo (solidIn sh (now (w .entry))) from (getD start from 0) ++ take (sh .rank - from) (drop (suc from) start) ⌝ }
+        ≡ firstTo (absIn sh (now (w .entry))) from (getD start from 0) ++ take (sh .rank - from) (drop (suc from) start) ⌝ }
 {
     let mut elements = start;
     let mut e = start[from];
@@ -122,7 +122,7 @@ fn place_at(w: &[u32], i: usize, x: usize) -> usize
 fn moved_at(w: &[u32], sh: Shape, elements: [usize; RANKS], r: usize) -> Next
     requires { ⌜ Held sh (now w) ⌝ }
     requires { ⌜ (r < sh .rank) × (getD elements (suc r) 0 < sizeAt sh (suc r)) ⌝ }
-    ensures { λ res. ⌜ Moved (solidIn sh (now (w .entry))) (sh .rank) elements r (moreOf (res .advance)) (res .flag .elements) ⌝ }
+    ensures { λ res. ⌜ Moved (absIn sh (now (w .entry))) (sh .rank) elements r (moreOf (res .advance)) (res .flag .elements) ⌝ }
 {
     let first = sh.first;
     let i = lists::subs_at(first[r + 1], elements[r + 1]);
@@ -147,7 +147,7 @@ impl Flag {
     // "`first_flag` takes the first sub at each rank, from the top down."
     pub fn first(w: &[u32], sh: Shape) -> Flag
         requires { ⌜ Held sh (now w) ⌝ }
-        ensures { λ res. ⌜ flagIn (sh .rank) res ≡ firstFlag (solidIn sh (now (w .entry))) ⌝ }
+        ensures { λ res. ⌜ flagIn (sh .rank) res ≡ firstFlag (absIn sh (now (w .entry))) ⌝ }
     {
         let elements = [0usize; RANKS];
         let rank = sh.rank;
@@ -162,7 +162,7 @@ impl Flag {
         requires { ⌜ (0 < r) × (r < sh .rank) ⌝ }
         requires { ⌜ getD (self .elements) (suc r) 0 < sizeAt sh (suc r) ⌝ }
         requires { ⌜ getD (self .elements) (r - 1) 0 < sizeAt sh (r - 1) ⌝ }
-        ensures { λ res. ⌜ flagIn (sh .rank) res ≡ change (solidIn sh (now (w .entry))) r (flagIn (sh .rank) self) ⌝ }
+        ensures { λ res. ⌜ flagIn (sh .rank) res ≡ change (absIn sh (now (w .entry))) r (flagIn (sh .rank) self) ⌝ }
     {
         let first = sh.first;
         let mut elements = self.elements;
@@ -184,8 +184,8 @@ impl Flag {
     // The flag after this one: "The iterator gives every flag once, the sub at rank 1 moving fastest."
     pub fn next(self, w: &[u32], sh: Shape) -> Next
         requires { ⌜ Held sh (now w) ⌝ }
-        requires { ⌜ IsFlag (solidIn sh (now w)) (flagIn (sh .rank) self) ⌝ }
-        ensures { λ res. ⌜ Follows (solidIn sh (now (w .entry))) (flagIn (sh .rank) self) (moreOf (res .advance)) (flagIn (sh .rank) (res .flag)) ⌝ }
+        requires { ⌜ IsFlag (absIn sh (now w)) (flagIn (sh .rank) self) ⌝ }
+        ensures { λ res. ⌜ Follows (absIn sh (now (w .entry))) (flagIn (sh .rank) self) (moreOf (res .advance)) (flagIn (sh .rank) (res .flag)) ⌝ }
     {
         let elements = self.elements;
         let rank = sh.rank;

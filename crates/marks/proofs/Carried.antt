@@ -24,7 +24,7 @@ use Rattle.spec.proofs.Marked.{every-in, no-repeats, Permutes}
 use Rattle.float.specs.declared.points.Found.{Found}
 use Rattle.float.specs.declared.points.Found.the-variants.{At, Nothing}
 use Rattle.ranked.specs.declared.Shape.{Shape}
-use Rattle.ranked.specs.Words.{firstAt, sizeAt, total, solidIn, Held}
+use Rattle.ranked.specs.Words.{firstAt, sizeAt, total, absIn, Held}
 use Rattle.ranked.proofs.Solids.{top-is, size-is, size-past, number-in}
 use Rattle.ranked.proofs.Turns.{Every, range-yes, range-no, range-end}
 use Rattle.geometry.specs.Classes.{sameClass}
@@ -39,27 +39,27 @@ use Rattle.marks.proofs.Rows.{permuted}
 -- ---- a row
 
 module _ {sh : Shape} {w row : List ℕ} (a : Row sh w row) where
-  rows : Permutes (solidIn sh w) row
+  rows : Permutes (absIn sh w) row
   rows = let p = permuted row (a .permuted) in record { full = a .full; low = λ v m. rw (a .full) at (p .low v m); once = p .once }
 
-  sets : (r : ℕ) → Proper (solidIn sh w) r → Once (vertexSets (solidIn sh w) r)
+  sets : (r : ℕ) → Proper (absIn sh w) r → Once (vertexSets (absIn sh w) r)
   sets r p =
-      no-repeats eqList lists (vertexSets (solidIn sh w) r)
-      (every-in (λ q. noRepeats eqList (vertexSets (solidIn sh w) q)) (properRanks (solidIn sh w)) (a .apart) r (proper-rank (solidIn sh w) r p))
+      no-repeats eqList lists (vertexSets (absIn sh w) r)
+      (every-in (λ q. noRepeats eqList (vertexSets (absIn sh w) q)) (properRanks (absIn sh w)) (a .apart) r (proper-rank (absIn sh w) r p))
 
-  is-proper : (r : ℕ) → 1 ≤ r → r < sh .rank → Proper (solidIn sh w) r
+  is-proper : (r : ℕ) → 1 ≤ r → r < sh .rank → Proper (absIn sh w) r
   is-proper r l k = (omega arith, omega (arith, top-is sh w))
 
   module _ {cells : List ℕ} {r : ℕ} (b : Rank sh w row cells r) (e : ℕ) (h : e < sizeAt sh r) where
-    in-solid : e < size (solidIn sh w) r
+    in-solid : e < size (absIn sh w) r
     in-solid = rw (size-is sh w r (omega (arith, b .high))) h
 
     pub row-cell : r ≡ 1 → e < length row
-    row-cell q = let k : e < size (solidIn sh w) 1 = rw q at in-solid in omega (arith, a .full)
+    row-cell q = let k : e < size (absIn sh w) 1 = rw q at in-solid in omega (arith, a .full)
 
-    pub vertex-lands : r ≡ 1 → (x : ℕ) → x ≡ getD row e 0 → (cls : Classes) → Reached (solidIn sh w) cls row r e (At x)
+    pub vertex-lands : r ≡ 1 → (x : ℕ) → x ≡ getD row e 0 → (cls : Classes) → Reached (absIn sh w) cls row r e (At x)
     vertex-lands q x z cls =
-        let s = solidIn sh w in
+        let s = absIn sh w in
         let p : Proper s 1 = is-proper 1 (omega arith) (omega (arith, b .high)) in
         rw (q, z) (vertex-reached s (a .held .sound) (a .held .filled) cls row rows p (sets 1 p) e (rw q at in-solid))
 
@@ -68,11 +68,11 @@ module _ {sh : Shape} {w row : List ℕ} (a : Row sh w row) where
     cells-low two f k = let i = b .below two f k in rw (i .0) (i .1)
 
   higher : (cells : List ℕ) (r : ℕ) → Rank sh w row cells r → 2 ≤ r → (e : ℕ) → e < sizeAt sh r → (cls : Classes)
-      → Reached (solidIn sh w) cls row r e (risesTo (solidIn sh w) (λ f. getD cells (firstAt sh (r - 1) + f) 0) (r - 1) e)
+      → Reached (absIn sh w) cls row r e (risesTo (absIn sh w) (λ f. getD cells (firstAt sh (r - 1) + f) 0) (r - 1) e)
   higher cells zero b two e h cls = absurd (omega arith)
   higher cells (suc zero) b two e h cls = absurd (omega arith)
   higher cells (suc (suc q)) b two e h cls =
-      let s = solidIn sh w in
+      let s = absIn sh w in
       let z : suc (suc q) - 1 ≡ suc q = omega arith in
       let p = is-proper (suc q) (omega arith) (omega (arith, b .high)) in
       let p′ = is-proper (suc (suc q)) (omega arith) (b .high) in
@@ -82,7 +82,7 @@ module _ {sh : Shape} {w row : List ℕ} (a : Row sh w row) where
       (λ f. getD cells (firstAt sh (suc q) + f) 0) (λ f k. i f (rw n₁ at k) .0) e (in-solid b e h))
 
   pub element-lands : {cells : List ℕ} {r : ℕ} → Rank sh w row cells r → 2 ≤ r → (e : ℕ) → e < sizeAt sh r
-      → (x : Found) → x ≡ risesTo (solidIn sh w) (λ f. getD cells (firstAt sh (r - 1) + f) 0) (r - 1) e → (cls : Classes) → Reached (solidIn sh w) cls row r e x
+      → (x : Found) → x ≡ risesTo (absIn sh w) (λ f. getD cells (firstAt sh (r - 1) + f) 0) (r - 1) e → (cls : Classes) → Reached (absIn sh w) cls row r e x
   element-lands {cells} {r} b two e h x z cls = rw z (higher cells r b two e h cls)
 
 -- ---- classes
@@ -96,7 +96,7 @@ class-cells sh w fs h c r e g low high he hg =
     same-class-at (concrete sh w fs) r g e low (omega (arith, top-is sh w)) (rw n hg) (rw n he) ∙ ap₂ sameClass (cell g hg) (cell e he)
   where
     cell : (k : ℕ) → k < sizeAt sh r
-        → getD (classes (distances (concrete sh w fs))) (beforeIn (solidIn sh w) r + k) nan ≡ getD fs (coordinates sh w + proper sh + (before sh r + k)) nan
+        → getD (classes (distances (concrete sh w fs))) (beforeIn (absIn sh w) r + k) nan ≡ getD fs (coordinates sh w + proper sh + (before sh r + k)) nan
     cell k hk =
         let b = before-is sh w h r low (omega arith) in
         let o₁ = in-order sh w h 1 r low (omega arith) in
@@ -111,7 +111,7 @@ pub ranks-lie : (sh : Shape) (w : List ℕ) → Held sh w → (r : ℕ) → 1 �
 ranks-lie sh w h r low high =
     (omega (arith, h .tall), omega (arith, h .tall), in-order sh w h 1 (sh .rank) (omega arith) (omega arith), in-order sh w h 1 r low (omega arith))
 
-pub class-in : (sh : Shape) (w : List ℕ) (fs : List Float) → Held sh w → ClassesIn sh w fs → (v : ℕ) → v ≡ size (solidIn sh w) 1
+pub class-in : (sh : Shape) (w : List ℕ) (fs : List Float) → Held sh w → ClassesIn sh w fs → (v : ℕ) → v ≡ size (absIn sh w) 1
     → (r e : ℕ) → 1 ≤ r → r < sh .rank → e < sizeAt sh r → v * sh .dimension + proper sh + (before sh r + e) < length fs
 class-in sh w fs h c v v-is r e low high he =
     let o₁ = in-order sh w h 1 r low (omega arith) in
@@ -121,15 +121,15 @@ class-in sh w fs h c v v-is r e low high he =
 
 -- ---- an element that goes to x, and whether it shares x's class
 
-module _ (sh : Shape) (w row : List ℕ) (cls : Classes) (r e x : ℕ) (a : Reached (solidIn sh w) cls row r e (At x)) where
+module _ (sh : Shape) (w row : List ℕ) (cls : Classes) (r e x : ℕ) (a : Reached (absIn sh w) cls row r e (At x)) where
   pub lies-in : r < sh .rank → x < sizeAt sh r
   lies-in high = rw (size-is sh w r (omega arith)) at (a .1)
 
   module _ (b : Bool) (is : b ≡ eqb (cls r x) (cls r e)) where
-    pub other-class : b ≡ false → Landed (solidIn sh w) cls row r e Nothing
+    pub other-class : b ≡ false → Landed (absIn sh w) cls row r e Nothing
     other-class f = a .2 ∙ sym is ∙ f
 
-    pub its-class : b ≡ true → Landed (solidIn sh w) cls row r e (At x)
+    pub its-class : b ≡ true → Landed (absIn sh w) cls row r e (At x)
     its-class t = (a .0, a .1, a .2 ∙ sym is ∙ t)
 
 -- ---- a rank's elements
@@ -141,8 +141,8 @@ pub record Turn (sh : Shape) (w row : List ℕ) (cls : Classes) (cells₀ : List
   pub long : length cells ≡ length cells₀
   pub rank : Rank sh w row cells r
   pub many : n ≡ sizeAt sh r
-  pub done : (f : ℕ) → f < e → (getD cells (firstAt sh r + f) 0 ≡ goes (solidIn sh w) row r f) × (goes (solidIn sh w) row r f < sizeAt sh r)
-  pub rest : Every (carriesElement (solidIn sh w) cls row r) (range 0 (size (solidIn sh w) r)) e
+  pub done : (f : ℕ) → f < e → (getD cells (firstAt sh r + f) 0 ≡ goes (absIn sh w) row r f) × (goes (absIn sh w) row r f < sizeAt sh r)
+  pub rest : Every (carriesElement (absIn sh w) cls row r) (range 0 (size (absIn sh w) r)) e
 
 pub first-turn : (sh : Shape) (w row : List ℕ) (cls : Classes) (cells : List ℕ) (r n : ℕ) → Rank sh w row cells r → n ≡ sizeAt sh r → Turn sh w row cls cells r n (firstAt sh r) cells 0
 first-turn sh w row cls cells r n b m = record {
@@ -157,21 +157,21 @@ first-turn sh w row cls cells r n b m = record {
 
 module _ {sh : Shape} {w row : List ℕ} {cls : Classes} {cells₀ : List ℕ} {r n base : ℕ} {cells : List ℕ} {e : ℕ}
     (t : Turn sh w row cls cells₀ r n base cells e) (h : Held sh w) where
-  many-in : n ≡ size (solidIn sh w) r
+  many-in : n ≡ size (absIn sh w) r
   many-in = t .many ∙ sym (size-is sh w r (omega (arith, t .rank .high)))
 
   -- An element of the rank, by the code's number of them.
-  pub turn-in : {x : ℕ} → x < size (solidIn sh w) r → x < n
+  pub turn-in : {x : ℕ} → x < size (absIn sh w) r → x < n
   turn-in h = omega (arith, many-in)
 
   module _ (more : e < n) where
     pub cell-in : base + e < length cells
     cell-in = omega (arith, t .base-is, t .rank .room, number-in sh w h r e (omega (arith, t .rank .high)) (omega (arith, t .many)))
 
-    pub turn-stop : Landed (solidIn sh w) cls row r e Nothing → false ≡ every (carriesElement (solidIn sh w) cls row r) (range 0 (size (solidIn sh w) r))
-    turn-stop z = range-no (carriesElement (solidIn sh w) cls row r) 0 (size (solidIn sh w) r) e e (omega arith) (omega (arith, many-in)) (t .rest) z
+    pub turn-stop : Landed (absIn sh w) cls row r e Nothing → false ≡ every (carriesElement (absIn sh w) cls row r) (range 0 (size (absIn sh w) r))
+    turn-stop z = range-no (carriesElement (absIn sh w) cls row r) 0 (size (absIn sh w) r) e e (omega arith) (omega (arith, many-in)) (t .rest) z
 
-    pub turn-next : (x : ℕ) → Landed (solidIn sh w) cls row r e (At x) → Turn sh w row cls cells₀ r n base (set cells (base + e) x) (e + 1)
+    pub turn-next : (x : ℕ) → Landed (absIn sh w) cls row r e (At x) → Turn sh w row cls cells₀ r n base (set cells (base + e) x) (e + 1)
     turn-next x l = record {
       base-is = t .base-is;
       bound = omega arith;
@@ -179,7 +179,7 @@ module _ {sh : Shape} {w row : List ℕ} {cls : Classes} {cells₀ : List ℕ} {
       rank = record { low = b .low; high = b .high; room = rw length-set (b .room); below = below };
       many = t .many;
       done = λ f m. done f m (ℕ-discrete f e);
-      rest = range-yes (carriesElement (solidIn sh w) cls row r) 0 (size (solidIn sh w) r) e e (omega arith) (omega (arith, many-in)) (t .rest) (l .2);
+      rest = range-yes (carriesElement (absIn sh w) cls row r) 0 (size (absIn sh w) r) e e (omega arith) (omega (arith, many-in)) (t .rest) (l .2);
     }
       where
         b : Rank sh w row cells r
@@ -193,7 +193,7 @@ module _ {sh : Shape} {w row : List ℕ} {cls : Classes} {cells₀ : List ℕ} {
             let i = b .below two f m in
             (getD-set-other cells (base + e) (firstAt sh (r - 1) + f) x 0 (λ (d : firstAt sh (r - 1) + f ≡ base + e). omega (arith, t .base-is)) ∙ i .0, i .1)
 
-        done : (f : ℕ) → f < e + 1 → Dec (f ≡ e) → (getD (set cells (base + e) x) (firstAt sh r + f) 0 ≡ goes (solidIn sh w) row r f) × (goes (solidIn sh w) row r f < sizeAt sh r)
+        done : (f : ℕ) → f < e + 1 → Dec (f ≡ e) → (getD (set cells (base + e) x) (firstAt sh r + f) 0 ≡ goes (absIn sh w) row r f) × (goes (absIn sh w) row r f < sizeAt sh r)
         done f m (yes y) =
             let i : firstAt sh r + e ≡ base + e = omega (arith, t .base-is) in
             rw (y, i) (getD-set-same cells (base + e) x 0 cell-in ∙ l .0, omega (arith, l .0, l .1, many-in, t .many))
@@ -201,9 +201,9 @@ module _ {sh : Shape} {w row : List ℕ} {cls : Classes} {cells₀ : List ℕ} {
             let i = t .done f (omega arith) in
             (getD-set-other cells (base + e) (firstAt sh r + f) x 0 (λ (d : firstAt sh r + f ≡ base + e). y (omega (arith, t .base-is))) ∙ i .0, i .1)
 
-  pub turn-end : n ≤ e → (true ≡ every (carriesElement (solidIn sh w) cls row r) (range 0 (size (solidIn sh w) r))) × Images sh w row cells r
+  pub turn-end : n ≤ e → (true ≡ every (carriesElement (absIn sh w) cls row r) (range 0 (size (absIn sh w) r))) × Images sh w row cells r
   turn-end k = (
-    range-end (carriesElement (solidIn sh w) cls row r) 0 (size (solidIn sh w) r) e (omega (arith, many-in)) (t .rest),
+    range-end (carriesElement (absIn sh w) cls row r) 0 (size (absIn sh w) r) e (omega (arith, many-in)) (t .rest),
     λ f m. t .done f (omega (arith, t .many)),
   )
 
@@ -215,7 +215,7 @@ pub record Round (sh : Shape) (w row : List ℕ) (cls : Classes) (cells₀ : Lis
   pub long : length cells ≡ length cells₀
   pub room : total sh ≤ length cells
   pub below : 2 ≤ r → Images sh w row cells (r - 1)
-  pub rest : Every (λ q. every (carriesElement (solidIn sh w) cls row q) (range 0 (size (solidIn sh w) q))) (range 1 (sh .rank - 1)) (r - 1)
+  pub rest : Every (λ q. every (carriesElement (absIn sh w) cls row q) (range 0 (size (absIn sh w) q))) (range 1 (sh .rank - 1)) (r - 1)
 
 pub first-round : (sh : Shape) (w row : List ℕ) (cls : Classes) (cells : List ℕ) → total sh ≤ length cells → Round sh w row cls cells cells 1
 first-round sh w row cls cells h = record { low = omega arith; long = refl; room = h; below = λ two. absurd (omega arith); rest = refl }
@@ -225,32 +225,32 @@ module _ {sh : Shape} {w row : List ℕ} {cls : Classes} {cells₀ cells : List 
     pub rank-now : (n : ℕ) → n ≡ firstAt sh (r + 1) - firstAt sh r → Rank sh w row cells r × (n ≡ sizeAt sh r)
     rank-now n e = (record { low = t .low; high = more; room = t .room; below = t .below }, rw (add-one r) at e)
 
-    pub round-stop : false ≡ every (carriesElement (solidIn sh w) cls row r) (range 0 (size (solidIn sh w) r))
-        → false ≡ every (λ q. every (carriesElement (solidIn sh w) cls row q) (range 0 (size (solidIn sh w) q))) (properRanks (solidIn sh w))
+    pub round-stop : false ≡ every (carriesElement (absIn sh w) cls row r) (range 0 (size (absIn sh w) r))
+        → false ≡ every (λ q. every (carriesElement (absIn sh w) cls row q) (range 0 (size (absIn sh w) q))) (properRanks (absIn sh w))
     unfolding properRanks
     round-stop e =
         let l = t .low in
-        rw (top-is sh w) (range-no (λ q. every (carriesElement (solidIn sh w) cls row q) (range 0 (size (solidIn sh w) q))) 1 (sh .rank - 1) (r - 1) r (omega arith) (omega arith) (t .rest) (sym e))
+        rw (top-is sh w) (range-no (λ q. every (carriesElement (absIn sh w) cls row q) (range 0 (size (absIn sh w) q))) 1 (sh .rank - 1) (r - 1) r (omega arith) (omega arith) (t .rest) (sym e))
 
-    pub round-next : true ≡ every (carriesElement (solidIn sh w) cls row r) (range 0 (size (solidIn sh w) r)) → (new : List ℕ) → length new ≡ length cells
+    pub round-next : true ≡ every (carriesElement (absIn sh w) cls row r) (range 0 (size (absIn sh w) r)) → (new : List ℕ) → length new ≡ length cells
         → Images sh w row new r → Round sh w row cls cells₀ new (r + 1)
     round-next e new k i =
         let l = t .low in
         let z : r + 1 - 1 ≡ r = omega arith in
         let y : r - 1 + 1 ≡ r = omega arith in
-        let m = range-yes (λ q. every (carriesElement (solidIn sh w) cls row q) (range 0 (size (solidIn sh w) q))) 1 (sh .rank - 1) (r - 1) r (omega arith) (omega arith) (t .rest) (sym e) in
+        let m = range-yes (λ q. every (carriesElement (absIn sh w) cls row q) (range 0 (size (absIn sh w) q))) 1 (sh .rank - 1) (r - 1) r (omega arith) (omega arith) (t .rest) (sym e) in
         record { low = omega arith; long = k ∙ t .long; room = rw k (t .room); below = λ two. rw z i; rest = rw z (rw y at m) }
 
-  pub round-end : sh .rank ≤ r → true ≡ every (λ q. every (carriesElement (solidIn sh w) cls row q) (range 0 (size (solidIn sh w) q))) (properRanks (solidIn sh w))
+  pub round-end : sh .rank ≤ r → true ≡ every (λ q. every (carriesElement (absIn sh w) cls row q) (range 0 (size (absIn sh w) q))) (properRanks (absIn sh w))
   unfolding properRanks
   round-end h =
-      rw (top-is sh w) (range-end (λ q. every (carriesElement (solidIn sh w) cls row q) (range 0 (size (solidIn sh w) q))) 1 (sh .rank - 1) (r - 1) (omega arith) (t .rest))
+      rw (top-is sh w) (range-end (λ q. every (carriesElement (absIn sh w) cls row q) (range 0 (size (absIn sh w) q))) 1 (sh .rank - 1) (r - 1) (omega arith) (t .rest))
 
 -- ---- the vertices
 
-pub few-vertices : (sh : Shape) (w : List ℕ) → Held sh w → size (solidIn sh w) 1 ≤ 2048
+pub few-vertices : (sh : Shape) (w : List ℕ) → Held sh w → size (absIn sh w) 1 ≤ 2048
 few-vertices sh w h = go (sh .rank) refl
   where
-    go : (k : ℕ) → sh .rank ≡ k → size (solidIn sh w) 1 ≤ 2048
+    go : (k : ℕ) → sh .rank ≡ k → size (absIn sh w) 1 ≤ 2048
     go zero e = omega (arith, size-past sh w 1 (omega arith))
     go (suc k) e = omega (arith, size-is sh w 1 (omega arith), h .few 1 (omega arith))

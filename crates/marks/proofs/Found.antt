@@ -17,7 +17,7 @@ use Rattle.float.specs.declared.points.Found.{Found}
 use Rattle.float.specs.declared.points.Found.the-variants.{At, Nothing}
 use Rattle.float.specs.Finding.{firstOf}
 use Rattle.ranked.specs.declared.Shape.{Shape}
-use Rattle.ranked.specs.Words.{firstAt, sizeAt, total, listAt, solidIn, Held}
+use Rattle.ranked.specs.Words.{firstAt, sizeAt, total, listAt, absIn, Held}
 use Rattle.ranked.specs.Reading.{Lies, subsWord, supsWord, Each}
 use Rattle.ranked.proofs.Solids.{size-is, number-in, subs-lie, sups-lie, subs-listed, sups-listed, sub-in, sup-in}
 use Rattle.ranked.proofs.Judged.{keep-same}
@@ -64,7 +64,7 @@ module _ (p : ℕ → Bool) where
 
 module _ (sh : Shape) (w : List ℕ) (h : Held sh w) (cells : List ℕ) (r e : ℕ) (high : suc r ≤ sh .rank) (he : e < sizeAt sh (suc r))
     (room : total sh ≤ length cells) (low : (f : ℕ) → f < sizeAt sh r → getD cells (firstAt sh r + f) 0 < sizeAt sh r) where
-  pub list-is : listAt w (subsWord (firstAt sh (suc r)) e) ≡ subs (solidIn sh w) (suc r) e
+  pub list-is : listAt w (subsWord (firstAt sh (suc r)) e) ≡ subs (absIn sh w) (suc r) e
   list-is = subs-listed sh w h (suc r) e high he
 
   pub some-sub : 0 < length (listAt w (subsWord (firstAt sh (suc r)) e))
@@ -76,7 +76,7 @@ module _ (sh : Shape) (w : List ℕ) (h : Held sh w) (cells : List ℕ) (r e : �
   -- The first sub, and where it goes.
   module _ (f y : ℕ) (f-is : f ≡ getD (listAt w (subsWord (firstAt sh (suc r)) e)) 0 0) (y-is : y ≡ getD cells (firstAt sh r + f) 0) where
     sub-low : f < sizeAt sh r
-    sub-low = sub-in sh w h r e f high (rw (f-is, list-is) (in-getD 0 (subs (solidIn sh w) (suc r) e) 0 (rw list-is at some-sub)))
+    sub-low = sub-in sh w h r e f high (rw (f-is, list-is) (in-getD 0 (subs (absIn sh w) (suc r) e) 0 (rw list-is at some-sub)))
 
     pub image-low : y < sizeAt sh r
     image-low = rw y-is (low f sub-low)
@@ -84,7 +84,7 @@ module _ (sh : Shape) (w : List ℕ) (h : Held sh w) (cells : List ℕ) (r e : �
     pub over-lie : Lies w (supsWord (firstAt sh r) y)
     over-lie = sups-lie sh w h r y (omega arith) image-low
 
-    over-is : listAt w (supsWord (firstAt sh r) y) ≡ sups (solidIn sh w) r y
+    over-is : listAt w (supsWord (firstAt sh r) y) ≡ sups (absIn sh w) r y
     over-is = sups-listed sh w h r y (omega arith) image-low
 
     over-low : (g : ℕ) → In g (listAt w (supsWord (firstAt sh r) y)) → g < sizeAt sh (suc r)
@@ -96,10 +96,10 @@ module _ (sh : Shape) (w : List ℕ) (h : Held sh w) (cells : List ℕ) (r e : �
         rw q (subs-lie sh w h (suc r) g high (over-low g m))
 
     pub rises : (x : Found) → x ≡ firstOf (keep (λ g. onto (λ k. getD cells (firstAt sh r + k) 0) (listAt w (subsWord (firstAt sh (suc r)) e)) (listAt w (4 * firstAt sh (suc r) + 4 * g)))
-        (listAt w (supsWord (firstAt sh r) y))) → x ≡ risesTo (solidIn sh w) (λ k. getD cells (firstAt sh r + k) 0) r e
+        (listAt w (supsWord (firstAt sh r) y))) → x ≡ risesTo (absIn sh w) (λ k. getD cells (firstAt sh r + k) 0) r e
     unfolding risesTo
     rises x q =
-        let s = solidIn sh w in
+        let s = absIn sh w in
         let to : ℕ → ℕ = λ k. getD cells (firstAt sh r + k) 0 in
         let es = subs s (suc r) e in
         let tests = keep-same (λ g. onto to (listAt w (subsWord (firstAt sh (suc r)) e)) (listAt w (4 * firstAt sh (suc r) + 4 * g))) (λ g. onto to es (subs s (suc r) g))

@@ -14,7 +14,7 @@ use Rattle.spec.specs.Hull.{classes}
 use Rattle.spec.specs.Solid.{Concrete}
 use Rattle.spec.specs.Classes.{distances, classTable, byTable}
 use Rattle.ranked.specs.declared.Shape.{Shape}
-use Rattle.ranked.specs.Words.{firstAt, sizeAt, total, solidIn, Held}
+use Rattle.ranked.specs.Words.{firstAt, sizeAt, total, absIn, Held}
 use Rattle.distances.specs.Solids.{solidOn, coordinates, proper}
 
 -- Whether the row's entries are all vertices, of which there are as many as entries, and none is there twice.
@@ -37,13 +37,13 @@ pub record ClassesIn (sh : Shape) (w : List ℕ) (fs : List Float) : Type 0 wher
 -- The row permutes the vertices of a solid that has no vertex set twice in a rank.
 pub record Row (sh : Shape) (w row : List ℕ) : Type 0 where
   pub held : Held sh w
-  pub apart : setsApart (solidIn sh w) ≡ true
-  pub full : length row ≡ size (solidIn sh w) 1
+  pub apart : setsApart (absIn sh w) ≡ true
+  pub full : length row ≡ size (absIn sh w) 1
   pub permuted : permutes row ≡ true
 
 -- Cell firstAt sh r + e says where element e of rank r goes, and that is an element of the rank.
 abbrev pub Images : Shape → List ℕ → List ℕ → List ℕ → ℕ → Type 0
-Images sh w row cells r = (e : ℕ) → e < sizeAt sh r → (getD cells (firstAt sh r + e) 0 ≡ goes (solidIn sh w) row r e) × (goes (solidIn sh w) row r e < sizeAt sh r)
+Images sh w row cells r = (e : ℕ) → e < sizeAt sh r → (getD cells (firstAt sh r + e) 0 ≡ goes (absIn sh w) row r e) × (goes (absIn sh w) row r e < sizeAt sh r)
 
 -- Rank r is proper, and the cells have room for every element and hold the images of the rank below, unless that is the rank of the least element.
 pub record Rank (sh : Shape) (w row cells : List ℕ) (r : ℕ) : Type 0 where

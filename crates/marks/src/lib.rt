@@ -12,7 +12,7 @@ ghost use Rattle.spec.specs.Limits.{maxCount};
 ghost use Rattle.spec.specs.Lists.{In, holds, range, keep, every};
 ghost use Rattle.spec.specs.Types.{size, properRanks, Classes};
 ghost use Rattle.spec.specs.Mark.{setsApart, carriesElement, marked};
-ghost use Rattle.ranked.specs.Words.{firstAt, sizeAt, total, listAt, solidIn, Held};
+ghost use Rattle.ranked.specs.Words.{firstAt, sizeAt, total, listAt, absIn, Held};
 ghost use Rattle.ranked.specs.Reading.{Lies, Each};
 ghost use Rattle.geometry.specs.Classes.{sameClass};
 ghost use Rattle.distances.specs.Solids.{proper, before};
@@ -113,7 +113,7 @@ fn rise(w: &[u32], sh: Shape, goes: &[u16], r: usize, e: usize) -> Found
     requires { ⌜ Held sh (now w) ⌝ }
     requires { ⌜ (suc r ≤ sh .rank) × (e < sizeAt sh (suc r)) × (total sh ≤ length (now goes)) ⌝ }
     requires { ⌜ ((f : ℕ) → f < sizeAt sh r → getD (now goes) (firstAt sh r + f) 0 < sizeAt sh r) ⌝ }
-    ensures { λ x. ⌜ x ≡ risesTo (solidIn sh (now (w .entry))) (λ f. getD (now (goes .entry)) (firstAt sh r + f) 0) r e ⌝ }
+    ensures { λ x. ⌜ x ≡ risesTo (absIn sh (now (w .entry))) (λ f. getD (now (goes .entry)) (firstAt sh r + f) 0) r e ⌝ }
 {
     let first = sh.first;
     let base = first[r];
@@ -129,7 +129,7 @@ fn rise(w: &[u32], sh: Shape, goes: &[u16], r: usize, e: usize) -> Found
 fn reach(w: &[u32], sh: Shape, row: &[u16], goes: &[u16], r: usize, e: usize) -> Found
     requires { ⌜ Row sh (now w) (now row) ⌝ }
     requires { ⌜ Rank sh (now w) (now row) (now goes) r × (e < sizeAt sh r) ⌝ }
-    ensures { λ x. ⌜ ((cls : Classes) → Reached (solidIn sh (now (w .entry))) cls (now (row .entry)) r e x) ⌝ }
+    ensures { λ x. ⌜ ((cls : Classes) → Reached (absIn sh (now (w .entry))) cls (now (row .entry)) r e x) ⌝ }
 {
     if r == 1 {
         return Found::At(cell(row, e));
@@ -174,7 +174,7 @@ fn image_of(
 ) -> Found
     requires { ⌜ Row sh (now w) (now row) × ClassesIn sh (now w) (now floats) ⌝ }
     requires { ⌜ Rank sh (now w) (now row) (now goes) r × (e < sizeAt sh r) ⌝ }
-    ensures { λ x. ⌜ Landed (solidIn sh (now (w .entry))) (classesOn sh (now (w .entry)) (now (floats .entry))) (now (row .entry)) r e x ⌝ }
+    ensures { λ x. ⌜ Landed (absIn sh (now (w .entry))) (classesOn sh (now (w .entry)) (now (floats .entry))) (now (row .entry)) r e x ⌝ }
 {
     let Found::At(x) = reach(w, sh, row, goes, r, e) else {
         return Found::Nothing;
@@ -197,8 +197,8 @@ fn carry_rank(
 ) -> bool
     requires { ⌜ Row sh (now w) (now row) × ClassesIn sh (now w) (now floats) ⌝ }
     requires { ⌜ Rank sh (now w) (now row) (now goes) r × (n ≡ sizeAt sh r) ⌝ }
-    ensures { λ res. ⌜ res ≡ every (carriesElement (solidIn sh (now (w .entry))) (classesOn sh (now (w .entry)) (now (floats .entry))) (now (row .entry)) r)
-        (range 0 (size (solidIn sh (now (w .entry))) r)) ⌝ }
+    ensures { λ res. ⌜ res ≡ every (carriesElement (absIn sh (now (w .entry))) (classesOn sh (now (w .entry)) (now (floats .entry))) (now (row .entry)) r)
+        (range 0 (size (absIn sh (now (w .entry))) r)) ⌝ }
     ensures { λ res. ⌜ (res ≡ true → Images sh (now (w .entry)) (now (row .entry)) (now (goes .exit)) r) ⌝ }
 {
     let first = sh.first;
@@ -218,8 +218,8 @@ fn carry_rank(
 fn carry_all(w: &[u32], sh: Shape, floats: &[f64], row: &[u16], goes: &mut [u16]) -> bool
     requires { ⌜ Row sh (now w) (now row) × ClassesIn sh (now w) (now floats) × (total sh ≤ length (now goes)) ⌝ }
     ensures { λ res. ⌜ res
-        ≡ every (λ r. every (carriesElement (solidIn sh (now (w .entry))) (classesOn sh (now (w .entry)) (now (floats .entry))) (now (row .entry)) r)
-        (range 0 (size (solidIn sh (now (w .entry))) r))) (properRanks (solidIn sh (now (w .entry)))) ⌝ }
+        ≡ every (λ r. every (carriesElement (absIn sh (now (w .entry))) (classesOn sh (now (w .entry)) (now (floats .entry))) (now (row .entry)) r)
+        (range 0 (size (absIn sh (now (w .entry))) r))) (properRanks (absIn sh (now (w .entry)))) ⌝ }
 {
     let first = sh.first;
     let rank = sh.rank;
@@ -238,10 +238,10 @@ fn carry_all(w: &[u32], sh: Shape, floats: &[f64], row: &[u16], goes: &mut [u16]
 // cells of `goes`, one for each element, are free before and after.
 pub fn mark(w: &[u32], sh: Shape, floats: &[f64], apart: bool, row: &[u16], goes: &mut [u16]) -> u8
     requires { ⌜ Held sh (now w) × ClassesIn sh (now w) (now floats) ⌝ }
-    requires { ⌜ apart ≡ setsApart (solidIn sh (now w)) ⌝ }
-    requires { ⌜ (length (now row) ≡ size (solidIn sh (now w)) 1) × (total sh ≤ length (now goes)) ⌝ }
+    requires { ⌜ apart ≡ setsApart (absIn sh (now w)) ⌝ }
+    requires { ⌜ (length (now row) ≡ size (absIn sh (now w)) 1) × (total sh ≤ length (now goes)) ⌝ }
     ensures { λ m. ⌜ m
-        ≡ elim (marked (solidIn sh (now (w .entry))) (classesOn sh (now (w .entry)) (now (floats .entry))) (now (row .entry))) [ true ↦ 1 | false ↦ 0 ] ⌝ }
+        ≡ elim (marked (absIn sh (now (w .entry))) (classesOn sh (now (w .entry)) (now (floats .entry))) (now (row .entry))) [ true ↦ 1 | false ↦ 0 ] ⌝ }
 {
     if !apart {
         return 0;

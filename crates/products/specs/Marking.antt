@@ -12,7 +12,7 @@ use Rattle.spec.specs.Classes.{classTable, byTable}
 use Rattle.float.specs.declared.points.Found.{Found}
 use Rattle.float.specs.declared.points.Found.the-variants.{At, Nothing}
 use Rattle.ranked.specs.declared.Shape.{Shape}
-use Rattle.ranked.specs.Words.{total, solidIn, Held}
+use Rattle.ranked.specs.Words.{total, absIn, Held}
 use Rattle.marks.specs.Rows.{ClassesIn}
 use Rattle.products.specs.Products.{composed}
 
@@ -24,7 +24,7 @@ markIn c row = elim (marked (c .abs) (byTable (classTable c)) row) [ true ↦ 1 
 pub record Markable (sh : Shape) (w : List ℕ) (fs : List Float) (apart : Bool) (n : ℕ) : Type 0 where
   pub held : Held sh w
   pub classes : ClassesIn sh w fs
-  pub apart-is : apart ≡ setsApart (solidIn sh w)
+  pub apart-is : apart ≡ setsApart (absIn sh w)
   pub room : total sh ≤ n
 
 -- Row k of rows that have v entries each.

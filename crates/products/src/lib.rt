@@ -10,7 +10,7 @@ ghost use Prim.Native.Nat.{_+_, _*_, _≤_, _<_};
 ghost use lib.ListN.{length};
 ghost use Rattle.spec.specs.Types.{size};
 ghost use Rattle.spec.specs.Copying.{parts, written};
-ghost use Rattle.ranked.specs.Words.{solidIn};
+ghost use Rattle.ranked.specs.Words.{absIn};
 ghost use Rattle.marks.specs.Rows.{concrete};
 ghost use Rattle.products.specs.Products.{composed};
 ghost use Rattle.products.specs.Marking.{markIn, Markable, rowAt, Factored, Below};
@@ -277,7 +277,7 @@ fn mark_next(
     cells: &mut [u16; CELLS],
 ) -> u8
     requires { ⌜ Markable sh (now w) (now floats) apart (length (now goes)) ⌝ }
-    requires { ⌜ (v ≡ size (solidIn sh (now w)) 1) × (k * v + v ≤ length (now rows)) ⌝ }
+    requires { ⌜ (v ≡ size (absIn sh (now w)) 1) × (k * v + v ≤ length (now rows)) ⌝ }
     requires { ⌜ now done ≡ map (markIn (concrete sh (now w) (now floats))) (parts k v (now rows)) ⌝ }
     ensures { λ r. ⌜ r ≡ markIn (concrete sh (now (w .entry)) (now (floats .entry))) (rowAt v (now (rows .entry)) k) ⌝ }
 {
@@ -310,7 +310,7 @@ fn mark_few(
     marks: &mut [u8],
 )
     requires { ⌜ Markable sh (now w) (now floats) apart (length (now goes)) ⌝ }
-    requires { ⌜ (v ≡ size (solidIn sh (now w)) 1) × (n * v ≤ length (now rows)) × (n ≤ length (now marks)) ⌝ }
+    requires { ⌜ (v ≡ size (absIn sh (now w)) 1) × (n * v ≤ length (now rows)) × (n ≤ length (now marks)) ⌝ }
     ensures { λ _. ⌜ now (marks .exit)
         ≡ written (map (markIn (concrete sh (now (w .entry)) (now (floats .entry)))) (parts n v (now (rows .entry)))) (now (marks .entry)) ⌝ }
 {
@@ -335,7 +335,7 @@ fn mark_many(
     marks: &mut [u8],
 )
     requires { ⌜ Markable sh (now w) (now floats) apart (length (now goes)) ⌝ }
-    requires { ⌜ (v ≡ size (solidIn sh (now w)) 1) × (n * v ≤ length (now rows)) × (n ≤ length (now marks)) ⌝ }
+    requires { ⌜ (v ≡ size (absIn sh (now w)) 1) × (n * v ≤ length (now rows)) × (n ≤ length (now marks)) ⌝ }
     ensures { λ _. ⌜ now (marks .exit)
         ≡ written (map (markIn (concrete sh (now (w .entry)) (now (floats .entry)))) (parts n v (now (rows .entry)))) (now (marks .entry)) ⌝ }
 {
@@ -375,7 +375,7 @@ pub fn mark_rows(
     marks: &mut [u8],
 )
     requires { ⌜ Markable sh (now w) (now floats) apart (length (now goes)) ⌝ }
-    requires { ⌜ (v ≡ size (solidIn sh (now w)) 1) × (n * v ≤ length (now rows)) × (n ≤ length (now marks)) ⌝ }
+    requires { ⌜ (v ≡ size (absIn sh (now w)) 1) × (n * v ≤ length (now rows)) × (n ≤ length (now marks)) ⌝ }
     ensures { λ _. ⌜ now (marks .exit)
         ≡ written (map (markIn (concrete sh (now (w .entry)) (now (floats .entry)))) (parts n v (now (rows .entry)))) (now (marks .entry)) ⌝ }
 {

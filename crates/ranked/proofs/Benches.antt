@@ -13,7 +13,7 @@ use Rattle.spec.specs.Types.{Solid, top, size, properRanks, elements}
 use Rattle.spec.specs.Float.{zeroF}
 use Rattle.spec.specs.Solid.{entries}
 use Rattle.ranked.specs.declared.Shape.{Shape}
-use Rattle.ranked.specs.Words.{firstAt, sizeAt, total, solidIn, Held}
+use Rattle.ranked.specs.Words.{firstAt, sizeAt, total, listsOf, absIn, Held}
 use Rattle.ranked.specs.Derive.{pairs, running}
 use Rattle.ranked.specs.Store.{subEntries, lowOf, baseOf}
 use Rattle.ranked.specs.Bench.{Bench, Laid}
@@ -26,7 +26,7 @@ use Rattle.ranked.proofs.store.Whole.{sum-before}
 
 module _ (sh : Shape) (w : List ℕ) (h : Held sh w) where
   abbrev s : Solid
-  s = solidIn sh w
+  s = absIn sh w
 
   -- How many elements lie below rank r.
   below : (r : ℕ) → r ≤ suc (sh .rank) → firstAt sh r ≡ running 0 (λ q. size s q) r
@@ -96,52 +96,52 @@ module _ (sh : Shape) (w : List ℕ) (h : Held sh w) where
 
 -- ---- the bench
 
-module _ {sh : Shape} {low : ℕ} {ws : List ℕ} {fs : List Float} (b : Bench sh low ws fs) where
+module _ {sh : Shape} {ws : List ℕ} {fs : List Float} (b : Bench sh ws fs) where
   abbrev bench-solid : Solid
-  bench-solid = solidIn sh (take low ws)
+  bench-solid = absIn sh (listsOf sh ws)
 
   abbrev base : ℕ
   base = baseOf sh (entries bench-solid)
 
-  pub base-in : base ≤ low
+  pub base-in : base ≤ sh .low
   unfolding baseOf lowOf
   base-in = omega (arith, b .low-is)
 
   -- All subs, and as many sups after them.
-  pub base-pairs : base + length (pairs sh bench-solid) ≡ low
+  pub base-pairs : base + length (pairs sh bench-solid) ≡ sh .low
   unfolding baseOf lowOf
-  base-pairs = omega (arith, b .low-is, pairs-are sh (take low ws) (b .held .sound) (b .held .filled))
+  base-pairs = omega (arith, b .low-is, pairs-are sh (listsOf sh ws) (b .held .sound) (b .held .filled))
 
   -- The coordinates.
   pub points-in : size bench-solid 1 * sh .dimension ≤ length fs
-  points-in = omega (arith, mul-le-mul-left (size bench-solid 1) (b .held .wide), vertices-few sh (take low ws) (b .held), b .floats)
+  points-in = omega (arith, mul-le-mul-left (size bench-solid 1) (b .held .wide), vertices-few sh (listsOf sh ws) (b .held), b .floats)
 
   -- Two words for each element, and one for each vertex, after the solid's own.
-  pub rows-in : low + 2 * total sh + size bench-solid 1 ≤ length ws
+  pub rows-in : sh .low + 2 * total sh + size bench-solid 1 ≤ length ws
   unfolding lowOf
   rows-in =
       omega (
         arith,
         b .low-is,
-        total-few sh (take low ws) (b .held),
-        vertices-few sh (take low ws) (b .held),
-        subs-few sh (take low ws) (b .held),
+        total-few sh (listsOf sh ws) (b .held),
+        vertices-few sh (listsOf sh ws) (b .held),
+        subs-few sh (listsOf sh ws) (b .held),
         b .words,
       )
 
   pub elements-few : total sh ≤ 4 * maxCount + 2
   elements-few = b .stored .small
 
-  pub low-small : low < 2 ^ 32
+  pub low-small : sh .low < 2 ^ 32
   unfolding baseOf
   low-small =
       let p : length (pairs sh bench-solid) < 2 ^ 30 = rw (b .subs-alone) at (b .stored .entries) in
-      omega (arith, base-pairs, pairs-are sh (take low ws) (b .held .sound) (b .held .filled), elements-few)
+      omega (arith, base-pairs, pairs-are sh (listsOf sh ws) (b .held .sound) (b .held .filled), elements-few)
 
 -- Whatever else changes.
-pub bench-kept : {sh : Shape} {low : ℕ} {ws vs : List ℕ} {fs gs : List Float} → Bench sh low ws fs → take low vs ≡ take low ws → length vs ≡ length ws
-    → length gs ≡ length fs → Bench sh low vs gs
-bench-kept {sh} {low} {ws} {vs} {fs} {gs} b e l m = record {
+pub bench-kept : {sh : Shape} {ws vs : List ℕ} {fs gs : List Float} → Bench sh ws fs → listsOf sh vs ≡ listsOf sh ws → length vs ≡ length ws
+    → length gs ≡ length fs → Bench sh vs gs
+bench-kept {sh} {ws} {vs} {fs} {gs} b e l m = record {
   held = rw e (b .held);
   low-is = rw e (b .low-is);
   words-in = rw l (b .words-in);
@@ -153,14 +153,14 @@ bench-kept {sh} {low} {ws} {vs} {fs} {gs} b e l m = record {
   floats = rw (e, m) (b .floats);
 }
   where
-    same : take (baseOf sh (entries (solidIn sh (take low ws)))) vs ≡ take (baseOf sh (entries (solidIn sh (take low ws)))) ws
+    same : take (baseOf sh (entries (absIn sh (listsOf sh ws)))) vs ≡ take (baseOf sh (entries (absIn sh (listsOf sh ws)))) ws
     same =
-        let n = baseOf sh (entries (solidIn sh (take low ws))) in
-        sym (take-take n low vs (base-in b)) ∙ ap (take n) e ∙ take-take n low ws (base-in b)
+        let n = baseOf sh (entries (absIn sh (listsOf sh ws))) in
+        sym (take-take n (sh .low) vs (base-in b)) ∙ ap (take n) e ∙ take-take n (sh .low) ws (base-in b)
 
 -- ---- the words' part
 
-pub laid : {sh : Shape} {low : ℕ} {ws : List ℕ} {fs : List Float} → Bench sh low ws fs → Laid sh low ws
+pub laid : {sh : Shape} {ws : List ℕ} {fs : List Float} → Bench sh ws fs → Laid sh ws
 laid b = λ gs k. record {
   held = b .held;
   low-is = b .low-is;
@@ -174,7 +174,7 @@ laid b = λ gs k. record {
 }
 
 -- A bench of just enough floats.
-pub some-bench : (sh : Shape) (low : ℕ) (ws : List ℕ) → Laid sh low ws → Bench sh low ws (replicate (8 * (elements (solidIn sh (take low ws)) + 8)) zeroF)
-some-bench sh low ws l =
-    let n = 8 * (elements (solidIn sh (take low ws)) + 8) in
+pub some-bench : (sh : Shape) (ws : List ℕ) → Laid sh ws → Bench sh ws (replicate (8 * (elements (absIn sh (listsOf sh ws)) + 8)) zeroF)
+some-bench sh ws l =
+    let n = 8 * (elements (absIn sh (listsOf sh ws)) + 8) in
     l (replicate n zeroF) (rw length-replicate (le-refl n))

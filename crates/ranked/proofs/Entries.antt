@@ -13,7 +13,7 @@ use Rattle.spec.specs.Demand.{Rising, Sound}
 use Rattle.spec.specs.Solid.{entries}
 use Rattle.spec.proofs.Lists.{length-range}
 use Rattle.ranked.specs.declared.Shape.{Shape}
-use Rattle.ranked.specs.Words.{sizeAt, solidIn}
+use Rattle.ranked.specs.Words.{sizeAt, absIn}
 use Rattle.ranked.specs.Derive.{pairsTo, pairs, running}
 use Rattle.ranked.specs.Store.{subEntries}
 use Rattle.ranked.proofs.Solids.{top-is, size-is}
@@ -47,9 +47,9 @@ pub sub-entries-is : (sh : Shape) (I z : ℕ) → sh .rank ≡ suc (suc z) → s
 unfolding subEntries
 sub-entries-is sh I z e = rw (e, subEntries)
 
-module _ (sh : Shape) (w : List ℕ) (v : Sound (solidIn sh w)) (full : (r e : ℕ) → e < size (solidIn sh w) (suc r) → 0 < length (subs (solidIn sh w) (suc r) e)) where
+module _ (sh : Shape) (w : List ℕ) (v : Sound (absIn sh w)) (full : (r e : ℕ) → e < size (absIn sh w) (suc r) → 0 < length (subs (absIn sh w) (suc r) e)) where
   abbrev s : Solid
-  s = solidIn sh w
+  s = absIn sh w
 
   -- The subs of a rank's elements.
   abbrev count : ℕ → ℕ

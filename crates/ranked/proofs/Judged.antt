@@ -13,7 +13,7 @@ use Rattle.spec.specs.Types.{Solid, size, subs, sups, properRanks}
 use Rattle.spec.specs.Solid.{bound, between, diamond}
 use Rattle.spec.proofs.Lists.{of-range}
 use Rattle.ranked.specs.declared.Shape.{Shape}
-use Rattle.ranked.specs.Words.{firstAt, sizeAt, listAt, solidIn, Held}
+use Rattle.ranked.specs.Words.{firstAt, sizeAt, listAt, absIn, Held}
 use Rattle.ranked.specs.Reading.{subsWord, supsWord, boundIn, holding, Fork, twoUnder, Tier, twoAt, twoRank, twoFrom}
 use Rattle.ranked.proofs.Solids.{top-is, size-is, subs-lie, sups-lie, subs-listed, sups-listed, sub-in, sup-in}
 use Rattle.ranked.proofs.Between.{upward, between-upward}
@@ -43,7 +43,7 @@ range-later p (suc k) a m b (suc n) eb en e = go (p a) (range-later p k (suc a) 
 
 module _ (sh : Shape) (w : List ℕ) (h : Held sh w) where
   abbrev s : Solid
-  s = solidIn sh w
+  s = absIn sh w
 
   -- ---- 5
 

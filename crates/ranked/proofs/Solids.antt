@@ -11,7 +11,7 @@ use Rattle.spec.specs.Lists.{In, range}
 use Rattle.spec.specs.Types.{top, size, subs, sups}
 use Rattle.spec.proofs.Lists.{getD-table, length-table}
 use Rattle.ranked.specs.declared.Shape.{Shape}
-use Rattle.ranked.specs.Words.{firstAt, sizeAt, total, listAt, subsIn, supsIn, solidIn, Inside, Held}
+use Rattle.ranked.specs.Words.{firstAt, sizeAt, total, listAt, subsIn, supsIn, absIn, Inside, Held}
 use Rattle.ranked.specs.Reading.{Lies, subsWord, supsWord}
 use Rattle.ranked.proofs.Between.{sup-means}
 
@@ -32,23 +32,23 @@ module _ (w : List ℕ) (i : ℕ) (a : Lies w i) where
 -- ---- the solid
 
 module _ (sh : Shape) (w : List ℕ) where
-  pub top-is : top (solidIn sh w) ≡ sh .rank
-  unfolding solidIn
+  pub top-is : top (absIn sh w) ≡ sh .rank
+  unfolding absIn
   top-is = rw length-table (omega arith)
 
-  rank-is : (r : ℕ) → r ≤ sh .rank → getD (solidIn sh w) r [] ≡ map (subsIn sh w r) (range 0 (sizeAt sh r))
-  unfolding solidIn
+  rank-is : (r : ℕ) → r ≤ sh .rank → getD (absIn sh w) r [] ≡ map (subsIn sh w r) (range 0 (sizeAt sh r))
+  unfolding absIn
   rank-is r h = getD-table (λ q. map (subsIn sh w q) (range 0 (sizeAt sh q))) [] (suc (sh .rank)) r (omega arith)
 
-  pub size-is : (r : ℕ) → r ≤ sh .rank → size (solidIn sh w) r ≡ sizeAt sh r
+  pub size-is : (r : ℕ) → r ≤ sh .rank → size (absIn sh w) r ≡ sizeAt sh r
   size-is r h = ap length (rank-is r h) ∙ length-table (subsIn sh w r) (sizeAt sh r)
 
   -- No rank stands above the top.
-  pub size-past : (r : ℕ) → sh .rank < r → size (solidIn sh w) r ≡ 0
-  unfolding solidIn
-  size-past r h = ap length (List·getD-eq-default (solidIn sh w) [] (rw (length-table (λ q. map (subsIn sh w q) (range 0 (sizeAt sh q)))) h))
+  pub size-past : (r : ℕ) → sh .rank < r → size (absIn sh w) r ≡ 0
+  unfolding absIn
+  size-past r h = ap length (List·getD-eq-default (absIn sh w) [] (rw (length-table (λ q. map (subsIn sh w q) (range 0 (sizeAt sh q)))) h))
 
-  pub subs-is : (r e : ℕ) → r ≤ sh .rank → e < sizeAt sh r → subs (solidIn sh w) r e ≡ subsIn sh w r e
+  pub subs-is : (r e : ℕ) → r ≤ sh .rank → e < sizeAt sh r → subs (absIn sh w) r e ≡ subsIn sh w r e
   unfolding subs
   subs-is r e h k = ap (λ (l : List (List ℕ)). getD l e []) (rank-is r h) ∙ getD-table (subsIn sh w r) [] (sizeAt sh r) e k
 
@@ -72,21 +72,21 @@ module _ (sh : Shape) (w : List ℕ) (h : Held sh w) where
       let n = number-in r e q k in
       record { head = omega (arith, h .room); inside = h .sups-inside (firstAt sh r + e) n }
 
-  pub sups-is : (r e : ℕ) → r ≤ sh .rank → e < sizeAt sh r → sups (solidIn sh w) r e ≡ supsIn sh w r e
+  pub sups-is : (r e : ℕ) → r ≤ sh .rank → e < sizeAt sh r → sups (absIn sh w) r e ≡ supsIn sh w r e
   sups-is r e q k = sym (h .derived r e q k)
 
   -- The lists in the words.
-  pub subs-listed : (r e : ℕ) → r ≤ sh .rank → e < sizeAt sh r → listAt w (subsWord (firstAt sh r) e) ≡ subs (solidIn sh w) r e
+  pub subs-listed : (r e : ℕ) → r ≤ sh .rank → e < sizeAt sh r → listAt w (subsWord (firstAt sh r) e) ≡ subs (absIn sh w) r e
   unfolding subsIn
   subs-listed r e q k = sym (subs-is sh w r e q k)
 
-  pub sups-listed : (r e : ℕ) → r ≤ sh .rank → e < sizeAt sh r → listAt w (supsWord (firstAt sh r) e) ≡ sups (solidIn sh w) r e
+  pub sups-listed : (r e : ℕ) → r ≤ sh .rank → e < sizeAt sh r → listAt w (supsWord (firstAt sh r) e) ≡ sups (absIn sh w) r e
   unfolding supsIn
   sups-listed r e q k = h .derived r e q k
 
   -- "Subs of an element lie one rank below, sups one above"
-  pub sub-in : (r e x : ℕ) → suc r ≤ sh .rank → In x (subs (solidIn sh w) (suc r) e) → x < sizeAt sh r
+  pub sub-in : (r e x : ℕ) → suc r ≤ sh .rank → In x (subs (absIn sh w) (suc r) e) → x < sizeAt sh r
   sub-in r e x q m = rw (size-is sh w r (omega arith)) at (h .sound .below r e x m)
 
-  pub sup-in : (r e x : ℕ) → suc r ≤ sh .rank → In x (sups (solidIn sh w) r e) → x < sizeAt sh (suc r)
-  sup-in r e x q m = rw (size-is sh w (suc r) q) at (sup-means (solidIn sh w) r x e m .0)
+  pub sup-in : (r e x : ℕ) → suc r ≤ sh .rank → In x (sups (absIn sh w) r e) → x < sizeAt sh (suc r)
+  sup-in r e x q m = rw (size-is sh w (suc r) q) at (sup-means (absIn sh w) r x e m .0)

@@ -11,31 +11,31 @@ use Rattle.spec.specs.Types.{size, elements}
 use Rattle.spec.specs.Copying.{parts}
 use Rattle.spec.specs.Solid.{Concrete, entries, bound, diamond}
 use Rattle.ranked.specs.declared.Shape.{Shape}
-use Rattle.ranked.specs.Words.{solidIn, Held}
+use Rattle.ranked.specs.Words.{listsOf, absIn, Held}
 use Rattle.ranked.specs.Derive.{Stored}
 use Rattle.ranked.specs.Store.{lowOf}
 unfoldable pub use Rattle.ranked.specs.Store.{baseOf}
 
--- The solid that lies in the first `low` words, with the coordinates that the floats start with.
-abbrev pub solidAt : Shape → ℕ → List ℕ → List Float → Concrete
-solidAt sh low ws fs =
-    let s = solidIn sh (take low ws) in
+-- The solid that lies in the workspace: its lists in the first words, with the coordinates that the floats start with.
+abbrev pub solidIn : Shape → List ℕ → List Float → Concrete
+solidIn sh ws fs =
+    let s = absIn sh (listsOf sh ws) in
     record { dimension = sh .dimension; points = parts (size s 1) (sh .dimension) (take (size s 1 * sh .dimension) fs); abs = s }
 
-pub record Bench (sh : Shape) (low : ℕ) (ws : List ℕ) (fs : List Float) : Type 0 where
-  pub held : Held sh (take low ws)
-  pub low-is : low ≡ lowOf sh (entries (solidIn sh (take low ws)))
-  pub words-in : low ≤ length ws
+pub record Bench (sh : Shape) (ws : List ℕ) (fs : List Float) : Type 0 where
+  pub held : Held sh (listsOf sh ws)
+  pub low-is : sh .low ≡ lowOf sh (entries (absIn sh (listsOf sh ws)))
+  pub words-in : sh .low ≤ length ws
   -- The subs stand by themselves below the sups' entries, so that sups can be derived anew.
-  pub stored : Stored sh (take (baseOf sh (entries (solidIn sh (take low ws)))) ws)
-  pub subs-alone : solidIn sh (take (baseOf sh (entries (solidIn sh (take low ws)))) ws) ≡ solidIn sh (take low ws)
+  pub stored : Stored sh (take (baseOf sh (entries (absIn sh (listsOf sh ws)))) ws)
+  pub subs-alone : absIn sh (take (baseOf sh (entries (absIn sh (listsOf sh ws)))) ws) ≡ absIn sh (listsOf sh ws)
   -- Neither 5 nor 6 applies to the solid.
-  pub joined : bound (solidIn sh (take low ws)) ≡ true
-  pub diamonds : diamond (solidIn sh (take low ws)) ≡ true
+  pub joined : bound (absIn sh (listsOf sh ws)) ≡ true
+  pub diamonds : diamond (absIn sh (listsOf sh ws)) ≡ true
   -- There is enough room for 7 not to apply.
-  pub words : 16 * (elements (solidIn sh (take low ws)) + entries (solidIn sh (take low ws)) + 4) ≤ length ws
-  pub floats : 8 * (elements (solidIn sh (take low ws)) + 8) ≤ length fs
+  pub words : 16 * (elements (absIn sh (listsOf sh ws)) + entries (absIn sh (listsOf sh ws)) + 4) ≤ length ws
+  pub floats : 8 * (elements (absIn sh (listsOf sh ws)) + 8) ≤ length fs
 
 -- The words' part of a bench, which is a bench together with any floats that are enough.
-abbrev pub Laid : Shape → ℕ → List ℕ → Type 0
-Laid sh low ws = (fs : List Float) → 8 * (elements (solidIn sh (take low ws)) + 8) ≤ length fs → Bench sh low ws fs
+abbrev pub Laid : Shape → List ℕ → Type 0
+Laid sh ws = (fs : List Float) → 8 * (elements (absIn sh (listsOf sh ws)) + 8) ≤ length fs → Bench sh ws fs

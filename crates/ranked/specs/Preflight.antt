@@ -12,43 +12,42 @@ use Rattle.spec.specs.Limits.{maxRank}
 use Rattle.spec.specs.Types.{Solid}
 use Rattle.spec.specs.Judged.{Judged, refused, passed}
 use Rattle.spec.specs.Sheet.{Parsed}
-use Rattle.spec.specs.Solid.{solidOf, entries, bound, diamond, Concrete, preflight}
+use Rattle.spec.specs.Solid.{solidOf, bound, diamond, Concrete, preflight}
 use Rattle.sheet.specs.declared.Verdict.{Verdict}
 use Rattle.sheet.specs.declared.Verdict.the-variants.{Accepted, Refused}
 use Rattle.ranked.specs.declared.Shape.{Shape}
 use Rattle.ranked.specs.declared.preflight.Ready.{Ready}
-use Rattle.ranked.specs.Store.{shapeOf, lowOf, Kept}
-use Rattle.ranked.specs.Bench.{solidAt, Bench}
+use Rattle.ranked.specs.Store.{shapeOf, Kept}
+use Rattle.ranked.specs.Bench.{solidIn, Bench}
 
 -- The verdict by itself.
 unfoldable pub verdictOf : Judged Concrete → Verdict
 verdictOf (refused why) = Refused why
 verdictOf (passed c) = Accepted
 
--- At a refusal no solid lies in the workspace, and the shape and low are zeros.
+-- At a refusal no solid lies in the workspace, and the shape is of zeros.
 abbrev pub unreadyOf : Refusal → Ready
-unreadyOf why = record { verdict = Refused why; shape = record { rank = 0; dimension = 0; first = replicate (maxRank + 2) 0 }; low = 0 }
+unreadyOf why = record { verdict = Refused why; shape = record { rank = 0; dimension = 0; first = replicate (maxRank + 2) 0; low = 0 } }
 
--- The whole answer, which for a solid that passes gives its shape and how many words it takes.
+-- The whole answer, which for a solid that passes gives its shape.
 unfoldable pub readyOf : Judged Concrete → Ready
 readyOf (refused why) = unreadyOf why
-readyOf (passed c) = record { verdict = Accepted; shape = shapeOf c; low = lowOf (shapeOf c) (entries (c .abs)) }
+readyOf (passed c) = record { verdict = Accepted; shape = shapeOf c }
 
 -- Refusal 5 is tested first, and then refusal 6.
 unfoldable pub checksOf : Solid → Verdict
 checksOf s = elim (bound s) [ true ↦ elim (diamond s) [ true ↦ Accepted | false ↦ Refused Mitre ] | false ↦ Refused Loose ]
 
 -- The solid c lies in the workspace.
-pub record Placed (c : Concrete) (sh : Shape) (low : ℕ) (ws : List ℕ) (fs : List Float) : Type 0 where
-  pub bench : Bench sh low ws fs
-  pub is : solidAt sh low ws fs ≡ c
+pub record Placed (c : Concrete) (sh : Shape) (ws : List ℕ) (fs : List Float) : Type 0 where
+  pub bench : Bench sh ws fs
+  pub is : solidIn sh ws fs ≡ c
 
 -- The sheet p, for which there is room, has been stored, and its solid has been judged.
 pub record Settled (p : Parsed) (r : Ready) (ws : List ℕ) (fs : List Float) : Type 0 where
   pub unready : (why : Refusal) → checksOf (solidOf p) ≡ Refused why → r ≡ unreadyOf why
   pub verdict : r .verdict ≡ checksOf (solidOf p)
   pub kept : checksOf (solidOf p) ≡ Accepted → Kept p (r .shape) ws fs
-  pub low : checksOf (solidOf p) ≡ Accepted → r .low ≡ lowOf (r .shape) (entries (solidOf p))
 
 -- What preflight gives for the sheet b in n words and m floats: the answer, and the solid's place where it passes. Everything else that the words and floats
 -- hold is free, and they keep their lengths.
@@ -56,4 +55,4 @@ pub record Preflighted (b : List ℕ) (n m : ℕ) (r : Ready) (ws : List ℕ) (f
   pub answer : r ≡ readyOf (preflight b n m)
   pub verdict : r .verdict ≡ verdictOf (preflight b n m)
   pub lengths : (length ws ≡ n) × (length fs ≡ m)
-  pub placed : (c : Concrete) → preflight b n m ≡ passed c → Placed c (r .shape) (r .low) ws fs
+  pub placed : (c : Concrete) → preflight b n m ≡ passed c → Placed c (r .shape) ws fs

@@ -15,7 +15,7 @@ use Rattle.spec.specs.Judged.{refused, passed}
 use Rattle.spec.specs.Sheet.{Parsed, readSheet}
 use Rattle.spec.specs.Solid.{solidOf, entries, Concrete}
 use Rattle.ranked.specs.declared.Shape.{Shape}
-use Rattle.ranked.specs.Words.{firstAt, sizeAt, total, listAt, solidIn, Held}
+use Rattle.ranked.specs.Words.{firstAt, sizeAt, total, listsOf, listAt, absIn, Held}
 use Rattle.ranked.specs.Derive.{running, Stored}
 
 -- ---- fields
@@ -122,16 +122,6 @@ pub record Counted (R D : ℕ) (counts : List ℕ) (sh : Shape) : Type 0 where
 unfoldable pub startIn : Solid → ℕ → ℕ
 startIn s r = elim (leb r (suc (top s))) [ true ↦ running 0 (λ q. size s q) r | false ↦ 0 ]
 
--- The shape of a solid.
-unfoldable pub shapeOf : Concrete → Shape
-shapeOf c = record { rank = top (c .abs); dimension = c .dimension; first = map (startIn (c .abs)) (range 0 (maxRank + 2)) }
-
--- ---- a whole sheet
-
--- What a sheet says, if it was read, and otherwise the record of an empty one.
-unfoldable pub parsedOf : List ℕ → Parsed
-parsedOf b = elim (readSheet b) [ refused why ↦ record { rank = 0; dimension = 0; counts = []; points = []; lists = [] } | passed p ↦ p ]
-
 -- How many subs all elements have together, where the sheet's lists have I entries: each vertex has one, and the top has the rank below it.
 unfoldable pub subEntries : Shape → ℕ → ℕ
 subEntries sh I = elim (sh .rank) [ zero ↦ 0 | suc q ↦ elim q [ zero ↦ 1 | suc z ↦ sizeAt sh 1 + I + sizeAt sh (suc z) ] ]
@@ -143,6 +133,22 @@ lowOf sh I = 4 * total sh + 2 * subEntries sh I
 -- The word where the sups' entries start, which is after the starts and lengths, and after the subs' entries.
 unfoldable pub baseOf : Shape → ℕ → ℕ
 baseOf sh I = 4 * total sh + subEntries sh I
+
+-- The shape with the number of its words, where the sheet's lists have I entries.
+unfoldable pub sized : Shape → ℕ → Shape
+sized sh I = record { rank = sh .rank; dimension = sh .dimension; first = sh .first; low = lowOf sh I }
+
+-- The shape of a solid.
+unfoldable pub shapeOf : Concrete → Shape
+shapeOf c =
+    let first = map (startIn (c .abs)) (range 0 (maxRank + 2)) in
+    sized (record { rank = top (c .abs); dimension = c .dimension; first = first; low = 0 }) (entries (c .abs))
+
+-- ---- a whole sheet
+
+-- What a sheet says, if it was read, and otherwise the record of an empty one.
+unfoldable pub parsedOf : List ℕ → Parsed
+parsedOf b = elim (readSheet b) [ refused why ↦ record { rank = 0; dimension = 0; counts = []; points = []; lists = [] } | passed p ↦ p ]
 
 -- The solid that a sheet says.
 abbrev pub said : Parsed → Concrete
@@ -156,11 +162,12 @@ pub record Kept (p : Parsed) (sh : Shape) (ws : List ℕ) (fs : List Float) : Ty
   -- There are at most the least element, the top and four proper ranks.
   pub small : total sh ≤ 4 * maxCount + 2
   -- The part of the words and of the floats that is read lies within them.
-  pub words-in : lowOf sh (entries (solidOf p)) ≤ length ws
+  pub low : sh .low ≡ lowOf sh (entries (solidOf p))
+  pub words-in : sh .low ≤ length ws
   pub floats-in : size (solidOf p) 1 * p .dimension ≤ length fs
-  pub held : Held sh (take (lowOf sh (entries (solidOf p))) ws)
-  pub solid : solidIn sh (take (lowOf sh (entries (solidOf p))) ws) ≡ solidOf p
+  pub held : Held sh (listsOf sh ws)
+  pub solid : absIn sh (listsOf sh ws) ≡ solidOf p
   -- The subs stand by themselves below the sups' entries.
   pub stored : Stored sh (take (baseOf sh (entries (solidOf p))) ws)
-  pub subs-alone : solidIn sh (take (baseOf sh (entries (solidOf p))) ws) ≡ solidOf p
+  pub subs-alone : absIn sh (take (baseOf sh (entries (solidOf p))) ws) ≡ solidOf p
   pub points : take (size (solidOf p) 1 * p .dimension) fs ≡ join (p .points)

@@ -21,6 +21,10 @@ sizeAt sh r = firstAt sh (suc r) - firstAt sh r
 abbrev pub total : Shape → ℕ
 total sh = firstAt sh (suc (sh .rank))
 
+-- The words that hold the solid's lists, which nothing writes once a sheet is stored. What is free of the workspace lies behind them.
+abbrev pub listsOf : Shape → List ℕ → List ℕ
+listsOf sh ws = take (sh .low) ws
+
 -- The list whose start stands at word i and whose length stands at the word after.
 unfoldable pub listAt : List ℕ → ℕ → List ℕ
 listAt w i = take (getD w (suc i) 0) (drop (getD w i 0) w)
@@ -33,8 +37,8 @@ unfoldable pub supsIn : Shape → List ℕ → ℕ → ℕ → List ℕ
 supsIn sh w r e = listAt w (4 * (firstAt sh r + e) + 2)
 
 -- The solid that the words hold.
-unfoldable pub solidIn : Shape → List ℕ → Solid
-solidIn sh w = map (λ r. map (subsIn sh w r) (range 0 (sizeAt sh r))) (range 0 (suc (sh .rank)))
+unfoldable pub absIn : Shape → List ℕ → Solid
+absIn sh w = map (λ r. map (subsIn sh w r) (range 0 (sizeAt sh r))) (range 0 (suc (sh .rank)))
 
 -- The list at word i lies within the words.
 abbrev pub Inside : List ℕ → ℕ → Type 0
@@ -53,8 +57,8 @@ pub record Held (sh : Shape) (w : List ℕ) : Type 0 where
   pub room : 4 * total sh ≤ length w
   pub subs-inside : (g : ℕ) → g < total sh → Inside w (4 * g)
   pub sups-inside : (g : ℕ) → g < total sh → Inside w (4 * g + 2)
-  pub sound : Sound (solidIn sh w)
+  pub sound : Sound (absIn sh w)
   -- Every element but the least has a sub.
-  pub filled : (r e : ℕ) → e < size (solidIn sh w) (suc r) → 0 < length (subs (solidIn sh w) (suc r) e)
+  pub filled : (r e : ℕ) → e < size (absIn sh w) (suc r) → 0 < length (subs (absIn sh w) (suc r) e)
   -- "Sups are derived, rising".
-  pub derived : (r e : ℕ) → r ≤ sh .rank → e < sizeAt sh r → supsIn sh w r e ≡ sups (solidIn sh w) r e
+  pub derived : (r e : ℕ) → r ≤ sh .rank → e < sizeAt sh r → supsIn sh w r e ≡ sups (absIn sh w) r e

@@ -10,7 +10,7 @@ ghost use Prim.Native.Nat.{ℕ, _+_, _*_, _≤_, _<_};
 ghost use lib.ListN.{length};
 ghost use Rattle.spec.specs.Lists.{In};
 ghost use Rattle.spec.specs.Solid.{bound, diamond};
-ghost use Rattle.ranked.specs.Words.{listAt, solidIn, Held};
+ghost use Rattle.ranked.specs.Words.{listAt, absIn, Held};
 ghost use Rattle.ranked.specs.Reading.{Lies, supsWord, boundIn, Each, holding, Fork, twoUnder, Tier, twoAt, twoRank, twoFrom};
 
 // Tells whether each of the n elements of a rank that starts at `first` is in a list.
@@ -31,7 +31,7 @@ fn bound_rank(w: &[u32], first: usize, n: usize) -> bool
 // Tells whether refusal 5 is not met: every proper element below rank R - 1 is in a list.
 pub fn is_bound(w: &[u32], sh: Shape) -> bool
     requires { ⌜ Held sh (now w) ⌝ }
-    ensures { λ res. ⌜ res ≡ bound (solidIn sh (now (w .entry))) ⌝ }
+    ensures { λ res. ⌜ res ≡ bound (absIn sh (now (w .entry))) ⌝ }
 {
     let rank = sh.rank;
     let mut k: usize = 0;
@@ -154,7 +154,7 @@ fn diamond_from(w: &[u32], sh: Shape, from: usize) -> bool
 // top comes first: once every ridge is known to lie in just two facets, what the ranks below cost is bounded by the sheet's length.
 pub fn is_diamond(w: &[u32], sh: Shape) -> bool
     requires { ⌜ Held sh (now w) ⌝ }
-    ensures { λ res. ⌜ res ≡ diamond (solidIn sh (now (w .entry))) ⌝ }
+    ensures { λ res. ⌜ res ≡ diamond (absIn sh (now (w .entry))) ⌝ }
 {
     let rank = sh.rank;
     if rank >= 2 {

@@ -18,6 +18,8 @@ pub struct Shape {
     pub dimension: usize,
     // How many elements lie in the ranks below each rank, from rank 0 to rank + 1. The cells after these are 0.
     pub first: [usize; STARTS],
+    // How many words the solid takes with all its lists. Those behind them are free.
+    pub low: usize,
 }
 
 mod check;

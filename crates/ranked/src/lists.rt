@@ -6,7 +6,7 @@ ghost use lib.ListN.{length, getD};
 ghost use lib.Dec.{eqb};
 ghost use Rattle.spec.specs.Lists.{holds};
 ghost use Rattle.spec.specs.Types.{subs};
-ghost use Rattle.ranked.specs.Words.{sizeAt, listAt, solidIn, Held};
+ghost use Rattle.ranked.specs.Words.{sizeAt, listAt, absIn, Held};
 ghost use Rattle.ranked.specs.Reading.{Lies};
 
 // The word at p.
@@ -70,8 +70,8 @@ pub fn holds_at(w: &[u32], i: usize, x: usize) -> bool
 // Sub k of element e of rank r.
 pub fn sub(w: &[u32], sh: Shape, r: usize, e: usize, k: usize) -> usize
     requires { ⌜ Held sh (now w) ⌝ }
-    requires { ⌜ (r ≤ sh .rank) × (e < sizeAt sh r) × (k < length (subs (solidIn sh (now w)) r e)) ⌝ }
-    ensures { λ x. ⌜ x ≡ getD (subs (solidIn sh (now (w .entry))) r e) k 0 ⌝ }
+    requires { ⌜ (r ≤ sh .rank) × (e < sizeAt sh r) × (k < length (subs (absIn sh (now w)) r e)) ⌝ }
+    ensures { λ x. ⌜ x ≡ getD (subs (absIn sh (now (w .entry))) r e) k 0 ⌝ }
 {
     let first = sh.first;
     entry_at(w, subs_at(first[r], e), k)

@@ -3,7 +3,6 @@ use crate::STARTS;
 use crate::Shape;
 use crate::check::is_bound;
 use crate::check::is_diamond;
-use crate::store::low_of;
 use crate::store::store;
 use sheet::Header;
 use sheet::Verdict;
@@ -17,18 +16,17 @@ ghost use Rattle.spec.specs.Judged.{passed};
 ghost use Rattle.spec.specs.Sheet.{readSheet};
 ghost use Rattle.spec.specs.Solid.{solidOf, roomy};
 ghost use Rattle.sheet.specs.Judge.{headerOf};
-ghost use Rattle.ranked.specs.Words.{solidIn, Held};
+ghost use Rattle.ranked.specs.Words.{absIn, Held};
 ghost use Rattle.ranked.specs.Store.{parsedOf};
 ghost use Rattle.ranked.specs.Preflight.{unreadyOf, checksOf, Settled, Preflighted};
 
-// The verdict, and for an accepted sheet how its solid lies in the words and how many of them it takes.
+// The verdict, and for an accepted sheet how its solid lies in the workspace.
 pub struct Ready {
     pub verdict: Verdict,
     pub shape: Shape,
-    pub low: usize,
 }
 
-// A refusal. No solid lies in the workspace then, and its shape and low are zeros.
+// A refusal. No solid lies in the workspace then, and the shape is of zeros.
 fn unready(why: Refusal) -> Ready
     ensures { λ r. ⌜ r ≡ unreadyOf why ⌝ }
 {
@@ -38,8 +36,8 @@ fn unready(why: Refusal) -> Ready
             rank: 0,
             dimension: 0,
             first: [0usize; STARTS],
+            low: 0,
         },
-        low: 0,
     }
 }
 
@@ -57,7 +55,7 @@ fn is_roomy(elements: usize, entries: usize, words: usize, floats: usize) -> boo
 // Judges refusal 5, and then refusal 6, of the solid that the words hold.
 fn checked(w: &[u32], sh: Shape) -> Verdict
     requires { ⌜ Held sh (now w) ⌝ }
-    ensures { λ r. ⌜ r ≡ checksOf (solidIn sh (now (w .entry))) ⌝ }
+    ensures { λ r. ⌜ r ≡ checksOf (absIn sh (now (w .entry))) ⌝ }
 {
     if !is_bound(w, sh) {
         return Verdict::Refused(Refusal::Loose);
@@ -76,21 +74,27 @@ fn settle(sheet: &[u8], header: Header, words: &mut [u32], floats: &mut [f64]) -
     ensures { λ r. ⌜ Settled (parsedOf (now (sheet .entry))) r (now (words .exit)) (now (floats .exit)) ⌝ }
 {
     let counts = header.counts;
-    let sh = store(sheet, header.rank, header.dimension, counts, words, floats);
-    let low = low_of(sh, header.entries);
-    let verdict = checked(&words[..low], sh);
+    let sh = store(
+        sheet,
+        header.rank,
+        header.dimension,
+        counts,
+        header.entries,
+        words,
+        floats,
+    );
+    let verdict = checked(&words[..sh.low], sh);
     match verdict {
         Verdict::Refused(why) => unready(why),
         Verdict::Accepted => Ready {
             verdict,
             shape: sh,
-            low,
         },
     }
 }
 
 // A sheet of any bytes and any length, and a workspace of any size. Of a sheet that passes, the solid lies in the workspace afterwards, and its
-// shape and low are answered; at a refusal these are zeros. Whatever else the workspace holds afterwards is free.
+// shape is answered; at a refusal the shape is of zeros. Whatever else the workspace holds afterwards is free.
 pub fn preflight(sheet: &[u8], words: &mut [u32], floats: &mut [f64]) -> Ready
     ensures { λ r. ⌜ Preflighted (now (sheet .entry)) (length (now (words .entry))) (length (now (floats .entry))) r
         (now (words .exit)) (now (floats .exit)) ⌝ }

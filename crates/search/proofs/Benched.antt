@@ -15,7 +15,7 @@ use Rattle.spec.specs.Search.{exchanged}
 use Rattle.spec.proofs.Lists.{map-same, of-range}
 use Rattle.spec.proofs.Exchange.{exchange-twice}
 use Rattle.ranked.specs.declared.Shape.{Shape}
-use Rattle.ranked.specs.Words.{firstAt, sizeAt, total, solidIn}
+use Rattle.ranked.specs.Words.{firstAt, sizeAt, total, absIn}
 use Rattle.ranked.specs.Bench.{solidAt, Bench}
 use Rattle.ranked.proofs.Benches.{rows-in, elements-few, bench-kept}
 use Rattle.distances.specs.Listed.{Classed}
@@ -90,7 +90,7 @@ module _ {sh : Shape} {low : ℕ} {ws : List ℕ} {fs : List Float} (b : Bench s
 
   -- What the marks need, once the prints of the same solid are written and its sets compared.
   pub markable : (vs : List ℕ) → take low vs ≡ take low ws → (apart : Bool)
-      → apart ≡ setsApart (solidIn sh (take low vs)) → (m : ℕ) → 8194 ≤ m → Markable sh (take low vs) gs apart m
+      → apart ≡ setsApart (absIn sh (take low vs)) → (m : ℕ) → 8194 ≤ m → Markable sh (take low vs) gs apart m
   markable vs e apart q m h = record {
     held = rw e (b .held);
     classes = rw e (record { room = rw (c .long) (roomy-floats sh (take low ws) (b .held) (length fs) (b .floats)); cells = rw (c .same) (c .cells) });

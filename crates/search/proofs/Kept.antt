@@ -18,7 +18,7 @@ use Rattle.spec.specs.Search.{exchangedIn, exchanged}
 use Rattle.spec.specs.Calls.{SearchOut, roomOf}
 use Rattle.float.proofs.Parts.{length-parts}
 use Rattle.ranked.specs.declared.Shape.{Shape}
-use Rattle.ranked.specs.Words.{sizeAt, total, solidIn}
+use Rattle.ranked.specs.Words.{sizeAt, total, absIn}
 use Rattle.ranked.specs.Bench.{solidAt, Bench, Laid}
 use Rattle.ranked.proofs.Solids.{size-is}
 use Rattle.ranked.proofs.Benches.{bench-kept}
@@ -49,7 +49,7 @@ module _ {sh : Shape} {low : ℕ} {ws : List ℕ} {fs : List Float} (b : Bench s
   searched-bench = bench-kept b lists long refl
 
   module _ (i : Matrix) (rot : Bool) (old : SearchOut) (r : Listing) (ms : List Float) (rs : List ℕ)
-      (l : (c : Concrete) → Listed (settingOf c (solidAt sh low vs fs) (stateIn sh low vs) i) rot (roomOf old) (flags (solidIn sh (take low vs))) r (old .matrices) ms (old .rows) rs)
+      (l : (c : Concrete) → Listed (settingOf c (solidAt sh low vs fs) (stateIn sh low vs) i) rot (roomOf old) (flags (absIn sh (take low vs))) r (old .matrices) ms (old .rows) rs)
       (x : Answer) (q : x ≡ answerOf (r .short) (r .count)) where
     listed : Listed (settingOf (exchanged solid f) solid (stateIn sh low ws) i) rot (roomOf old) (flags (solid .abs)) r (old .matrices) ms (old .rows) rs
     listed = rw (lists, state-kept sh low ws vs k long (rw a at e)) at (l (exchanged solid f))
@@ -59,7 +59,7 @@ module _ {sh : Shape} {low : ℕ} {ws : List ℕ} {fs : List Float} (b : Bench s
     none-listed n = end-none solid f (stateIn sh low ws) i rot old r ms rs listed x q n
 
     -- us with the facets in their places again
-    module _ (us : List ℕ) (s : solidIn sh (take low us) ≡ exchangedIn (solidIn sh (take low vs)) f) where
+    module _ (us : List ℕ) (s : absIn sh (take low us) ≡ exchangedIn (absIn sh (take low vs)) f) where
       pub marks-bench : Laid sh low us → Bench sh low us fs
       marks-bench u = bench-exchanged searched-bench f asked us s u
 
@@ -67,7 +67,7 @@ module _ {sh : Shape} {low : ℕ} {ws : List ℕ} {fs : List Float} (b : Bench s
         many : length (solid .points) ≡ v
         many = length-parts _ _ _ ∙ size-is sh (take low ws) 1 (omega (arith, asked .0)) ∙ sym m
 
-        pub marks-asked : length rs ≡ length (old .rows) → (v ≡ size (solidIn sh (take low us)) 1) × (r .count * v ≤ length rs) × (r .count ≤ length (old .marks))
+        pub marks-asked : length rs ≡ length (old .rows) → (v ≡ size (absIn sh (take low us)) 1) × (r .count * v ≤ length rs) × (r .count ≤ length (old .marks))
         unfolding roomOf
         marks-asked n =
             let h = marks-in solid f (stateIn sh low ws) i rot old r ms rs listed x q in

@@ -32,7 +32,7 @@ use Rattle.float.proofs.Parts.{parts-take}
 use Rattle.sheet.specs.declared.Verdict.the-variants as verdict
 use Rattle.ranked.specs.declared.Shape.{Shape}
 use Rattle.ranked.specs.declared.preflight.Ready.{Ready}
-use Rattle.ranked.specs.Words.{sizeAt, solidIn}
+use Rattle.ranked.specs.Words.{sizeAt, absIn}
 use Rattle.ranked.specs.Bench.{solidAt, Bench, Laid}
 use Rattle.ranked.specs.Preflight.{verdictOf, Preflighted}
 use Rattle.ranked.proofs.Solids.{size-is}
@@ -90,7 +90,7 @@ module _ (sh : Shape) (low : ℕ) (ws : List ℕ) (fs : List Float) (rot : Bool)
   module _ (h : 2 ≤ sh .rank) (v : ℕ) (m : v ≡ sizeAt sh 1) (b : Bool) (e : b ≡ noRepeats near (parts v (sh .dimension) fs)) where
     corners : noRepeats near (read .points) ≡ b
     corners =
-        let s = solidIn sh (take low ws) in
+        let s = absIn sh (take low ws) in
         let n : v ≡ size s 1 = m ∙ sym (size-is sh (take low ws) 1 (omega arith)) in
         ap (noRepeats near) (parts-take (size s 1) (sh .dimension) fs ∙ ap (λ (k : ℕ). parts k (sh .dimension) fs) (sym n)) ∙ sym e
 
@@ -125,7 +125,7 @@ module _ (sh : Shape) (low : ℕ) (ws : List ℕ) (fs : List Float) (rot : Bool)
       unfolding farOf
       facet-low = far-low (solidOn sh (take low ws) fs (sh .dimension)) (sizeAt sh (sh .rank - 1)) f (sym e ∙ ap farOf q)
 
-      module _ (vs : List ℕ) (s : solidIn sh (take low vs) ≡ exchangedIn (solidIn sh (take low ws)) f) where
+      module _ (vs : List ℕ) (s : absIn sh (take low vs) ≡ exchangedIn (absIn sh (take low ws)) f) where
         searched : solidAt sh low vs fs ≡ exchanged read f
         searched = solid-exchanged b f (h, facet-low) vs s
 
@@ -195,7 +195,7 @@ regular-found true m e = (refl, e)
 regular-found false m e = absurd (false≢true e)
 
 module _ (sh : Shape) (low : ℕ) (ws : List ℕ) (fs : List Float) (rot : Bool) (old : SearchOut) (c : Concrete) (f : Bool) (m : Matrix) (b : Bool)
-    (i : ifRegular f m ≡ inverse (flagColumns (solidOn sh (take low ws) fs (sh .dimension)) (firstFlag (solidIn sh (take low ws)))))
+    (i : ifRegular f m ≡ inverse (flagColumns (solidOn sh (take low ws) fs (sh .dimension)) (firstFlag (absIn sh (take low ws)))))
     (e : b ≡ regular (ifRegular f m)) where
   abbrev d : Concrete
   d = solidAt sh low ws fs
@@ -204,7 +204,7 @@ module _ (sh : Shape) (low : ℕ) (ws : List ℕ) (fs : List Float) (rot : Bool)
   z = stateIn sh low ws
 
   inverse-is : inverted c d z ≡ ifRegular f m
-  inverse-is = ap (λ (x : Concrete). inverse (flagColumns x (firstFlag (solidIn sh (take low ws))))) (sym (solid-on sh low ws fs)) ∙ sym i
+  inverse-is = ap (λ (x : Concrete). inverse (flagColumns x (firstFlag (absIn sh (take low ws))))) (sym (solid-on sh low ws fs)) ∙ sym i
 
   pub flat : b ≡ false → (Refused Flat 0, old) ≡ ends rot c (from11 c d z) old
   unfolding inverse-is

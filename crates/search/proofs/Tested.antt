@@ -21,7 +21,7 @@ use Rattle.spec.specs.Search.{firstFar, full}
 use Rattle.spec.proofs.Lists.{length-range, getD-range, of-range}
 use Rattle.float.proofs.Parts.{parts-take}
 use Rattle.ranked.specs.declared.Shape.{Shape}
-use Rattle.ranked.specs.Words.{sizeAt, solidIn}
+use Rattle.ranked.specs.Words.{sizeAt, absIn}
 use Rattle.ranked.specs.Bench.{solidAt}
 use Rattle.ranked.proofs.Solids.{top-is, size-is}
 use Rattle.distances.specs.Solids.{solidOn, coordinates}
@@ -31,7 +31,7 @@ use Rattle.distances.specs.Solids.{solidOn, coordinates}
 -- Only the coordinates count.
 pub solid-on : (sh : Shape) (low : ℕ) (ws : List ℕ) (fs : List Float) → solidOn sh (take low ws) fs (sh .dimension) ≡ solidAt sh low ws fs
 solid-on sh low ws fs =
-    let s = solidIn sh (take low ws) in
+    let s = absIn sh (take low ws) in
     ap {B = Concrete} (λ (ps : List (List Float)). record { dimension = sh .dimension; points = ps; abs = s }) (sym (parts-take (size s 1) (sh .dimension) fs))
 
 -- The solid stays while its words and its coordinates do.
@@ -45,7 +45,7 @@ unfolding full
 full-is sh low ws fs = rw (top-is sh (take low ws))
 
 -- The facets.
-pub facets-are : (sh : Shape) (w : List ℕ) → 2 ≤ sh .rank → size (solidIn sh w) (top (solidIn sh w) - 1) ≡ sizeAt sh (sh .rank - 1)
+pub facets-are : (sh : Shape) (w : List ℕ) → 2 ≤ sh .rank → size (absIn sh w) (top (absIn sh w) - 1) ≡ sizeAt sh (sh .rank - 1)
 facets-are sh w h = rw (top-is sh w) (size-is sh w (sh .rank - 1) (omega arith))
 
 -- ---- 10
@@ -99,5 +99,5 @@ module _ (c : Concrete) where
 
 -- The test, as the program makes it.
 pub test-is : (sh : Shape) (w : List ℕ) (fl : List Float) (f : ℕ) (x : Float) (b : Bool)
-    → x ≡ distanceOf (solidOn sh w fl (sh .dimension)) (sh .rank - 1) f → lt eps x ≡ b → lt eps (distanceOf (solidOn sh w fl (sh .dimension)) (top (solidIn sh w) - 1) f) ≡ b
+    → x ≡ distanceOf (solidOn sh w fl (sh .dimension)) (sh .rank - 1) f → lt eps x ≡ b → lt eps (distanceOf (solidOn sh w fl (sh .dimension)) (top (absIn sh w) - 1) f) ≡ b
 test-is sh w fl f x b e t = rw (top-is sh w, ← e) t

@@ -19,7 +19,7 @@ ghost use Rattle.spec.specs.Solid.{diamond};
 ghost use Rattle.spec.specs.Flags.{firstFlag};
 ghost use Rattle.spec.specs.Search.{firstFar, flagColumns};
 ghost use Rattle.float.specs.Reading.{corner, ifRegular};
-ghost use Rattle.ranked.specs.Words.{sizeAt, solidIn, Held};
+ghost use Rattle.ranked.specs.Words.{sizeAt, absIn, Held};
 ghost use Rattle.distances.specs.Solids.{solidOn, coordinates};
 ghost use Rattle.search.specs.Reading.{farOf, regular};
 
@@ -67,11 +67,11 @@ pub fn first_inverse(
     found: &mut bool,
 ) -> [[f64; DIMENSION]; DIMENSION]
     requires { ⌜ Held sh (now w) ⌝ }
-    requires { ⌜ diamond (solidIn sh (now w)) ≡ true ⌝ }
+    requires { ⌜ diamond (absIn sh (now w)) ≡ true ⌝ }
     requires { ⌜ 2 ≤ sh .rank ⌝ }
     requires { ⌜ coordinates sh (now w) ≤ length (now points) ⌝ }
     ensures { λ r. ⌜ ifRegular (now (found .exit)) (corner (sh .dimension) r)
-        ≡ inverse (flagColumns (solidOn sh (now (w .entry)) (now (points .entry)) (sh .dimension)) (firstFlag (solidIn sh (now (w .entry))))) ⌝ }
+        ≡ inverse (flagColumns (solidOn sh (now (w .entry)) (now (points .entry)) (sh .dimension)) (firstFlag (absIn sh (now (w .entry))))) ⌝ }
 {
     let d = sh.dimension;
     let first = Flag::first(w, sh);

@@ -11,7 +11,7 @@ ghost use Prim.Native.Nat.{_*_, _≤_};
 ghost use lib.ListN.{length, take};
 ghost use Rattle.spec.specs.Types.{size};
 ghost use Rattle.spec.specs.Copying.{parts, written};
-ghost use Rattle.ranked.specs.Words.{solidIn};
+ghost use Rattle.ranked.specs.Words.{absIn};
 ghost use Rattle.ranked.specs.Bench.{solidAt, Bench};
 ghost use Rattle.products.specs.Marking.{markIn};
 
@@ -28,7 +28,7 @@ pub fn write_marks(
     marks: &mut [u8],
 )
     requires { ⌜ Bench sh low (now words) (now floats) ⌝ }
-    requires { ⌜ (v ≡ size (solidIn sh (take low (now words))) 1) × (n * v ≤ length (now rows)) × (n ≤ length (now marks)) ⌝ }
+    requires { ⌜ (v ≡ size (absIn sh (take low (now words))) 1) × (n * v ≤ length (now rows)) × (n ≤ length (now marks)) ⌝ }
     ensures { λ _. ⌜ now (marks .exit)
         ≡ written (map (markIn (solidAt sh low (now (words .entry)) (now (floats .entry)))) (parts n v (now (rows .entry)))) (now (marks .entry)) ⌝ }
 {

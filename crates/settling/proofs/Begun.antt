@@ -19,7 +19,7 @@ use Rattle.spec.specs.Hull.{classes}
 use Rattle.spec.specs.Classes.{distances, classTable, byTable}
 use Rattle.spec.proofs.Lists.{map-same, length-table, of-range}
 use Rattle.ranked.specs.declared.Shape.{Shape}
-use Rattle.ranked.specs.Words.{firstAt, sizeAt, total, solidIn, Held}
+use Rattle.ranked.specs.Words.{firstAt, sizeAt, total, absIn, Held}
 use Rattle.ranked.specs.Bench.{solidAt}
 use Rattle.ranked.proofs.Solids.{top-is, size-is}
 use Rattle.geometry.specs.Classes.{sameClass}
@@ -93,7 +93,7 @@ pub record Begun (sh : Shape) (low : ℕ) (w v : List ℕ) (cells : List Float) 
   pub lists : take low v ≡ take low w
   pub ends : (q : ℕ) → (q ≡ 0) ⊎ (q ≡ sh .rank) → typesIn sh low v q ≡ typesIn sh low w q
   pub types : (fs : List Float) → take (proper sh) cells ≡ classes (distances (solidAt sh low w fs)) → (q : ℕ) → 1 ≤ q → q < r → q < sh .rank
-      → typesIn sh low v q ≡ startAt (solidIn sh (take low w)) (byTable (classTable (solidAt sh low w fs))) q
+      → typesIn sh low v q ≡ startAt (absIn sh (take low w)) (byTable (classTable (solidAt sh low w fs))) q
 
 -- The least and the top have type 0.
 abbrev pub opened : Shape → ℕ → List ℕ → List ℕ
@@ -104,7 +104,7 @@ module _ (sh : Shape) (low : ℕ) (w : List ℕ) (cells : List Float) (a : Start
   h = a .sweepable .held
 
   abbrev s : Solid
-  s = solidIn sh (take low w)
+  s = absIn sh (take low w)
 
   least-one : size s 0 ≡ 1
   least-one = ap length (h .sound .least)
@@ -253,7 +253,7 @@ module _ (sh : Shape) (low : ℕ) (w : List ℕ) (cells : List Float) (a : Start
       }
 
   pub begun-end : (v : List ℕ) (r : ℕ) → Begun sh low w₂ v cells r → sh .rank ≤ r → Begins sh low w v cells
-  unfolding stateIn start solidIn
+  unfolding stateIn start absIn
   begun-end v r i k = record {
     lists = i .lists ∙ lists₂;
     state = λ fs e. let cls = byTable (classTable (solidAt sh low w fs)) in

@@ -11,7 +11,7 @@ use lib.Ieee.{Float}
 use Rattle.spec.specs.Types.{top, size, start, up}
 use Rattle.spec.specs.Classes.{classTable, byTable, typesOf}
 use Rattle.ranked.specs.declared.Shape.{Shape}
-use Rattle.ranked.specs.Words.{firstAt, sizeAt, total, solidIn, Held}
+use Rattle.ranked.specs.Words.{firstAt, sizeAt, total, absIn, Held}
 use Rattle.ranked.specs.Store.{subEntries, lowOf}
 use Rattle.ranked.specs.Bench.{solidAt, Bench}
 use Rattle.ranked.proofs.Solids.{top-is, size-is, size-past}
@@ -69,7 +69,7 @@ module _ (sh : Shape) (low : ℕ) (w : List ℕ) (fs : List Float) (b : Bench sh
 
   top-size : sizeAt sh (sh .rank) ≡ 1
   top-size =
-      let e : size (solidIn sh (take low w)) (sh .rank) ≡ 1 = rw (top-is sh (take low w)) at (h .sound .one) in
+      let e : size (absIn sh (take low w)) (sh .rank) ≡ 1 = rw (top-is sh (take low w)) at (h .sound .one) in
       sym (size-is sh (take low w) (sh .rank) (omega arith)) ∙ e
 
   types-room : low + total sh ≤ length w
@@ -100,7 +100,7 @@ module _ (sh : Shape) (low : ℕ) (w : List ℕ) (fs : List Float) (b : Bench sh
     }
 
     module _ (v : List ℕ) (long : length v ≡ length w) (begins : Begins sh low w v cells) where
-      begun : stateIn sh low v ≡ start (solidIn sh (take low w)) (byTable (classTable (solidAt sh low w fs)))
+      begun : stateIn sh low v ≡ start (absIn sh (take low w)) (byTable (classTable (solidAt sh low w fs)))
       begun = begins .state fs (rw d (c .cells))
 
       pub at-start : AtStart sh low w v fs gs

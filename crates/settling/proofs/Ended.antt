@@ -13,7 +13,7 @@ use Rattle.spec.proofs.Steps.{Good, start-good}
 use Rattle.spec.proofs.Result.{sweep-proper, good-play}
 use Rattle.spec.proofs.TypeLaws as laws
 use Rattle.ranked.specs.declared.Shape.{Shape}
-use Rattle.ranked.specs.Words.{total, solidIn}
+use Rattle.ranked.specs.Words.{total, absIn}
 use Rattle.distances.specs.Solids.{proper}
 use Rattle.distances.proofs.Room.{proper-is}
 use Rattle.element_types.specs.State.{stateIn, Sweepable, Countable}
@@ -42,22 +42,22 @@ good-sweep s cls S g = good-play s cls S (sweepSteps s) (sweep-proper s) g
 pub record Swept (sh : Shape) (low : ℕ) (w : List ℕ) (cls : Classes) : Type 0 where
   pub sweepable : Sweepable sh low w
   pub room : low + total sh ≤ length w
-  pub good : Good (solidIn sh (take low w)) cls (stateIn sh low w)
+  pub good : Good (absIn sh (take low w)) cls (stateIn sh low w)
 
 -- v is swept from w and has `count` types, and what `left` more sweeps give of it, `all` give of w
 pub record Settling (sh : Shape) (low : ℕ) (w v : List ℕ) (count all left : ℕ) : Type 0 where
   pub long : length v ≡ length w
   pub lists : take low v ≡ take low w
-  pub many : count ≡ typeCount (solidIn sh (take low w)) (stateIn sh low v)
-  pub good : (cls : Classes) → Good (solidIn sh (take low w)) cls (stateIn sh low w) → Good (solidIn sh (take low w)) cls (stateIn sh low v)
-  pub rest : settle (solidIn sh (take low w)) left (stateIn sh low v) ≡ settle (solidIn sh (take low w)) all (stateIn sh low w)
+  pub many : count ≡ typeCount (absIn sh (take low w)) (stateIn sh low v)
+  pub good : (cls : Classes) → Good (absIn sh (take low w)) cls (stateIn sh low w) → Good (absIn sh (take low w)) cls (stateIn sh low v)
+  pub rest : settle (absIn sh (take low w)) left (stateIn sh low v) ≡ settle (absIn sh (take low w)) all (stateIn sh low w)
 
-pub settling-first : (sh : Shape) (low : ℕ) (w : List ℕ) (count all : ℕ) → count ≡ typeCount (solidIn sh (take low w)) (stateIn sh low w) → Settling sh low w w count all all
+pub settling-first : (sh : Shape) (low : ℕ) (w : List ℕ) (count all : ℕ) → count ≡ typeCount (absIn sh (take low w)) (stateIn sh low w) → Settling sh low w w count all all
 settling-first sh low w count all e = record { long = refl; lists = refl; many = e; good = λ cls g. g; rest = refl }
 
 module _ (sh : Shape) (low : ℕ) (w : List ℕ) (cls : Classes) (a : Swept sh low w cls) where
   abbrev s : Solid
-  s = solidIn sh (take low w)
+  s = absIn sh (take low w)
 
   countable : (v : List ℕ) → length v ≡ length w → take low v ≡ take low w → Good s cls (stateIn sh low v) → Countable sh low v
   countable v long lists g = record {
@@ -81,7 +81,7 @@ module _ (sh : Shape) (low : ℕ) (w : List ℕ) (cls : Classes) (a : Swept sh l
     unfolding settle
     none-left h = let z : left ≡ 0 = omega arith in sym (rw z at (i .rest))
 
-    module _ (u : List ℕ) (long : length u ≡ length v) (lists : take low u ≡ take low v) (state : stateIn sh low u ≡ sweep (solidIn sh (take low v)) (stateIn sh low v)) where
+    module _ (u : List ℕ) (long : length u ≡ length v) (lists : take low u ≡ take low v) (state : stateIn sh low u ≡ sweep (absIn sh (take low v)) (stateIn sh low v)) where
       pub u-lists : take low u ≡ take low w
       u-lists = lists ∙ i .lists
 
@@ -94,7 +94,7 @@ module _ (sh : Shape) (low : ℕ) (w : List ℕ) (cls : Classes) (a : Swept sh l
       pub next-countable : Countable sh low u
       next-countable = countable u (long ∙ i .long) u-lists (good-next cls (a .good))
 
-      module _ (more : 0 < left) (k : ℕ) (m : k ≡ typeCount (solidIn sh (take low u)) (stateIn sh low u)) where
+      module _ (more : 0 < left) (k : ℕ) (m : k ≡ typeCount (absIn sh (take low u)) (stateIn sh low u)) where
         count-is : k ≡ typeCount s (sweep s (stateIn sh low v))
         count-is = (rw u-lists at m) ∙ ap (typeCount s) swept
 
@@ -116,24 +116,24 @@ module _ (sh : Shape) (low : ℕ) (w : List ℕ) (cls : Classes) (a : Swept sh l
 -- ---- from the start
 
 module _ (sh : Shape) (low : ℕ) (z : List ℕ) (a : Started sh low z) (w : List ℕ) (long : length w ≡ length z) (lists : take low w ≡ take low z)
-    (state : stateIn sh low w ≡ sweep (solidIn sh (take low z)) (stateIn sh low z)) where
+    (state : stateIn sh low w ≡ sweep (absIn sh (take low z)) (stateIn sh low z)) where
   -- The first sweep.
   pub once : Swept sh low w (a .classes)
   once = record {
     sweepable = sweepable-kept sh low z w long lists (a .sweepable);
     room = omega (arith, a .room);
-    good = rw (lists, state, a .state) (good-sweep (solidIn sh (take low z)) (a .classes) (start (solidIn sh (take low z)) (a .classes)) (start-good (solidIn sh (take low z)) (a .classes)));
+    good = rw (lists, state, a .state) (good-sweep (absIn sh (take low z)) (a .classes) (start (absIn sh (take low z)) (a .classes)) (start-good (absIn sh (take low z)) (a .classes)));
   }
 
   -- And those after it.
   pub ended : (E : ℕ) → E ≡ proper sh → (v : List ℕ) (ending : Ending) → take low v ≡ take low w → Countable sh low v
-      → settle (solidIn sh (take low w)) (E + 1) (stateIn sh low w) ≡ endOf ending (stateIn sh low v) → Settles sh low z v ending
+      → settle (absIn sh (take low w)) (E + 1) (stateIn sh low w) ≡ endOf ending (stateIn sh low v) → Settles sh low z v ending
   unfolding result
   ended E p v ending k c e =
-      let q : E ≡ elements (solidIn sh (take low z)) = p ∙ proper-is sh (take low z) (a .sweepable .held) in
+      let q : E ≡ elements (absIn sh (take low z)) = p ∙ proper-is sh (take low z) (a .sweepable .held) in
       record {
         lists = k ∙ lists;
         numbered = c;
-        ends = λ cls b. let f : settle (solidIn sh (take low z)) (elements (solidIn sh (take low z)) + 1) (sweep (solidIn sh (take low z)) (stateIn sh low z)) ≡ endOf ending (stateIn sh low v) = rw (lists, state, q) at e in
+        ends = λ cls b. let f : settle (absIn sh (take low z)) (elements (absIn sh (take low z)) + 1) (sweep (absIn sh (take low z)) (stateIn sh low z)) ≡ endOf ending (stateIn sh low v) = rw (lists, state, q) at e in
             rw b at f;
       }

@@ -7,7 +7,7 @@ use Prim.Native.Nat.{ℕ, _+_, _≤_}
 use lib.ListN.{length, take}
 use Rattle.spec.specs.Types.{Classes, State, start, result}
 use Rattle.ranked.specs.declared.Shape.{Shape}
-use Rattle.ranked.specs.Words.{total, solidIn}
+use Rattle.ranked.specs.Words.{total, absIn}
 use Rattle.element_types.specs.State.{stateIn, Sweepable, Countable}
 use Rattle.settling.specs.declared.settled.Ending.{Ending}
 use Rattle.settling.specs.declared.settled.Ending.the-variants.{Settled, Changing}
@@ -22,11 +22,11 @@ pub record Started (sh : Shape) (low : ℕ) (w : List ℕ) : Type 0 where
   pub sweepable : Sweepable sh low w
   pub room : low + total sh ≤ length w
   pub classes : Classes
-  pub state : stateIn sh low w ≡ start (solidIn sh (take low w)) classes
+  pub state : stateIn sh low w ≡ start (absIn sh (take low w)) classes
 
 -- The lists stay as they were, and the types are section 4's result by any classes that w starts from.
 pub record Settles (sh : Shape) (low : ℕ) (w v : List ℕ) (ending : Ending) : Type 0 where
   pub lists : take low v ≡ take low w
   pub numbered : Countable sh low v
-  pub ends : (cls : Classes) → stateIn sh low w ≡ start (solidIn sh (take low w)) cls
-      → result (solidIn sh (take low w)) cls ≡ endOf ending (stateIn sh low v)
+  pub ends : (cls : Classes) → stateIn sh low w ≡ start (absIn sh (take low w)) cls
+      → result (absIn sh (take low w)) cls ≡ endOf ending (stateIn sh low v)

@@ -12,7 +12,7 @@ use Rattle.spec.specs.Types.{start}
 use Rattle.spec.specs.Hull.{classes}
 use Rattle.spec.specs.Classes.{distances, classTable, byTable}
 use Rattle.ranked.specs.declared.Shape.{Shape}
-use Rattle.ranked.specs.Words.{total, solidIn}
+use Rattle.ranked.specs.Words.{total, absIn}
 use Rattle.ranked.specs.Bench.{solidAt}
 use Rattle.geometry.specs.Classes.{sameClass}
 use Rattle.distances.specs.Solids.{proper}
@@ -57,4 +57,4 @@ pub record Startable (sh : Shape) (low : ℕ) (w : List ℕ) (cells : List Float
 pub record Begins (sh : Shape) (low : ℕ) (w v : List ℕ) (cells : List Float) : Type 0 where
   pub lists : take low v ≡ take low w
   pub state : (fs : List Float) → take (proper sh) cells ≡ classes (distances (solidAt sh low w fs))
-      → stateIn sh low v ≡ start (solidIn sh (take low w)) (byTable (classTable (solidAt sh low w fs)))
+      → stateIn sh low v ≡ start (absIn sh (take low w)) (byTable (classTable (solidAt sh low w fs)))

@@ -9,7 +9,7 @@ use Rattle.spec.specs.Types.{start}
 use Rattle.spec.specs.Hull.{classes}
 use Rattle.spec.specs.Classes.{distances, classTable, byTable, typesOf}
 use Rattle.ranked.specs.declared.Shape.{Shape}
-use Rattle.ranked.specs.Words.{solidIn}
+use Rattle.ranked.specs.Words.{absIn}
 use Rattle.ranked.specs.Bench.{solidAt}
 use Rattle.distances.specs.Solids.{coordinates, proper}
 use Rattle.element_types.specs.State.{stateIn, Countable}
@@ -23,7 +23,7 @@ pub record AtStart (sh : Shape) (low : ℕ) (w v : List ℕ) (fs gs : List Float
   pub lengths : (length v ≡ length w) × (length gs ≡ length fs)
   -- The class of every proper element stands where all_classes leaves it.
   pub cells : take (proper sh) (drop (coordinates sh (take low w) + proper sh) gs) ≡ classes (distances (solidAt sh low w fs))
-  pub state : stateIn sh low v ≡ start (solidIn sh (take low w)) (byTable (classTable (solidAt sh low w fs)))
+  pub state : stateIn sh low v ≡ start (absIn sh (take low w)) (byTable (classTable (solidAt sh low w fs)))
   -- Any step can be done from here, and so can the sweeps.
   pub started : Started sh low v
 

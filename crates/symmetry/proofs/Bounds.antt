@@ -14,7 +14,7 @@ use Rattle.spec.specs.Copying.{parts}
 use Rattle.lookup.specs.Points.{Apart}
 use Rattle.lookup.proofs.Apart.{apart-of}
 use Rattle.ranked.specs.declared.Shape.{Shape}
-use Rattle.ranked.specs.Words.{firstAt, sizeAt, solidIn}
+use Rattle.ranked.specs.Words.{firstAt, sizeAt, absIn}
 use Rattle.ranked.specs.Bench.{solidAt}
 use Rattle.ranked.proofs.Solids.{top-is, size-is}
 use Rattle.float.proofs.Parts.{length-parts, parts-take}
@@ -33,23 +33,23 @@ module _ {sh : Shape} {low : ℕ} {ws : List ℕ} {fs : List Float} {at : ℕ} (
   pub rising : firstAt sh 1 ≤ firstAt sh 2
   rising = omega (arith, h .bench .held .some 1 (omega (arith, h .tall)))
 
-  pub vertices-are : size (solidIn sh (take low ws)) 1 ≡ sizeAt sh 1
+  pub vertices-are : size (absIn sh (take low ws)) 1 ≡ sizeAt sh 1
   vertices-are = size-is sh (take low ws) 1 (omega (arith, h .tall))
 
-  pub vertices-few : size (solidIn sh (take low ws)) 1 ≤ maxCount
+  pub vertices-few : size (absIn sh (take low ws)) 1 ≤ maxCount
   vertices-few = rw vertices-are (h .bench .held .few 1 (omega (arith, h .tall)))
 
-  pub coordinates-in : size (solidIn sh (take low ws)) 1 * sh .dimension ≤ length fs
+  pub coordinates-in : size (absIn sh (take low ws)) 1 * sh .dimension ≤ length fs
   coordinates-in =
-      let s = solidIn sh (take low ws) in
+      let s = absIn sh (take low ws) in
       let a = mul-le-mul-left (size s 1) (h .bench .held .wide) in
       omega (arith, a, vertices-proper s (omega (arith, top-is sh (take low ws), h .tall)), h .bench .floats)
 
-  pub points-are : solidAt sh low ws fs .points ≡ parts (size (solidIn sh (take low ws)) 1) (sh .dimension) fs
-  points-are = parts-take (size (solidIn sh (take low ws)) 1) (sh .dimension) fs
+  pub points-are : solidAt sh low ws fs .points ≡ parts (size (absIn sh (take low ws)) 1) (sh .dimension) fs
+  points-are = parts-take (size (absIn sh (take low ws)) 1) (sh .dimension) fs
 
   pub points-many : length (solidAt sh low ws fs .points) ≡ sizeAt sh 1
-  points-many = length-parts (size (solidIn sh (take low ws)) 1) (sh .dimension) (take (size (solidIn sh (take low ws)) 1 * sh .dimension) fs) ∙ vertices-are
+  points-many = length-parts (size (absIn sh (take low ws)) 1) (sh .dimension) (take (size (absIn sh (take low ws)) 1 * sh .dimension) fs) ∙ vertices-are
 
   module _ (v : ℕ) (many : v ≡ sizeAt sh 1) where
     -- The points, v of them as the code reads them.

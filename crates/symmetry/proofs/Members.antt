@@ -16,7 +16,7 @@ use Rattle.spec.proofs.Shapes.{Fit}
 use Rattle.float.specs.Reading.{corner}
 use Rattle.float.proofs.Corner.{length-corner}
 use Rattle.ranked.specs.declared.Shape.{Shape}
-use Rattle.ranked.specs.Words.{sizeAt, solidIn}
+use Rattle.ranked.specs.Words.{sizeAt, absIn}
 use Rattle.ranked.specs.Bench.{solidAt}
 use Rattle.element_types.specs.State.{stateIn}
 use Rattle.symmetry.specs.declared.listing.Tried.{Tried}
@@ -38,7 +38,7 @@ lent ms rs room = record { floats = length ms; entries = length rs; marks = room
 -- The flags Fs are to come, n members are listed, and the outputs ms and rs are ms′ and rs′ now.
 abbrev pub Tally : Shape → ℕ → List ℕ → List Float → List (List Float) → Bool → ℕ → ℕ → ℕ → List Float → List Float → List ℕ → List ℕ → ℕ → List Flag → Type 0
 Tally sh low ws fs inv rot room d v ms ms′ rs rs′ n Fs =
-    (c : Concrete) → Going (settingAt sh low ws fs inv c) rot (lent ms rs room) d v (flags (solidIn sh (take low ws))) Fs ms ms′ rs rs′ n
+    (c : Concrete) → Going (settingAt sh low ws fs inv c) rot (lent ms rs room) d v (flags (absIn sh (take low ws))) Fs ms ms′ rs rs′ n
 
 module _ {sh : Shape} {low : ℕ} {ws : List ℕ} {fs : List Float} {at : ℕ} (h : Searching sh low ws fs at) (inv : List (List Float)) (tall : sh .dimension ≤ length inv) (rot : Bool) (room : ℕ)
     (v : ℕ) (many : v ≡ sizeAt sh 1) (ms : List Float) (rs : List ℕ) where
@@ -50,7 +50,7 @@ module _ {sh : Shape} {low : ℕ} {ws : List ℕ} {fs : List Float} {at : ℕ} (
   d = sh .dimension
 
   abbrev Fs : List Flag
-  Fs = flags (solidIn sh (take low ws))
+  Fs = flags (absIn sh (take low ws))
 
   pub tally-first : Tally sh low ws fs inv rot room d v ms ms rs rs 0 Fs
   tally-first c = going-first (settingAt sh low ws fs inv c) rot (lent ms rs room) d v Fs ms rs

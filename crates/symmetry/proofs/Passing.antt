@@ -13,7 +13,7 @@ use Rattle.spec.specs.Matrix.{Matrix, Vector}
 use Rattle.spec.specs.Copying.{parts}
 use Rattle.spec.specs.Search.{rowOf, examplesGo}
 use Rattle.ranked.specs.declared.Shape.{Shape}
-use Rattle.ranked.specs.Words.{sizeAt, solidIn}
+use Rattle.ranked.specs.Words.{sizeAt, absIn}
 use Rattle.ranked.specs.Bench.{solidAt}
 use Rattle.candidates.specs.Post.{Rowed}
 use Rattle.symmetry.specs.Searching.{Searching, passing}
@@ -22,7 +22,7 @@ use Rattle.symmetry.proofs.Bounds.{vertices-are, points-are, points-man
 module _ {sh : Shape} {low : ℕ} {ws : List ℕ} {fs : List Float} {at : ℕ} (h : Searching sh low ws fs at) (z : State) (m : Matrix) (v : ℕ) (many : v ≡ sizeAt sh 1)
     (cells : List ℕ) (r : Bool) (row : Rowed v (rowOf (parts v (sh .dimension) fs) m) cells r) where
   abbrev s : Solid
-  s = solidIn sh (take low ws)
+  s = absIn sh (take low ws)
 
   abbrev found : List ℕ
   found = rowOf (solidAt sh low ws fs .points) m

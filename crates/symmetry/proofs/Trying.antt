@@ -22,7 +22,7 @@ use Rattle.spec.proofs.Lists.{length-table}
 use Rattle.spec.proofs.Marked.{both}
 use Rattle.spec.proofs.FlagList.{every-first}
 use Rattle.ranked.specs.declared.Shape.{Shape}
-use Rattle.ranked.specs.Words.{sizeAt, subsIn, solidIn}
+use Rattle.ranked.specs.Words.{sizeAt, subsIn, absIn}
 use Rattle.ranked.specs.Bench.{solidAt}
 use Rattle.candidates.specs.Post.{typesAgree}
 use Rattle.symmetry.specs.declared.listing.Tried.{Tried}
@@ -102,17 +102,17 @@ module _ (D : Concrete) (z : State) (m : Matrix) (rot : Bool) (d v k : ℕ) (ms 
 -- ---- a flag F, where G is the first
 
 -- The first flag is a flag.
-pub first-is : {sh : Shape} {low : ℕ} {ws : List ℕ} {fs : List Float} {at : ℕ} → Searching sh low ws fs at → {G : Flag} → G ≡ firstFlag (solidIn sh (take low ws)) → IsFlag (solidIn sh (take low ws)) G
-first-is {sh} {low} {ws} h e = subst (IsFlag (solidIn sh (take low ws))) (sym e) (every-first (solidIn sh (take low ws)) (h .bench .held .sound) (h .bench .held .filled) .0)
+pub first-is : {sh : Shape} {low : ℕ} {ws : List ℕ} {fs : List Float} {at : ℕ} → Searching sh low ws fs at → {G : Flag} → G ≡ firstFlag (absIn sh (take low ws)) → IsFlag (absIn sh (take low ws)) G
+first-is {sh} {low} {ws} h e = subst (IsFlag (absIn sh (take low ws))) (sym e) (every-first (absIn sh (take low ws)) (h .bench .held .sound) (h .bench .held .filled) .0)
 
-module _ {sh : Shape} {low : ℕ} {ws : List ℕ} {fs : List Float} {at : ℕ} (h : Searching sh low ws fs at) (z : State) (F G : Flag) (first : G ≡ firstFlag (solidIn sh (take low ws)))
+module _ {sh : Shape} {low : ℕ} {ws : List ℕ} {fs : List Float} {at : ℕ} (h : Searching sh low ws fs at) (z : State) (F G : Flag) (first : G ≡ firstFlag (absIn sh (take low ws)))
     (rot : Bool) (d v k : ℕ) (ms : List Float) (rs : List ℕ) (c : Concrete) (i : Matrix) where
   -- The solid searched, whose points are read from all floats.
   abbrev untaken : Concrete
-  untaken = record { dimension = sh .dimension; points = parts (size (solidIn sh (take low ws)) 1) (sh .dimension) fs; abs = solidIn sh (take low ws) }
+  untaken = record { dimension = sh .dimension; points = parts (size (absIn sh (take low ws)) 1) (sh .dimension) fs; abs = absIn sh (take low ws) }
 
-  ranks : length (solidIn sh (take low ws)) ≡ suc (sh .rank)
-  unfolding solidIn
+  ranks : length (absIn sh (take low ws)) ≡ suc (sh .rank)
+  unfolding absIn
   ranks = length-table (λ r. map (subsIn sh (take low ws) r) (range 0 (sizeAt sh r))) (suc (sh .rank))
 
   types-are : sameTypes (settingOf c (solidAt sh low ws fs) z i) F ≡ typesAgree z (sh .rank) F G
@@ -134,7 +134,7 @@ module _ {sh : Shape} {low : ℕ} {ws : List ℕ} {fs : List Float} {at : ℕ} (
   flag-is e m q t ms′ rs′ g = subst (λ o. Came d v k o t ms ms′ rs rs′) (sym came) g
     where
       made : m ≡ candidate (settingOf c (solidAt sh low ws fs) z i) F
-      made = q ∙ ap (λ (ps : List Vector). mulMat (flagColumns (record { dimension = sh .dimension; points = ps; abs = solidIn sh (take low ws) }) F) i) (sym (points-are h))
+      made = q ∙ ap (λ (ps : List Vector). mulMat (flagColumns (record { dimension = sh .dimension; points = ps; abs = absIn sh (take low ws) }) F) i) (sym (points-are h))
 
       came : gives (settingOf c (solidAt sh low ws fs) z i) rot F ≡ listedIf rot (tested (settingOf c (solidAt sh low ws fs) z i) m)
       came = ap (by (candidate (settingOf c (solidAt sh low ws fs) z i) F)) (types-are ∙ sym e) ∙ ap (λ y. listedIf rot (tested (settingOf c (solidAt sh low ws fs) z i) y)) (sym made)

@@ -13,7 +13,7 @@ use Rattle.spec.specs.Flags.{Flag, flags}
 use Rattle.spec.proofs.Counts.{lists}
 use Rattle.spec.proofs.FlagList.{every-flag-once}
 use Rattle.ranked.specs.declared.Shape.{Shape}
-use Rattle.ranked.specs.Words.{solidIn, Held}
+use Rattle.ranked.specs.Words.{absIn, Held}
 use Rattle.flag.specs.Reading.{Follows, Nth}
 use Rattle.flag.proofs.Numbered.{nth-next, nth-last}
 
@@ -44,9 +44,9 @@ place-first x (y ∷ l) (suc i) h e f = go (eqList y x) refl (place-first x l i 
     go true q p = absurd (f 0 (omega arith) (sym (lists .sound y x q)))
     go false q p = ap suc p
 
-module _ (sh : Shape) (w : List ℕ) (h : Held sh w) (P : List Flag → Type 0) (F : Flag) (t : Turn (solidIn sh w) F P) where
+module _ (sh : Shape) (w : List ℕ) (h : Held sh w) (P : List Flag → Type 0) (F : Flag) (t : Turn (absIn sh w) F P) where
   abbrev s : Solid
-  s = solidIn sh w
+  s = absIn sh w
 
   -- The flags after F.
   abbrev pub later : List Flag

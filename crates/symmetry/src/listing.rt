@@ -11,7 +11,7 @@ ghost use Rattle.spec.specs.Flags.{IsFlag, firstFlag, flags};
 ghost use Rattle.spec.specs.Search.{rowOf, tested};
 ghost use Rattle.float.specs.Reading.{corner};
 ghost use Rattle.lookup.specs.Points.{Lone};
-ghost use Rattle.ranked.specs.Words.{firstAt, sizeAt, solidIn};
+ghost use Rattle.ranked.specs.Words.{firstAt, sizeAt, absIn};
 ghost use Rattle.ranked.specs.Bench.{solidAt};
 ghost use Rattle.element_types.specs.State.{stateIn};
 ghost use Rattle.flag.specs.Reading.{flagIn};
@@ -93,11 +93,11 @@ fn passes(
     row: &mut [u16],
 ) -> bool
     requires { ⌜ Searching sh low (now words) (now floats) at ⌝ }
-    requires { ⌜ size (solidIn sh (take low (now words))) 1 ≤ length (now row) ⌝ }
+    requires { ⌜ size (absIn sh (take low (now words))) 1 ≤ length (now row) ⌝ }
     requires { ⌜ (lone ≡ true → Lone (solidAt sh low (now words) (now floats) .points)) ⌝ }
     ensures { λ r. ⌜ r ≡ passing (solidAt sh low (now (words .entry)) (now (floats .entry))) (stateIn sh low (now (words .entry)))
         (corner (sh .dimension) m) ⌝ }
-    ensures { λ r. ⌜ (r ≡ true → take (size (solidIn sh (take low (now (words .entry)))) 1) (now (row .exit))
+    ensures { λ r. ⌜ (r ≡ true → take (size (absIn sh (take low (now (words .entry)))) 1) (now (row .exit))
         ≡ rowOf (solidAt sh low (now (words .entry)) (now (floats .entry)) .points) (corner (sh .dimension) m)) ⌝ }
 {
     let v = vertex_count(sh);
@@ -166,8 +166,8 @@ fn try_flag(
     rows: &mut [u16],
 ) -> Tried
     requires { ⌜ Searching sh low (now words) (now floats) at ⌝ }
-    requires { ⌜ IsFlag (solidIn sh (take low (now words))) (flagIn (sh .rank) flag) ⌝ }
-    requires { ⌜ flagIn (sh .rank) first ≡ firstFlag (solidIn sh (take low (now words))) ⌝ }
+    requires { ⌜ IsFlag (absIn sh (take low (now words))) (flagIn (sh .rank) flag) ⌝ }
+    requires { ⌜ flagIn (sh .rank) first ≡ firstFlag (absIn sh (take low (now words))) ⌝ }
     requires { ⌜ (lone ≡ true → Lone (solidAt sh low (now words) (now floats) .points)) ⌝ }
     ensures { λ t. ⌜ ((c : Concrete) → Came (sh .dimension) (length (solidAt sh low (now (words .entry)) (now (floats .entry)) .points)) left
         (gives (settingOf c (solidAt sh low (now (words .entry)) (now (floats .entry))) (stateIn sh low (now (words .entry)))
@@ -211,7 +211,7 @@ pub fn list_members(
     ensures { λ r. ⌜ ((c : Concrete) → Listed (settingOf c (solidAt sh low (now (words .entry)) (now (floats .entry)))
         (stateIn sh low (now (words .entry))) (corner (sh .dimension) inv)) rotations
         (record { floats = length (now (matrices .entry)); entries = length (now (rows .entry)); marks = room })
-        (flags (solidIn sh (take low (now (words .entry))))) r (now (matrices .entry)) (now (matrices .exit)) (now (rows .entry)) (now (rows .exit))) ⌝ }
+        (flags (absIn sh (take low (now (words .entry))))) r (now (matrices .entry)) (now (matrices .exit)) (now (rows .entry)) (now (rows .exit))) ⌝ }
 {
     let first = Flag::first(&words[..low], sh);
     let d = sh.dimension;

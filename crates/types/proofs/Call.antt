@@ -24,7 +24,7 @@ use Rattle.spec.specs.Calls.{Given, typeCells, TypesOut, typesGiven, typesWritt
 use Rattle.spec.proofs.Lists.{map-same}
 use Rattle.spec.proofs.Counts.{sum-le}
 use Rattle.ranked.specs.declared.Shape.{Shape}
-use Rattle.ranked.specs.Words.{solidIn}
+use Rattle.ranked.specs.Words.{absIn}
 use Rattle.distances.specs.Solids.{proper}
 use Rattle.distances.proofs.Room.{proper-is}
 use Rattle.element_types.specs.State.{stateIn, Countable}
@@ -91,7 +91,7 @@ types-counted s z =
 
 module _ (sh : Shape) (low : ℕ) (w : List ℕ) (a : Countable sh low w) (old : TypesOut) where
   abbrev s : Solid
-  s = solidIn sh (take low w)
+  s = absIn sh (take low w)
 
   abbrev z : State
   z = stateIn sh low w

@@ -16,7 +16,7 @@ use Rattle.spec.specs.Calls.{TypesOut, typesCall}
 use Rattle.sheet.specs.declared.Verdict.the-variants as verdict
 use Rattle.ranked.specs.declared.Shape.{Shape}
 use Rattle.ranked.specs.declared.preflight.Ready.{Ready}
-use Rattle.ranked.specs.Words.{solidIn}
+use Rattle.ranked.specs.Words.{absIn}
 use Rattle.ranked.specs.Bench.{solidAt, Bench}
 use Rattle.ranked.specs.Preflight.{verdictOf, Preflighted}
 use Rattle.element_types.specs.State.{stateIn}
@@ -33,10 +33,10 @@ module _ (sh : Shape) (low : ℕ) (w v : List ℕ) (fs gs : List Float) (old : T
   unfolding endOf
   unsettled-given t = sym (unsettled (solidAt sh low w fs) old (t .result))
 
-  pub settled-given : Typed sh low w v fs gs Settled → (x : Answer × TypesOut) → x ≡ handedOut (solidIn sh (take low v)) (stateIn sh low v) old → x ≡ answered (solidAt sh low w fs) old
+  pub settled-given : Typed sh low w v fs gs Settled → (x : Answer × TypesOut) → x ≡ handedOut (absIn sh (take low v)) (stateIn sh low v) old → x ≡ answered (solidAt sh low w fs) old
   unfolding endOf
   settled-given t x e =
-      e ∙ ap (λ (l : List ℕ). handedOut (solidIn sh l) (stateIn sh low v) old) (t .lists) ∙ sym (settled (solidAt sh low w fs) old (stateIn sh low v) (t .result))
+      e ∙ ap (λ (l : List ℕ). handedOut (absIn sh l) (stateIn sh low v) old) (t .lists) ∙ sym (settled (solidAt sh low w fs) old (stateIn sh low v) (t .result))
 
 -- ---- 1 to 7
 

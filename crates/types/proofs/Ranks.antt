@@ -18,7 +18,7 @@ use Rattle.spec.proofs.Lists.{in-getD, map-same, of-range, getD-table}
 use Rattle.spec.proofs.FlagList.{in-either}
 use Rattle.spec.proofs.Shapes.{type-cells}
 use Rattle.ranked.specs.declared.Shape.{Shape}
-use Rattle.ranked.specs.Words.{firstAt, sizeAt, solidIn}
+use Rattle.ranked.specs.Words.{firstAt, sizeAt, absIn}
 use Rattle.ranked.proofs.Solids.{top-is, size-is}
 use Rattle.distances.specs.Solids.{proper}
 use Rattle.distances.proofs.Ranks.{in-order}
@@ -66,7 +66,7 @@ module _ (sh : Shape) (low : ℕ) (w : List ℕ) where
 
 module _ (sh : Shape) (low : ℕ) (w : List ℕ) (a : Countable sh low w) where
   abbrev s : Solid
-  s = solidIn sh (take low w)
+  s = absIn sh (take low w)
 
   abbrev z : State
   z = stateIn sh low w

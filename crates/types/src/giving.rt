@@ -14,7 +14,7 @@ ghost use Rattle.spec.specs.Lists.{distinct, join};
 ghost use Rattle.spec.specs.Types.{elements, typeCount, given, elementTypes};
 ghost use Rattle.spec.specs.Copying.{written};
 ghost use Rattle.spec.specs.Calls.{typeCells};
-ghost use Rattle.ranked.specs.Words.{solidIn};
+ghost use Rattle.ranked.specs.Words.{absIn};
 ghost use Rattle.distances.specs.Solids.{proper};
 ghost use Rattle.element_types.specs.State.{stateIn, Countable};
 ghost use Rattle.types.specs.Cells.{cellsOf, Listable};
@@ -38,8 +38,8 @@ fn proper_count(sh: Shape) -> usize
 // Writes the type of each proper element, one cell for each.
 fn write_types(words: &[u32], low: usize, sh: Shape, of: &mut [u16])
     requires { ⌜ Countable sh low (now words) ⌝ }
-    requires { ⌜ elements (solidIn sh (take low (now words))) ≤ length (now of) ⌝ }
-    ensures { λ _. ⌜ now (of .exit) ≡ written (given (solidIn sh (take low (now (words .entry)))) (stateIn sh low (now (words .entry)))) (now (of .entry)) ⌝ }
+    requires { ⌜ elements (absIn sh (take low (now words))) ≤ length (now of) ⌝ }
+    ensures { λ _. ⌜ now (of .exit) ≡ written (given (absIn sh (take low (now (words .entry)))) (stateIn sh low (now (words .entry)))) (now (of .entry)) ⌝ }
 {
     let n = proper_count(sh);
     let first = sh.first[1];
@@ -89,9 +89,9 @@ fn write_rank(words: &[u32], from: usize, n: usize, r: usize, table: &mut [u16],
 // Writes four cells for each type: its rank, its number, its example and its count.
 fn write_table(words: &[u32], low: usize, sh: Shape, table: &mut [u16])
     requires { ⌜ Countable sh low (now words) ⌝ }
-    requires { ⌜ 4 * typeCount (solidIn sh (take low (now words))) (stateIn sh low (now words)) ≤ length (now table) ⌝ }
+    requires { ⌜ 4 * typeCount (absIn sh (take low (now words))) (stateIn sh low (now words)) ≤ length (now table) ⌝ }
     ensures { λ _. ⌜ now (table .exit)
-        ≡ written (join (map typeCells (elementTypes (solidIn sh (take low (now (words .entry)))) (stateIn sh low (now (words .entry))))))
+        ≡ written (join (map typeCells (elementTypes (absIn sh (take low (now (words .entry)))) (stateIn sh low (now (words .entry))))))
         (now (table .entry)) ⌝ }
 {
     let rank = sh.rank;
@@ -110,7 +110,7 @@ fn write_table(words: &[u32], low: usize, sh: Shape, table: &mut [u16])
 pub fn give_out(words: &[u32], low: usize, sh: Shape, of: &mut [u16], table: &mut [u16]) -> Answer
     requires { ⌜ Countable sh low (now words) ⌝ }
     ensures { λ r. ⌜ (r, record { elements = now (of .exit); types = now (table .exit) })
-        ≡ handedOut (solidIn sh (take low (now (words .entry)))) (stateIn sh low (now (words .entry)))
+        ≡ handedOut (absIn sh (take low (now (words .entry)))) (stateIn sh low (now (words .entry)))
         (record { elements = now (of .entry); types = now (table .entry) }) ⌝ }
 {
     let n = type_count(words, low, sh);

@@ -14,7 +14,7 @@ use Rattle.spec.specs.Types.{Solid, size}
 use Rattle.spec.specs.Mark.{vertices, vertexSets}
 use Rattle.spec.proofs.Lists.{in-place}
 use Rattle.ranked.specs.declared.Shape.{Shape}
-use Rattle.ranked.specs.Words.{firstAt, sizeAt, total, solidIn, Held}
+use Rattle.ranked.specs.Words.{firstAt, sizeAt, total, absIn, Held}
 use Rattle.ranked.specs.Marks.{Front}
 use Rattle.ranked.proofs.Solids.{size-is, number-in}
 use Rattle.element_types.proofs.Compared.{other-length}
@@ -25,17 +25,17 @@ use Rattle.vertex_sets.proofs.Sets.{listed, vertices-few, length-sets, 
 -- ---- in the words that hold the solid
 
 module _ {sh : Shape} {w : List ℕ} (h : Held sh w) where
-  pub few-vertices : 1 ≤ sh .rank → size (solidIn sh w) 1 ≤ 2048
+  pub few-vertices : 1 ≤ sh .rank → size (absIn sh w) 1 ≤ 2048
   few-vertices k = rw (size-is sh w 1 k) (h .few 1 k)
 
   -- An element's vertices can be listed.
-  pub can-list : (r e : ℕ) → Element sh r e → (r ≤ sh .rank × (e < sizeAt sh r)) × (size (solidIn sh w) 1 ≤ 2048)
+  pub can-list : (r e : ℕ) → Element sh r e → (r ≤ sh .rank × (e < sizeAt sh r)) × (size (absIn sh w) 1 ≤ 2048)
   can-list r e m = ((omega (arith, m .high), m .inside), few-vertices (omega (arith, m .low, m .high)))
 
   pub ranks-fit : (r : ℕ) → r < sh .rank → (r + 1 < 7) × (firstAt sh r < firstAt sh (r + 1))
   ranks-fit r k = (omega (arith, h .tall), rw (add-one r) (h .some r (omega arith)))
 
-  pub many-is : (r : ℕ) → r < sh .rank → firstAt sh (r + 1) - firstAt sh r ≡ size (solidIn sh w) r
+  pub many-is : (r : ℕ) → r < sh .rank → firstAt sh (r + 1) - firstAt sh r ≡ size (absIn sh w) r
   many-is r k = rw (add-one r) (sym (size-is sh w r (omega arith)))
 
   -- No rank has more than 2,048.
@@ -69,17 +69,17 @@ module _ {sh : Shape} {low : ℕ} {words : List ℕ} {at : ℕ} (a : Ready sh lo
   print-in r e m = omega (arith, number-in sh (take low words) (a .held) r e (omega (arith, m .high)) (m .inside), a .printed .room)
 
   pub print-differs : (r e : ℕ) → Element sh r e → (q p : ℕ) (x : List ℕ) → q ≡ getD words (at + firstAt sh r + e) 0 → p ≡ printOf x → q ≢ p
-      → false ≡ eqList (vertices (solidIn sh (take low words)) r e) x
+      → false ≡ eqList (vertices (absIn sh (take low words)) r e) x
   print-differs r e m q p x i j d =
       prints-part _ x (λ k. d (i ∙ a .printed .prints r e (m .low) (m .high) (m .inside) ∙ k ∙ sym j))
 
   -- No element has more than 2,048 vertices.
-  pub too-long : (r n : ℕ) (list : List ℕ) → 1 ≤ r → r < sh .rank → n ≤ length list → 2048 < n → false ≡ holds eqList (take n list) (vertexSets (solidIn sh (take low words)) r)
+  pub too-long : (r n : ℕ) (list : List ℕ) → 1 ≤ r → r < sh .rank → n ≤ length list → 2048 < n → false ≡ holds eqList (take n list) (vertexSets (absIn sh (take low words)) r)
   too-long r n list l k room h =
       none-longer (take n list) (vertexSets s r) (λ x m. go x (in-place [] x (vertexSets s r) m))
     where
       s : Solid
-      s = solidIn sh (take low words)
+      s = absIn sh (take low words)
 
       go : (x : List ℕ) → (i : ℕ) × (i < length (vertexSets s r)) × (getD (vertexSets s r) i [] ≡ x) → length x < length (take n list)
       go x (i, b, q) =

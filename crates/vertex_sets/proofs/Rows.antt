@@ -10,7 +10,7 @@ use lib.Seq.{take-set-le, getD-set-same, getD-set-other, length-take-le}
 use borrow.Author.Count.{below-more}
 use Rattle.spec.specs.Mark.{vertices}
 use Rattle.ranked.specs.declared.Shape.{Shape}
-use Rattle.ranked.specs.Words.{firstAt, sizeAt, total, solidIn, Held}
+use Rattle.ranked.specs.Words.{firstAt, sizeAt, total, absIn, Held}
 use Rattle.ranked.proofs.Solids.{number-in}
 use Rattle.element_types.proofs.Parts.{getD-kept, take-kept}
 use Rattle.element_types.proofs.Room.{rising}
@@ -18,7 +18,7 @@ use Rattle.vertex_sets.specs.Prints.{printOf, Printed, Element}
 
 -- The print of element e of rank r stands where it should.
 abbrev pub Stands : Shape → List ℕ → ℕ → List ℕ → ℕ → ℕ → Type 0
-Stands sh w at words r e = getD words (at + firstAt sh r + e) 0 ≡ printOf (vertices (solidIn sh w) r e)
+Stands sh w at words r e = getD words (at + firstAt sh r + e) 0 ≡ printOf (vertices (absIn sh w) r e)
 
 -- ---- a rank's elements
 
@@ -50,7 +50,7 @@ module _ {sh : Shape} {low at r first many : ℕ} {old new : List ℕ} {e : ℕ}
   pub row-in : e < many → at + first + e < length new
   row-in k = omega (arith, t .first-is, t .long, number-in sh (take low old) h r e (omega arith) (omega (arith, t .many-is)))
 
-  pub row-next : e < many → (p : ℕ) → p ≡ printOf (vertices (solidIn sh (take low new)) r e) → Row sh low at r first many old (set new (at + first + e) p) (e + 1)
+  pub row-next : e < many → (p : ℕ) → p ≡ printOf (vertices (absIn sh (take low new)) r e) → Row sh low at r first many old (set new (at + first + e) p) (e + 1)
   row-next k p q = record {
     first-is = t .first-is;
     many-is = t .many-is;
@@ -58,7 +58,7 @@ module _ {sh : Shape} {low at r first many : ℕ} {old new : List ℕ} {e : ℕ}
     kept = take-set-le (at + firstAt sh r) new (at + first + e) p (omega (arith, t .first-is)) ∙ t .kept;
     done = below-more (Stands sh (take low old) at (set new (at + first + e) p) r) e
         (λ j b. getD-set-other new (at + first + e) (at + firstAt sh r + j) p 0 (λ z. omega (arith, t .first-is)) ∙ t .done j b)
-        (rw (← t .first-is) (getD-set-same new (at + first + e) p 0 (row-in k) ∙ q ∙ ap (λ (w : List ℕ). printOf (vertices (solidIn sh w) r e)) row-low));
+        (rw (← t .first-is) (getD-set-same new (at + first + e) p 0 (row-in k) ∙ q ∙ ap (λ (w : List ℕ). printOf (vertices (absIn sh w) r e)) row-low));
   }
 
   pub row-end : many ≤ e → (j : ℕ) → j < sizeAt sh r → Stands sh (take low old) at new r j
@@ -91,7 +91,7 @@ module _ {sh : Shape} {low at : ℕ} {old new : List ℕ} {r : ℕ} (t : Round s
     kept = take-kept last new (at + firstAt sh r) at k (omega arith) ∙ t .kept;
     done = below-more (λ q. (e : ℕ) → 1 ≤ q → e < sizeAt sh q → Stands sh (take low old) at last q e) r
         (λ q b e c i. getD-kept last new (at + firstAt sh r) (at + firstAt sh q + e) k (before q b e i) ∙ t .done q b e c i)
-        (λ e c i. d e i ∙ ap (λ (w : List ℕ). printOf (vertices (solidIn sh w) r e)) round-low);
+        (λ e c i. d e i ∙ ap (λ (w : List ℕ). printOf (vertices (absIn sh w) r e)) round-low);
   }
     where
       before : (q : ℕ) → q < r → (e : ℕ) → e < sizeAt sh q → at + firstAt sh q + e < at + firstAt sh r

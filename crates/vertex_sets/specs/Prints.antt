@@ -10,7 +10,7 @@ use Rattle.spec.specs.Types.{Solid, size, State, elementTypesAt}
 use Rattle.spec.specs.Mark.{vertices, vertexSets}
 use Rattle.spec.specs.Search.{sorted}
 use Rattle.ranked.specs.declared.Shape.{Shape}
-use Rattle.ranked.specs.Words.{firstAt, sizeAt, total, solidIn, Held}
+use Rattle.ranked.specs.Words.{firstAt, sizeAt, total, absIn, Held}
 
 -- The print of a list is the sum of its members' squares.
 unfoldable pub printOf : List ℕ → ℕ
@@ -21,7 +21,7 @@ printOf (v ∷ l) = v * v + printOf l
 -- ranks, which is firstAt sh r + e, has its print at word at + g.
 pub record Printed (sh : Shape) (w : List ℕ) (at : ℕ) (words : List ℕ) : Type 0 where
   pub room : at + total sh ≤ length words
-  pub prints : (r e : ℕ) → 1 ≤ r → r < sh .rank → e < sizeAt sh r → getD words (at + firstAt sh r + e) 0 ≡ printOf (vertices (solidIn sh w) r e)
+  pub prints : (r e : ℕ) → 1 ≤ r → r < sh .rank → e < sizeAt sh r → getD words (at + firstAt sh r + e) 0 ≡ printOf (vertices (absIn sh w) r e)
 
 -- What a look at vertex sets needs: a solid in the first `low` words, and its prints behind them.
 pub record Ready (sh : Shape) (low : ℕ) (words : List ℕ) (at : ℕ) : Type 0 where

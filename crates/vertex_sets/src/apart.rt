@@ -9,15 +9,15 @@ ghost use Prim.Native.Nat.{suc, _≤_, _<_};
 ghost use lib.ListN.{take, drop};
 ghost use Rattle.spec.specs.Lists.{holds, eqList};
 ghost use Rattle.spec.specs.Mark.{noRepeats, vertices, vertexSets, setsApart};
-ghost use Rattle.ranked.specs.Words.{solidIn};
+ghost use Rattle.ranked.specs.Words.{absIn};
 ghost use Rattle.vertex_sets.specs.Prints.{Element, Ready};
 
 // Tells whether a later element of rank r has the same vertices as element e.
 fn is_repeated(words: &[u32], low: usize, sh: Shape, at: usize, r: usize, e: usize) -> bool
     requires { ⌜ Ready sh low (now words) at ⌝ }
     requires { ⌜ Element sh r e ⌝ }
-    ensures { λ b. ⌜ b ≡ holds eqList (vertices (solidIn sh (take low (now (words .entry)))) r e)
-        (drop (suc e) (vertexSets (solidIn sh (take low (now (words .entry)))) r)) ⌝ }
+    ensures { λ b. ⌜ b ≡ holds eqList (vertices (absIn sh (take low (now (words .entry)))) r e)
+        (drop (suc e) (vertexSets (absIn sh (take low (now (words .entry)))) r)) ⌝ }
 {
     let mut list = [0u16; MAX_COUNT];
     let n = vertex_list(&words[..low], sh, r, e, &mut list);
@@ -29,7 +29,7 @@ fn is_repeated(words: &[u32], low: usize, sh: Shape, at: usize, r: usize, e: usi
 fn rank_apart(words: &[u32], low: usize, sh: Shape, at: usize, r: usize) -> bool
     requires { ⌜ Ready sh low (now words) at ⌝ }
     requires { ⌜ (1 ≤ r) × (r < sh .rank) ⌝ }
-    ensures { λ b. ⌜ b ≡ noRepeats eqList (vertexSets (solidIn sh (take low (now (words .entry)))) r) ⌝ }
+    ensures { λ b. ⌜ b ≡ noRepeats eqList (vertexSets (absIn sh (take low (now (words .entry)))) r) ⌝ }
 {
     let many = sh.first[r + 1] - sh.first[r];
     let mut e: usize = 0;
@@ -45,7 +45,7 @@ fn rank_apart(words: &[u32], low: usize, sh: Shape, at: usize, r: usize) -> bool
 // Tells whether, at each proper rank, no two elements have the same vertices.
 pub fn are_apart(words: &[u32], low: usize, sh: Shape, at: usize) -> bool
     requires { ⌜ Ready sh low (now words) at ⌝ }
-    ensures { λ b. ⌜ b ≡ setsApart (solidIn sh (take low (now (words .entry)))) ⌝ }
+    ensures { λ b. ⌜ b ≡ setsApart (absIn sh (take low (now (words .entry)))) ⌝ }
 {
     let rank = sh.rank;
     let mut r: usize = 1;

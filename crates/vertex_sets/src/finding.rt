@@ -9,7 +9,7 @@ ghost use Prim.Native.Nat.{_+_, _≤_, _<_};
 ghost use lib.ListN.{length, take, drop};
 ghost use Rattle.spec.specs.Lists.{holds, eqList};
 ghost use Rattle.spec.specs.Mark.{vertices, vertexSets};
-ghost use Rattle.ranked.specs.Words.{sizeAt, solidIn, Held};
+ghost use Rattle.ranked.specs.Words.{sizeAt, absIn, Held};
 ghost use Rattle.vertex_sets.specs.Prints.{printOf, Element, Ready};
 
 // Tells whether the first n entries of two lists are the same.
@@ -32,7 +32,7 @@ fn same_vertices(w: &[u32], sh: Shape, r: usize, e: usize, list: &[u16], n: usiz
     requires { ⌜ Held sh (now w) ⌝ }
     requires { ⌜ Element sh r e ⌝ }
     requires { ⌜ n ≤ length (now list) ⌝ }
-    ensures { λ b. ⌜ b ≡ eqList (vertices (solidIn sh (now (w .entry))) r e) (take n (now (list .entry))) ⌝ }
+    ensures { λ b. ⌜ b ≡ eqList (vertices (absIn sh (now (w .entry))) r e) (take n (now (list .entry))) ⌝ }
 {
     let mut own = [0u16; MAX_COUNT];
     let m = vertex_list(w, sh, r, e, &mut own);
@@ -58,7 +58,7 @@ pub fn is_found(
     requires { ⌜ Ready sh low (now words) at ⌝ }
     requires { ⌜ (1 ≤ r) × (r < sh .rank) × (from ≤ sizeAt sh r) ⌝ }
     requires { ⌜ (n ≤ length (now list)) × (p ≡ printOf (take n (now list))) ⌝ }
-    ensures { λ b. ⌜ b ≡ holds eqList (take n (now (list .entry))) (drop from (vertexSets (solidIn sh (take low (now (words .entry)))) r)) ⌝ }
+    ensures { λ b. ⌜ b ≡ holds eqList (take n (now (list .entry))) (drop from (vertexSets (absIn sh (take low (now (words .entry)))) r)) ⌝ }
 {
     let first = sh.first[r];
     let many = sh.first[r + 1] - first;
@@ -88,7 +88,7 @@ pub fn is_vertex_set(
     requires { ⌜ Ready sh low (now words) at ⌝ }
     requires { ⌜ (1 ≤ r) × (r < sh .rank) ⌝ }
     requires { ⌜ n ≤ length (now list) ⌝ }
-    ensures { λ b. ⌜ b ≡ holds eqList (take n (now (list .entry))) (vertexSets (solidIn sh (take low (now (words .entry)))) r) ⌝ }
+    ensures { λ b. ⌜ b ≡ holds eqList (take n (now (list .entry))) (vertexSets (absIn sh (take low (now (words .entry)))) r) ⌝ }
 {
     if MAX_COUNT < n {
         return false;

@@ -8,7 +8,7 @@ ghost use Prim.Native.Nat.{ℕ, suc, _+_, _≤_, _<_};
 ghost use lib.ListN.{length, getD, take};
 ghost use Rattle.spec.specs.Limits.{maxCount};
 ghost use Rattle.spec.specs.Mark.{vertices};
-ghost use Rattle.ranked.specs.Words.{firstAt, sizeAt, total, solidIn, Held};
+ghost use Rattle.ranked.specs.Words.{firstAt, sizeAt, total, absIn, Held};
 ghost use Rattle.vertex_sets.specs.Prints.{printOf, Printed, Element};
 
 // Returns the print of the first n entries.
@@ -30,7 +30,7 @@ pub fn print_of(list: &[u16], n: usize) -> usize
 fn print_element(w: &[u32], sh: Shape, r: usize, e: usize) -> u32
     requires { ⌜ Held sh (now w) ⌝ }
     requires { ⌜ Element sh r e ⌝ }
-    ensures { λ p. ⌜ p ≡ printOf (vertices (solidIn sh (now (w .entry))) r e) ⌝ }
+    ensures { λ p. ⌜ p ≡ printOf (vertices (absIn sh (now (w .entry))) r e) ⌝ }
 {
     let mut list = [0u16; MAX_COUNT];
     let n = vertex_list(w, sh, r, e, &mut list);
@@ -44,7 +44,7 @@ fn write_rank(words: &mut [u32], low: usize, sh: Shape, at: usize, r: usize)
     requires { ⌜ (1 ≤ r) × (r < sh .rank) ⌝ }
     ensures { λ _. ⌜ take (at + firstAt sh r) (now (words .exit)) ≡ take (at + firstAt sh r) (now (words .entry)) ⌝ }
     ensures { λ _. ⌜ ((e : ℕ) → e < sizeAt sh r → getD (now (words .exit)) (at + firstAt sh r + e) 0
-        ≡ printOf (vertices (solidIn sh (take low (now (words .entry)))) r e)) ⌝ }
+        ≡ printOf (vertices (absIn sh (take low (now (words .entry)))) r e)) ⌝ }
 {
     let first = sh.first[r];
     let many = sh.first[r + 1] - first;

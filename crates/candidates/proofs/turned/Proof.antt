@@ -4,7 +4,7 @@ use borrow.Author.Needs.{needs}
 use native.Mathlib.Omega.{arith}
 use mathlib.Core.Path.{_≡_}
 use Prim.Native.Nat.{_-_}
-use Rattle.ranked.specs.Words.{solidIn}
+use Rattle.ranked.specs.Words.{absIn}
 use Rattle.ranked.proofs.Solids.{top-is}
 use Rattle.flag.specs.Reading.{flagIn}
 use Rattle.flag.proofs.Flags.{flag-in}
@@ -13,7 +13,7 @@ use Rattle.candidates.proofs.turned.Statement.{statement}
 use Rattle.candidates.proofs.turned.Tie as tie
 
 abbrev Inv : tie.InvT-loop
-Inv w sh rank f₀ r₀ f r = Turning (solidIn sh w) (flagIn (sh .rank) f₀) (flagIn (sh .rank) f) r
+Inv w sh rank f₀ r₀ f r = Turning (absIn sh w) (flagIn (sh .rank) f₀) (flagIn (sh .rank) f) r
 
 abbrev μ : tie.MeasureT-loop
 μ w sh rank f₀ r₀ f r = rank - r

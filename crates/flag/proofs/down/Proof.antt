@@ -7,13 +7,13 @@ use mathlib.Core.List.{_++_}
 use Prim.Native.Nat.{suc, _-_}
 use lib.ListN.{getD, take, drop}
 use Rattle.spec.specs.Flags.{firstTo}
-use Rattle.ranked.specs.Words.{solidIn}
+use Rattle.ranked.specs.Words.{absIn}
 use Rattle.flag.proofs.Flags.{Down, next-down, last-down}
 use Rattle.flag.proofs.down.Statement.{statement}
 use Rattle.flag.proofs.down.Tie as tie
 
 abbrev Inv : tie.InvT-loop
-Inv w sh from elements₀ e₀ r₀ elements e r = Down sh w (firstTo (solidIn sh w) from (getD elements₀ from 0) ++ take (sh .rank - from) (drop (suc from) elements₀)) elements r e
+Inv w sh from elements₀ e₀ r₀ elements e r = Down sh w (firstTo (absIn sh w) from (getD elements₀ from 0) ++ take (sh .rank - from) (drop (suc from) elements₀)) elements r e
 
 abbrev μ : tie.MeasureT-loop
 μ w sh from elements₀ e₀ r₀ elements e r = r

@@ -6,7 +6,7 @@ use mathlib.Core.Bool.{false≢true}
 use Prim.Native.Nat.{_+_, _-_, _<_}
 use lib.ListN.{length}
 use Rattle.float.specs.declared.points.Found.the-variants.{At}
-use Rattle.ranked.specs.Words.{firstAt, solidIn}
+use Rattle.ranked.specs.Words.{firstAt, absIn}
 use Rattle.marks.specs.Rises.{Landed}
 use Rattle.marks.specs.Rows.{classesOn}
 use Rattle.marks.proofs.Carried.{Turn, first-turn, cell-in, turn-in, turn-stop, turn-next, turn-end}
@@ -34,7 +34,7 @@ lies c =
 
 carried : (c : tie.After-known-told Inv μ) →
     (let a = start (turn c) .args in
-    Landed (solidIn (a .sh) (a .w .now)) (classesOn (a .sh) (a .w .now) (a .floats .now)) (a .row .now) (a .r) (turn c .before .loop .e) (At (c .before .x .given .0 .0)))
+    Landed (absIn (a .sh) (a .w .now)) (classesOn (a .sh) (a .w .now) (a .floats .now)) (a .row .now) (a .r) (turn c .before .loop .e) (At (c .before .x .given .0 .0)))
 carried c = rw (c .before .x .given .1) at (c .before .before .before .image-of .ensures)
 
 small : (c : tie.After-known-told Inv μ) → c .before .x .given .0 .0 < 2048

@@ -5,7 +5,7 @@ use mathlib.Core.Path.{_≡_, sym, _∙_, subst}
 use lib.Dec.{eqb}
 use Rattle.float.specs.declared.points.Found.{Found}
 use Rattle.float.specs.declared.points.Found.the-variants.{At}
-use Rattle.ranked.specs.Words.{solidIn}
+use Rattle.ranked.specs.Words.{absIn}
 use Rattle.marks.specs.Rises.{Reached}
 use Rattle.marks.specs.Rows.{classesOn}
 use Rattle.marks.proofs.Carried.{class-cells, ranks-lie, class-in, lies-in, other-class, its-class}
@@ -18,11 +18,11 @@ start c = c .before .before .before .before .before .before .before .before
 
 -- Where the element goes.
 gone : (c : tie.After-known-told) →
-    (let a = start c .args in Reached (solidIn (a .sh) (a .w .now)) (classesOn (a .sh) (a .w .now) (a .floats .now)) (a .row .now) (a .r) (a .e) (At (c .before .x .given .0 .0)))
+    (let a = start c .args in Reached (absIn (a .sh) (a .w .now)) (classesOn (a .sh) (a .w .now) (a .floats .now)) (a .row .now) (a .r) (a .e) (At (c .before .x .given .0 .0)))
 gone c =
     let a = start c .args in
     let cls = classesOn (a .sh) (a .w .now) (a .floats .now) in
-    subst (λ (x : Found). Reached (solidIn (a .sh) (a .w .now)) cls (a .row .now) (a .r) (a .e) x) (c .before .x .given .1) (c .before .before .before .reach .ensures cls)
+    subst (λ (x : Found). Reached (absIn (a .sh) (a .w .now)) cls (a .row .now) (a .r) (a .e) x) (c .before .x .given .1) (c .before .before .before .reach .ensures cls)
 
 -- The cells say whether the class is shared.
 shared : (c : tie.After-one-class) → let a = start (c .before) .args in

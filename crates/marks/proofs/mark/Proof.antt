@@ -4,7 +4,7 @@ use borrow.Author.Tests.{not-true, not-false}
 use native.Mathlib.Omega.{arith}
 use mathlib.Core.Path.{_≡_, sym, _∙_}
 use mathlib.Core.Bool.{true, false}
-use Rattle.ranked.specs.Words.{solidIn}
+use Rattle.ranked.specs.Words.{absIn}
 use Rattle.spec.specs.Mark.{setsApart}
 use Rattle.marks.specs.Rows.{permutes, classesOn}
 use Rattle.marks.proofs.Carried.{few-vertices}
@@ -13,7 +13,7 @@ use Rattle.marks.proofs.mark.Statement.{statement}
 use Rattle.marks.proofs.mark.Tie as tie
 
 -- What the first two tests showed.
-apart-is : (c : tie.Else1) → let s = c .before .before .before .before .before in setsApart (solidIn (s .args .sh) (s .args .w .now)) ≡ true
+apart-is : (c : tie.Else1) → let s = c .before .before .before .before .before in setsApart (absIn (s .args .sh) (s .args .w .now)) ≡ true
 apart-is c = let s = c .before .before .before .before .before in sym (s .pre .1 .0) ∙ not-false _ (c .if1 .left)
 
 row-is : (c : tie.Else2) → let s = c .before .before .before .before .before .before .before in permutes (s .args .row .now) ≡ true

@@ -28,8 +28,8 @@ use Rattle.sheet.specs.Judge.{proper, padded, headerOf}
 use Rattle.sheet.proofs.Laws.{elements-is, entries-is, header-small}
 use Rattle.ranked.specs.declared.Shape.{Shape}
 use Rattle.ranked.specs.declared.preflight.Ready.{Ready}
-use Rattle.ranked.specs.Words.{total, solidIn, Held}
-use Rattle.ranked.specs.Store.{parsedOf, shapeOf, lowOf, said, Kept}
+use Rattle.ranked.specs.Words.{listsOf, absIn}
+use Rattle.ranked.specs.Store.{parsedOf, shapeOf, said, Kept}
 use Rattle.ranked.specs.Preflight.{verdictOf, unreadyOf, readyOf, checksOf, Placed, Settled, Preflighted}
 use Rattle.ranked.proofs.store.Reading.{allowed}
 use Rattle.ranked.proofs.store.Whole.{room-in}
@@ -125,54 +125,39 @@ module _ (b : List ℕ) (p : Parsed) (e : readSheet b ≡ passed p) where
     unfolding roomy
     room-is n m = rw (eh, ← elements-is b p e, ← entries-is b p e)
 
-    pub header-said : (h .rank ≡ p .rank) × (h .dimension ≡ p .dimension) × (take (h .rank - 1) (h .counts) ≡ p .counts)
+    pub header-said : (h .rank ≡ p .rank) × (h .dimension ≡ p .dimension) × (take (h .rank - 1) (h .counts) ≡ p .counts) × (h .entries ≡ entries (solidOf p))
     unfolding headerOf padded
     header-said =
-        rw eh (refl, refl, rw (← allowed b p e .counted) (take-append-seam (p .counts) (replicate (proper - length (p .counts)) 0)))
+        rw eh (refl, refl, rw (← allowed b p e .counted) (take-append-seam (p .counts) (replicate (proper - length (p .counts)) 0)), sym (entries-is b p e))
 
     -- ---- the stored solid
 
     module _ {sh : Shape} {ws : List ℕ} {fs : List Float} (k : Kept p sh ws fs) where
-      pub low-asked : (sh .rank ≤ maxRank) × (total sh < 2 ^ 32) × (h .entries < 2 ^ 32)
-      low-asked = (k .held .tall, omega (arith, k .small), header-fits .1)
+      pub low-length : sh .low ≡ length (listsOf sh ws)
+      low-length = sym (length-take-le (sh .low) ws (k .words-in))
 
-      module _ (low : ℕ) (el : low ≡ lowOf sh (h .entries)) where
-        low-is : low ≡ lowOf sh (entries (solidOf p))
-        low-is = el ∙ ap (lowOf sh) (ap (λ (z : Header). z .entries) eh ∙ sym (entries-is b p e))
+      module _ (v : Verdict) (ev : v ≡ checksOf (absIn sh (listsOf sh ws))) where
+        checks-are : checksOf (solidOf p) ≡ v
+        checks-are = sym (ev ∙ ap checksOf (k .solid))
 
-        pub low-in : low ≤ length ws
-        low-in = rw low-is (k .words-in)
+        pub settled : v ≡ Accepted → Settled p (record { verdict = v; shape = sh }) ws fs
+        settled a = record {
+          unready = λ why q. absurd (not-both why (sym q ∙ checks-are ∙ a));
+          verdict = sym checks-are;
+          kept = λ q. k;
+        }
 
-        pub low-length : low ≡ length (take low ws)
-        low-length = sym (length-take-le low ws low-in)
-
-        pub held-low : Held sh (take low ws)
-        held-low = rw low-is (k .held)
-
-        module _ (v : Verdict) (ev : v ≡ checksOf (solidIn sh (take low ws))) where
-          checks-are : checksOf (solidOf p) ≡ v
-          checks-are = sym (ev ∙ ap checksOf (rw low-is (k .solid)))
-
-          pub settled : v ≡ Accepted → Settled p (record { verdict = v; shape = sh; low = low }) ws fs
-          settled a = record {
-            unready = λ why q. absurd (not-both why (sym q ∙ checks-are ∙ a));
-            verdict = sym checks-are;
-            kept = λ q. k;
-            low = λ q. low-is;
-          }
-
-          pub unsettled : (why : Refusal) → v ≡ Refused why → (r : Ready) → r ≡ unreadyOf why → Settled p r ws fs
-          unsettled why a r er = record {
-            unready = λ other q. er ∙ ap unreadyOf (which why other (sym a ∙ sym checks-are ∙ q));
-            verdict = ap (λ (x : Ready). x .verdict) er ∙ sym (checks-are ∙ a);
-            kept = λ q. absurd (not-both why (sym a ∙ sym checks-are ∙ q));
-            low = λ q. absurd (not-both why (sym a ∙ sym checks-are ∙ q));
-          }
+        pub unsettled : (why : Refusal) → v ≡ Refused why → (r : Ready) → r ≡ unreadyOf why → Settled p r ws fs
+        unsettled why a r er = record {
+          unready = λ other q. er ∙ ap unreadyOf (which why other (sym a ∙ sym checks-are ∙ q));
+          verdict = ap (λ (x : Ready). x .verdict) er ∙ sym (checks-are ∙ a);
+          kept = λ q. absurd (not-both why (sym a ∙ sym checks-are ∙ q));
+        }
 
 -- ---- the whole answer
 
-ready-is : (r : Ready) {v : Verdict} {h : Shape} {n : ℕ} → r .verdict ≡ v → r .shape ≡ h → r .low ≡ n → r ≡ record { verdict = v; shape = h; low = n }
-ready-is r x y z = rw (← x, ← y, ← z)
+ready-is : (r : Ready) {v : Verdict} {h : Shape} → r .verdict ≡ v → r .shape ≡ h → r ≡ record { verdict = v; shape = h }
+ready-is r x y = rw (← x, ← y)
 
 module _ (b : List ℕ) (n m : ℕ) (r : Ready) (ws : List ℕ) (fs : List Float) (same-words : length ws ≡ n) (same-floats : length fs ≡ m) where
   -- A refusal.
@@ -203,12 +188,12 @@ module _ (b : List ℕ) (n m : ℕ) (r : Ready) (ws : List ℕ) (fs : List Float
     unfolding verdictOf readyOf
     settled-in q z = from (rw (← parsed-is b p e) at z)
       where
-        place : Passed b (said p) → Kept p (r .shape) ws fs → r .low ≡ lowOf (r .shape) (entries (solidOf p)) → Placed (said p) (r .shape) (r .low) ws fs
-        place v k low = record {
+        place : Passed b (said p) → Kept p (r .shape) ws fs → Placed (said p) (r .shape) ws fs
+        place v k = record {
           bench = record {
-            held = rw low (k .held);
-            low-is = rw here low;
-            words-in = rw low (k .words-in);
+            held = k .held;
+            low-is = rw here (k .low);
+            words-in = k .words-in;
             stored = rw here (k .stored);
             subs-alone = rw here (k .subs-alone);
             joined = rw here (v .joined);
@@ -219,8 +204,8 @@ module _ (b : List ℕ) (n m : ℕ) (r : Ready) (ws : List ℕ) (fs : List Float
           is = rw (here, k .dimension, k .points, ← v .points) (ap (λ (x : List (List Float)). record { dimension = p .dimension; points = x; abs = solidOf p }) (parts-join (p .dimension) (p .points) (λ x k. v .coordinates x k .0)));
         }
           where
-            here : solidIn (r .shape) (take (r .low) ws) ≡ solidOf p
-            here = rw low (k .solid)
+            here : absIn (r .shape) (listsOf (r .shape) ws) ≡ solidOf p
+            here = k .solid
 
             space : (16 * (elements (solidOf p) + entries (solidOf p) + 4) ≤ n) × (8 * (elements (solidOf p) + 8) ≤ m)
             space = room-in (solidOf p) n m (sym room ∙ q)
@@ -232,7 +217,7 @@ module _ (b : List ℕ) (n m : ℕ) (r : Ready) (ws : List ℕ) (fs : List Float
           lengths = (same-words, same-floats);
           placed = λ c k.
               let a = passes c k in
-              rw (← accepted b n m p e c k) (place (rw (← accepted b n m p e c k) at (every-passed b n m c k)) (z .kept a) (z .low a));
+              rw (← accepted b n m p e c k) (place (rw (← accepted b n m p e c k) at (every-passed b n m c k)) (z .kept a));
         }
           where
             checks : verdictOf (preflight b n m) ≡ checksOf (solidOf p)
@@ -246,7 +231,7 @@ module _ (b : List ℕ) (n m : ℕ) (r : Ready) (ws : List ℕ) (fs : List Float
             go (passed c) k =
                 let a = passes c k in
                 let f = z .kept a .shape in
-                rw (← accepted b n m p e c k) (ready-is r (z .verdict ∙ a) f (z .low a ∙ ap (λ (h : Shape). lowOf h (entries (solidOf p))) f))
+                rw (← accepted b n m p e c k) (ready-is r (z .verdict ∙ a) f)
 
 -- What storing asks.
 pub asked : (b : List ℕ) (n m : ℕ) (p : Parsed) (e : readSheet b ≡ passed p) (h : Header) (eh : h ≡ headerOf p) (t : Bool)

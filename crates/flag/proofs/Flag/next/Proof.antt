@@ -6,7 +6,7 @@ use mathlib.Core.Path.{_≡_, ap}
 use Prim.Native.Nat.{suc, _-_, _≤_}
 use lib.ListN.{getD, take}
 use Rattle.spec.specs.Flags.{flagsTo}
-use Rattle.ranked.specs.Words.{solidIn}
+use Rattle.ranked.specs.Words.{absIn}
 use Rattle.flag.specs.Reading.{moreOf}
 use Rattle.flag.proofs.Order.{Last}
 use Rattle.flag.proofs.Iterate.{ended-first, ended-next, above-in, follows-yes, follows-no}
@@ -14,7 +14,7 @@ use Rattle.flag.proofs.Flag.next.Statement.{statement}
 use Rattle.flag.proofs.Flag.next.Tie as tie
 
 abbrev Inv : tie.InvT-loop
-Inv w sh elements rank r₀ r = (r ≤ rank) × Last (take (suc r) elements) (flagsTo (solidIn sh w) r (getD elements r 0))
+Inv w sh elements rank r₀ r = (r ≤ rank) × Last (take (suc r) elements) (flagsTo (absIn sh w) r (getD elements r 0))
 
 abbrev μ : tie.MeasureT-loop
 μ w sh elements rank r₀ r = rank - r

@@ -7,14 +7,14 @@ use Rattle.spec.specs.Matrix.{inverse}
 use Rattle.spec.specs.Flags.{IsFlag}
 use Rattle.spec.specs.Search.{flagColumns}
 use Rattle.spec.proofs.FlagList.{every-first}
-use Rattle.ranked.specs.Words.{solidIn}
+use Rattle.ranked.specs.Words.{absIn}
 use Rattle.distances.specs.Solids.{solidOn}
 use Rattle.flag.specs.Reading.{flagIn}
 use Rattle.search.proofs.judging.first_inverse.Statement.{statement}
 use Rattle.search.proofs.judging.first_inverse.Tie as tie
 
 -- The first flag is one.
-is-flag : (c : tie.After-first) → let s = c .before .before .before in IsFlag (solidIn (s .args .sh) (s .args .w .now)) (flagIn (s .args .sh .rank) (c .first .result))
+is-flag : (c : tie.After-first) → let s = c .before .before .before in IsFlag (absIn (s .args .sh) (s .args .w .now)) (flagIn (s .args .sh .rank) (c .first .result))
 is-flag c = let s = c .before .before .before in rw (c .first .ensures) (every-first _ (s .pre .0 .sound) (s .pre .0 .filled) .0)
 
 pub first-inverse-spec : {M : Type 1} → statement M

@@ -14,7 +14,7 @@ use borrow.Rule.Slice.PartMut.{putMid, same-len-mid}
 use Rattle.spec.specs.Limits.{maxDimension, maxCount}
 use Rattle.spec.specs.Flags.{Flag, IsFlag}
 use Rattle.lookup.specs.Points.{Lone}
-use Rattle.ranked.specs.Words.{solidIn}
+use Rattle.ranked.specs.Words.{absIn}
 use Rattle.ranked.specs.Bench.{solidAt}
 use Rattle.flag.specs.Reading.{flagIn, moreOf}
 use Rattle.flag.proofs.Numbered.{nth-first, nth-flag}
@@ -28,11 +28,11 @@ use Rattle.symmetry.proofs.listing.list_members.Tie as tie
 abbrev Inv : tie.InvT-loop
 Inv words low sh at floats inv rotations room matrices₀ rows₀ first d v lone places flag₀ n₀ matrices rows flag n =
     (length matrices ≡ length matrices₀) × (length rows ≡ length rows₀)
-    × Turn (solidIn sh (take low words)) (flagIn (sh .rank) flag) (Tally sh low words floats inv rotations room (sh .dimension) v matrices₀ matrices rows₀ rows n)
+    × Turn (absIn sh (take low words)) (flagIn (sh .rank) flag) (Tally sh low words floats inv rotations room (sh .dimension) v matrices₀ matrices rows₀ rows n)
 
 abbrev μ : tie.MeasureT-loop
 μ words low sh at floats inv rotations room matrices₀ rows₀ first d v lone places flag₀ n₀ matrices rows flag n =
-    toCome (solidIn sh (take low words)) (flagIn (sh .rank) flag)
+    toCome (absIn sh (take low words)) (flagIn (sh .rank) flag)
 
 abbrev start : tie.At-loop Inv μ → tie.Start Inv μ
 start c = c .before .before .before .before .before .before .before .before .before .before
@@ -69,7 +69,7 @@ loop-holds c =
     let a = s .args in (
       refl,
       refl,
-      turn-first (solidIn (a .sh) (take (a .low) (a .words .now))) _ (flagIn (a .sh .rank) (v .before .first .result))
+      turn-first (absIn (a .sh) (take (a .low) (a .words .now))) _ (flagIn (a .sh .rank) (v .before .first .result))
           (nth-first (a .sh) (take (a .low) (a .words .now)) (s .pre .bench .held) _ (v .before .first .ensures))
           (tally-first (s .pre) (a .inv) (tall s) (a .rotations) (a .room) (v .vertex-count .result) (v .vertex-count .ensures) (a .matrices .now) (a .rows .now)),
     )
@@ -126,7 +126,7 @@ part-try-flag-start-2 : tie.Need-part-try-flag-start-2 Inv μ
 part-try-flag-start-2 c = omega (arith, within (c .before .before) .1)
 
 -- The flag is one.
-is-flag : (l : tie.At-loop Inv μ) → let a = start l .args in IsFlag (solidIn (a .sh) (take (a .low) (a .words .now))) (flag l)
+is-flag : (l : tie.At-loop Inv μ) → let a = start l .args in IsFlag (absIn (a .sh) (take (a .low) (a .words .now))) (flag l)
 is-flag l =
     let s = start l in
     nth-flag (s .args .sh) (take (s .args .low) (s .args .words .now)) (s .pre .bench .held) (flag l) (l .loop .inv .2 .from) (l .loop .inv .2 .flag)

@@ -6,7 +6,7 @@ use Prim.Native.Nat.{_*_, _≤_}
 use lib.ListN.{length, take}
 use Rattle.spec.specs.Types.{typeCount}
 use Rattle.spec.specs.Calls.{TypesOut}
-use Rattle.ranked.specs.Words.{solidIn}
+use Rattle.ranked.specs.Words.{absIn}
 use Rattle.distances.specs.Solids.{proper}
 use Rattle.distances.proofs.Room.{proper-is}
 use Rattle.element_types.specs.State.{stateIn}
@@ -22,7 +22,7 @@ old s = record { elements = s .args .of .now; types = s .args .table .now }
 room : (c : tie.Else2)
     → let s = c .before .before .before .before .before .before .before in
     let a = s .args in
-    (proper (a .sh) ≤ length (a .of .now)) × (4 * typeCount (solidIn (a .sh) (take (a .low) (a .words .now))) (stateIn (a .sh) (a .low) (a .words .now)) ≤ length (a .table .now))
+    (proper (a .sh) ≤ length (a .of .now)) × (4 * typeCount (absIn (a .sh) (take (a .low) (a .words .now))) (stateIn (a .sh) (a .low) (a .words .now)) ≤ length (a .table .now))
 room c =
     let p = c .before .before in
     (omega (arith, c .before .if1 .left, p .proper-count .ensures), omega (arith, c .if2 .left, p .before .type-count .ensures))

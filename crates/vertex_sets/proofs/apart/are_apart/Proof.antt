@@ -8,14 +8,14 @@ use lib.ListN.{take}
 use Rattle.spec.specs.Lists.{eqList}
 use Rattle.spec.specs.Types.{top, properRanks}
 use Rattle.spec.specs.Mark.{noRepeats, vertexSets}
-use Rattle.ranked.specs.Words.{solidIn}
+use Rattle.ranked.specs.Words.{absIn}
 use Rattle.ranked.proofs.Solids.{top-is}
 use Rattle.vertex_sets.proofs.Ranks.{Passed, passed-none, passed-yes, passed-no, passed-all}
 use Rattle.vertex_sets.proofs.apart.are_apart.Statement.{statement}
 use Rattle.vertex_sets.proofs.apart.are_apart.Tie as tie
 
 abbrev Inv : tie.InvT-loop
-Inv words low sh at rank r₀ r = Passed (λ q. noRepeats eqList (vertexSets (solidIn sh (take low words)) q)) 1 (top (solidIn sh (take low words)) - 1) r
+Inv words low sh at rank r₀ r = Passed (λ q. noRepeats eqList (vertexSets (absIn sh (take low words)) q)) 1 (top (absIn sh (take low words)) - 1) r
 
 abbrev μ : tie.MeasureT-loop
 μ words low sh at rank r₀ r = rank - r

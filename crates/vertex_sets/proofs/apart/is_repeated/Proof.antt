@@ -9,7 +9,7 @@ use native.Mathlib.Numerals.{add-one}
 use lib.ListN.{take, drop}
 use Rattle.spec.specs.Lists.{holds, eqList}
 use Rattle.spec.specs.Mark.{vertexSets}
-use Rattle.ranked.specs.Words.{solidIn}
+use Rattle.ranked.specs.Words.{absIn}
 use Rattle.vertex_sets.proofs.Sets.{listed, list-long, list-few}
 use Rattle.vertex_sets.proofs.Looks.{front-long, can-list}
 use Rattle.vertex_sets.proofs.apart.is_repeated.Statement.{statement}
@@ -26,12 +26,12 @@ is-repeated-spec =
     -- slice-aggregate-print-of, print-of-requires
     (λ c. search needs)
     (λ c κs. let v = c .before .before in let s = v .before .before .before .before in let a = s .args in
-    (list-long (solidIn (a .sh) (take (a .low) (a .words .now))) (a .r) (a .e) _ _ _ (v .vertex-list .ensures), le-trans (list-few (solidIn (a .sh) (take (a .low) (a .words .now))) (a .r) (a .e) _ _ _ (v .vertex-list .ensures)) (can-list (s .pre .0 .held) _ _ (s .pre .1) .1)))
+    (list-long (absIn (a .sh) (take (a .low) (a .words .now))) (a .r) (a .e) _ _ _ (v .vertex-list .ensures), le-trans (list-few (absIn (a .sh) (take (a .low) (a .words .now))) (a .r) (a .e) _ _ _ (v .vertex-list .ensures)) (can-list (s .pre .0 .held) _ _ (s .pre .1) .1)))
     -- add-is-found, slice-aggregate-is-found, is-found-requires, returns
     (λ c. let s = c .before .before .before .before .before .before .before in omega (arith, s .pre .1 .inside, s .pre .0 .held .few (s .args .r) (omega (arith, s .pre .1 .high))))
     (λ c. search needs)
     (λ c κs. let v = c .before .before .before .before in let s = v .before .before .before .before in let a = s .args in
-    (s .pre .0, ((s .pre .1 .low, s .pre .1 .high, omega (arith, s .pre .1 .inside)), (list-long (solidIn (a .sh) (take (a .low) (a .words .now))) (a .r) (a .e) _ _ _ (v .vertex-list .ensures), c .before .print-of .ensures))))
+    (s .pre .0, ((s .pre .1 .low, s .pre .1 .high, omega (arith, s .pre .1 .inside)), (list-long (absIn (a .sh) (take (a .low) (a .words .now))) (a .r) (a .e) _ _ _ (v .vertex-list .ensures), c .before .print-of .ensures))))
     (λ c. let v = c .before .before .before .before .before in let s = v .before .before .before .before in let a = s .args in
     c .is-found .ensures
-    ∙ ap₂ (λ (l : List ℕ) (i : ℕ). holds eqList l (drop i (vertexSets (solidIn (a .sh) (take (a .low) (a .words .now))) (a .r)))) (listed (solidIn (a .sh) (take (a .low) (a .words .now))) (a .r) (a .e) _ _ _ (v .vertex-list .ensures)) (add-one (a .e))))
+    ∙ ap₂ (λ (l : List ℕ) (i : ℕ). holds eqList l (drop i (vertexSets (absIn (a .sh) (take (a .low) (a .words .now))) (a .r)))) (listed (absIn (a .sh) (take (a .low) (a .words .now))) (a .r) (a .e) _ _ _ (v .vertex-list .ensures)) (add-one (a .e))))

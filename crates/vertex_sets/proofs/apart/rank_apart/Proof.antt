@@ -5,14 +5,14 @@ use mathlib.Core.Path.{_≡_, refl, sym, _∙_}
 use Prim.Native.Nat.{_-_}
 use lib.ListN.{take}
 use Rattle.spec.specs.Types.{size}
-use Rattle.ranked.specs.Words.{solidIn}
+use Rattle.ranked.specs.Words.{absIn}
 use Rattle.vertex_sets.proofs.Sets.{Alone, alone-yes, alone-no, alone-end}
 use Rattle.vertex_sets.proofs.Looks.{ranks-fit, many-is, few-here, element}
 use Rattle.vertex_sets.proofs.apart.rank_apart.Statement.{statement}
 use Rattle.vertex_sets.proofs.apart.rank_apart.Tie as tie
 
 abbrev Inv : tie.InvT-loop
-Inv words low at r sh many e₀ e = (many ≡ size (solidIn sh (take low words)) r) × Alone (solidIn sh (take low words)) r e
+Inv words low at r sh many e₀ e = (many ≡ size (absIn sh (take low words)) r) × Alone (absIn sh (take low words)) r e
 
 abbrev μ : tie.MeasureT-loop
 μ words low at r sh many e₀ e = many - e

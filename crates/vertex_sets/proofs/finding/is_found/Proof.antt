@@ -6,7 +6,7 @@ use mathlib.Core.Path.{_≡_, refl, sym, _∙_}
 use Prim.Native.Nat.{_-_}
 use lib.ListN.{take}
 use Rattle.spec.specs.Types.{size}
-use Rattle.ranked.specs.Words.{solidIn}
+use Rattle.ranked.specs.Words.{absIn}
 use Rattle.vertex_sets.proofs.Sets.{Sought, sought-yes, sought-no, sought-end}
 use Rattle.vertex_sets.proofs.Looks.{ranks-fit, many-is, few-here, element, front-long, print-in, print-differs}
 use Rattle.vertex_sets.proofs.finding.is_found.Statement.{statement}
@@ -14,7 +14,7 @@ use Rattle.vertex_sets.proofs.finding.is_found.Tie as tie
 
 abbrev Inv : tie.InvT-loop
 Inv words low at r from list n p sh first many e₀ e =
-    (many ≡ size (solidIn sh (take low words)) r) × Sought (solidIn sh (take low words)) r (take n list) from e
+    (many ≡ size (absIn sh (take low words)) r) × Sought (absIn sh (take low words)) r (take n list) from e
 
 abbrev μ : tie.MeasureT-loop
 μ words low at r from list n p sh first many e₀ e = many - e

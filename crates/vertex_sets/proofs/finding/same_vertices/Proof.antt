@@ -2,7 +2,7 @@
 -- Assumes nothing.
 use borrow.Author.Needs.{needs}
 use native.Mathlib.Omega.{arith}
-use Rattle.ranked.specs.Words.{solidIn}
+use Rattle.ranked.specs.Words.{absIn}
 use Rattle.vertex_sets.proofs.Sets.{list-long}
 use Rattle.vertex_sets.proofs.Looks.{can-list, lengths-part, compared}
 use Rattle.vertex_sets.proofs.finding.same_vertices.Statement.{statement}
@@ -17,10 +17,10 @@ same-vertices-spec =
     (λ c κs. let s = c .before .before .before in (s .pre .0, can-list (s .pre .0) _ _ (s .pre .1 .0)))
     -- The need is returns.
     (λ c. let v = c .before .before in let s = v .before .before .before .before in let a = s .args in
-    lengths-part (solidIn (a .sh) (a .w .now)) (a .r) (a .e) _ _ _ (v .vertex-list .ensures) _ _ (s .pre .1 .1) (c .if1 .taken))
+    lengths-part (absIn (a .sh) (a .w .now)) (a .r) (a .e) _ _ _ (v .vertex-list .ensures) _ _ (s .pre .1 .1) (c .if1 .taken))
     -- The needs are slice-aggregate-same-list, same-list-requires and returns-2.
     (λ c. search needs)
     (λ c κs. let v = c .before .before .before in let s = v .before .before .before .before in let a = s .args in
-    (rw (c .before .if1 .left) at (list-long (solidIn (a .sh) (a .w .now)) (a .r) (a .e) _ _ _ (v .vertex-list .ensures)), s .pre .1 .1))
+    (rw (c .before .if1 .left) at (list-long (absIn (a .sh) (a .w .now)) (a .r) (a .e) _ _ _ (v .vertex-list .ensures)), s .pre .1 .1))
     (λ c. let v = c .before .before .before .before in let s = v .before .before .before .before in let a = s .args in
-    compared (solidIn (a .sh) (a .w .now)) (a .r) (a .e) _ _ _ (v .vertex-list .ensures) _ _ (s .pre .1 .1) (c .before .before .if1 .left) _ (c .same-list .ensures)))
+    compared (absIn (a .sh) (a .w .now)) (a .r) (a .e) _ _ _ (v .vertex-list .ensures) _ _ (s .pre .1 .1) (c .before .before .if1 .left) _ (c .same-list .ensures)))

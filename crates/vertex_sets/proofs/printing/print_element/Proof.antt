@@ -3,7 +3,7 @@ use borrow.Author.Needs.{needs}
 use native.Mathlib.Omega.{arith}
 use native.Mathlib.Nat.{le-trans}
 use mathlib.Core.Path.{ap, _∙_}
-use Rattle.ranked.specs.Words.{solidIn}
+use Rattle.ranked.specs.Words.{absIn}
 use Rattle.vertex_sets.specs.Prints.{printOf}
 use Rattle.vertex_sets.proofs.Sets.{listed, list-long, list-few}
 use Rattle.vertex_sets.proofs.Looks.{can-list}
@@ -21,8 +21,8 @@ print-element-spec =
     -- slice-aggregate-print-of, print-of-requires, cast-result, returns
     (λ c. search needs)
     (λ c κs. let v = c .before .before in let s = v .before .before .before in let a = s .args in
-    (list-long (solidIn (a .sh) (a .w .now)) (a .r) (a .e) _ _ _ (v .vertex-list .ensures), le-trans (list-few (solidIn (a .sh) (a .w .now)) (a .r) (a .e) _ _ _ (v .vertex-list .ensures)) (can-list (s .pre .0) _ _ (s .pre .1) .1)))
+    (list-long (absIn (a .sh) (a .w .now)) (a .r) (a .e) _ _ _ (v .vertex-list .ensures), le-trans (list-few (absIn (a .sh) (a .w .now)) (a .r) (a .e) _ _ _ (v .vertex-list .ensures)) (can-list (s .pre .0) _ _ (s .pre .1) .1)))
     (λ c. let v = c .before .before .before in let s = v .before .before .before in let a = s .args in
-    omega (arith, c .print-of .ensures ∙ ap printOf (listed (solidIn (a .sh) (a .w .now)) (a .r) (a .e) _ _ _ (v .vertex-list .ensures)), print-fits (solidIn (a .sh) (a .w .now)) (a .r) (a .e) (can-list (s .pre .0) _ _ (s .pre .1) .1)))
+    omega (arith, c .print-of .ensures ∙ ap printOf (listed (absIn (a .sh) (a .w .now)) (a .r) (a .e) _ _ _ (v .vertex-list .ensures)), print-fits (absIn (a .sh) (a .w .now)) (a .r) (a .e) (can-list (s .pre .0) _ _ (s .pre .1) .1)))
     (λ c. let v = c .before .before .before in let s = v .before .before .before in let a = s .args in
-    c .print-of .ensures ∙ ap printOf (listed (solidIn (a .sh) (a .w .now)) (a .r) (a .e) _ _ _ (v .vertex-list .ensures))))
+    c .print-of .ensures ∙ ap printOf (listed (absIn (a .sh) (a .w .now)) (a .r) (a .e) _ _ _ (v .vertex-list .ensures))))
