@@ -3,6 +3,12 @@
 
 use spec::MAX_COUNT;
 use spec::MAX_RANK;
+ghost use mathlib.Core.Path.{_≡_};
+ghost use Prim.Native.Nat.{suc, _+_, _*_, _^_, _≤_, _<_};
+ghost use lib.ListN.{length};
+ghost use Rattle.spec.specs.Limits.{maxRank};
+ghost use Rattle.ranked.specs.Words.{firstAt, sizeAt, total, listsOf};
+ghost use Rattle.ranked.specs.Layout.{proper, before, coordinates, classesAt, classAt, typesAt, scratchAt, fingerprintsAt};
 
 // How many ranks have a start: those from 0 to the greatest R, and the one above, at which the top rank ends.
 pub const STARTS: usize = MAX_RANK + 2;
@@ -20,6 +26,137 @@ pub struct Shape {
     pub first: [usize; STARTS],
     // How many words the solid takes with all its lists. Those behind them are free.
     pub low: usize,
+}
+
+impl Shape {
+    // Counts the elements that lie in the ranks below rank r. Element e of rank r has the number first + e over all ranks.
+    pub fn start(self, r: usize) -> usize
+        requires { ⌜ r ≤ suc maxRank ⌝ }
+        ensures { λ n. ⌜ n ≡ firstAt self r ⌝ }
+    {
+        self.first[r]
+    }
+
+    // Counts the elements of all ranks, the least and the top among them.
+    pub fn elements(self) -> usize
+        requires { ⌜ self .rank ≤ maxRank ⌝ }
+        ensures { λ n. ⌜ n ≡ total self ⌝ }
+    {
+        self.first[self.rank + 1]
+    }
+
+    // Counts the elements of rank r.
+    pub fn size(self, r: usize) -> usize
+        requires { ⌜ (r ≤ maxRank) × (firstAt self r ≤ firstAt self (suc r)) ⌝ }
+        ensures { λ n. ⌜ n ≡ sizeAt self r ⌝ }
+    {
+        self.first[r + 1] - self.first[r]
+    }
+
+    // Counts the proper elements: "E counts proper elements". Where R = 0 the top stands first, and there are none.
+    pub fn proper(self) -> usize
+        requires { ⌜ self .rank ≤ maxRank ⌝ }
+        ensures { λ n. ⌜ n ≡ proper self ⌝ }
+    {
+        let end = self.first[self.rank];
+        let start = self.first[1];
+        if end < start {
+            return 0;
+        }
+        end - start
+    }
+
+    // Counts the vertices, of which there are none where R = 0.
+    pub fn vertices(self) -> usize
+        ensures { λ n. ⌜ n ≡ sizeAt self 1 ⌝ }
+    {
+        let end = self.first[2];
+        let start = self.first[1];
+        if end < start {
+            return 0;
+        }
+        end - start
+    }
+
+    // Returns the part of the words that holds the solid's lists.
+    pub fn lists(self, words: &[u32]) -> &[u32]
+        requires { ⌜ self .low ≤ length (now words) ⌝ }
+        ensures { λ r. ⌜ now r ≡ listsOf self (now (words .entry)) ⌝ }
+    {
+        &words[..self.low]
+    }
+
+    // Returns the word that says where the list of the subs of element e of rank r starts. The next word is its length.
+    pub fn subs(self, r: usize, e: usize) -> usize
+        requires { ⌜ (r ≤ suc maxRank) × (4 * (firstAt self r + e) < 2 ^ 64) ⌝ }
+        ensures { λ n. ⌜ n ≡ 4 * (firstAt self r + e) ⌝ }
+    {
+        4 * (self.first[r] + e)
+    }
+
+    // Returns the same word for the list of its sups.
+    pub fn sups(self, r: usize, e: usize) -> usize
+        requires { ⌜ (r ≤ suc maxRank) × (4 * (firstAt self r + e) + 2 < 2 ^ 64) ⌝ }
+        ensures { λ n. ⌜ n ≡ 4 * (firstAt self r + e) + 2 ⌝ }
+    {
+        4 * (self.first[r] + e) + 2
+    }
+
+    // Returns the word from which on the types of the elements of rank r stand, one word for each.
+    pub fn types(self, r: usize) -> usize
+        requires { ⌜ (r ≤ suc maxRank) × (typesAt self r < 2 ^ 64) ⌝ }
+        ensures { λ n. ⌜ n ≡ typesAt self r ⌝ }
+    {
+        self.low + self.first[r]
+    }
+
+    // Returns the first word behind the types of all elements.
+    pub fn scratch(self) -> usize
+        requires { ⌜ (self .rank ≤ maxRank) × (scratchAt self < 2 ^ 64) ⌝ }
+        ensures { λ n. ⌜ n ≡ scratchAt self ⌝ }
+    {
+        self.low + self.elements()
+    }
+
+    // Returns the word from which on a search keeps the fingerprints of the elements of rank r, one word for each.
+    pub fn fingerprints(self, r: usize) -> usize
+        requires { ⌜ (self .rank ≤ maxRank) × (r ≤ suc maxRank) × (fingerprintsAt self r < 2 ^ 64) ⌝ }
+        ensures { λ n. ⌜ n ≡ fingerprintsAt self r ⌝ }
+    {
+        self.scratch() + self.start(r)
+    }
+
+    // Counts the floats that the vertices' coordinates take. The listed distances stand behind them.
+    pub fn coordinates(self) -> usize
+        requires { ⌜ coordinates self < 2 ^ 64 ⌝ }
+        ensures { λ n. ⌜ n ≡ coordinates self ⌝ }
+    {
+        self.vertices() * self.dimension
+    }
+
+    // Returns the float from which on the proper elements' distance classes stand, one float for each.
+    pub fn classes(self) -> usize
+        requires { ⌜ (self .rank ≤ maxRank) × (classesAt self < 2 ^ 64) ⌝ }
+        ensures { λ n. ⌜ n ≡ classesAt self ⌝ }
+    {
+        self.coordinates() + self.proper()
+    }
+
+    // Returns the place of the distance class of element e of rank r among the classes.
+    pub fn proper_number(self, r: usize, e: usize) -> usize
+        requires { ⌜ (r ≤ suc maxRank) × (firstAt self 1 ≤ firstAt self r) × (before self r + e < 2 ^ 64) ⌝ }
+        ensures { λ n. ⌜ n ≡ before self r + e ⌝ }
+    {
+        self.first[r] - self.first[1] + e
+    }
+
+    // Returns the float that holds the distance class of element e of rank r.
+    pub fn class(self, r: usize, e: usize) -> usize
+        requires { ⌜ (self .rank ≤ maxRank) × (r ≤ suc maxRank) × (firstAt self 1 ≤ firstAt self r) × (classAt self r e < 2 ^ 64) ⌝ }
+        ensures { λ n. ⌜ n ≡ classAt self r e ⌝ }
+    {
+        self.classes() + self.proper_number(r, e)
+    }
 }
 
 mod check;

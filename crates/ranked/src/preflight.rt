@@ -86,10 +86,7 @@ fn settle(sheet: &[u8], header: Header, words: &mut [u32], floats: &mut [f64]) -
     let verdict = checked(&words[..sh.low], sh);
     match verdict {
         Verdict::Refused(why) => unready(why),
-        Verdict::Accepted => Ready {
-            verdict,
-            shape: sh,
-        },
+        Verdict::Accepted => Ready { verdict, shape: sh },
     }
 }
 

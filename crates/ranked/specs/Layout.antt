@@ -1,0 +1,43 @@
+-- Where everything lies in the lent words and floats. The words hold the solid's lists, behind them the type of each element, and behind these
+-- what a step or a search needs for itself. The floats hold the vertices' coordinates, behind them the listed distances, of which there are at most as
+-- many as proper elements, and behind these the distance class of each proper element.
+-- Assumes nothing.
+use Prim.Native.Nat.{ℕ, _+_, _-_, _*_}
+use Rattle.ranked.specs.declared.Shape.{Shape}
+use Rattle.ranked.specs.Words.{firstAt, sizeAt, total}
+
+-- The number of proper elements, which are those from rank 1 on and below the top: "E counts proper elements".
+abbrev pub proper : Shape → ℕ
+proper sh = firstAt sh (sh .rank) - firstAt sh 1
+
+-- How many proper elements lie below rank r.
+abbrev pub before : Shape → ℕ → ℕ
+before sh r = firstAt sh r - firstAt sh 1
+
+-- ---- words
+
+-- The word from which on the types of rank r's elements stand.
+abbrev pub typesAt : Shape → ℕ → ℕ
+typesAt sh r = sh .low + firstAt sh r
+
+-- The first word behind the types.
+abbrev pub scratchAt : Shape → ℕ
+scratchAt sh = sh .low + total sh
+
+-- The word from which on the fingerprints of rank r's elements stand.
+abbrev pub fingerprintsAt : Shape → ℕ → ℕ
+fingerprintsAt sh r = scratchAt sh + firstAt sh r
+
+-- ---- floats
+
+-- How many floats the coordinates take.
+abbrev pub coordinates : Shape → ℕ
+coordinates sh = sizeAt sh 1 * sh .dimension
+
+-- The float from which on the classes stand.
+abbrev pub classesAt : Shape → ℕ
+classesAt sh = coordinates sh + proper sh
+
+-- The float that holds the class of element e of rank r.
+abbrev pub classAt : Shape → ℕ → ℕ → ℕ
+classAt sh r e = classesAt sh + (before sh r + e)
