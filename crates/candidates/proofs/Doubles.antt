@@ -1,4 +1,4 @@
--- No point is near a later one: what is left gives what the whole gives; and the later ones as the parts of what is left of the slice.
+-- No point is near a later one exactly if that holds of what is left, and the later points are the parts of what is left of the slice.
 -- Assumes nothing.
 use mathlib.Core.Path.{_≡_, refl, sym, ap, _∙_}
 use mathlib.Core.Bool.{Bool, true, false, not, _&&_}
@@ -22,7 +22,7 @@ use Rattle.float.proofs.Finding.{is-found, is-missing}
 -- ---- one point after another
 
 module _ (ps : List Vector) where
-  -- None before i is near a later one.
+  -- No point before i is near a later one.
   abbrev pub Apart : ℕ → Type 0
   Apart i = noRepeats near (drop i ps) ≡ noRepeats near ps
 
@@ -43,7 +43,7 @@ module _ (ps : List Vector) where
 
 -- ---- in the slice
 
--- The parts from part k on.
+-- The parts of what follows the first k parts are the parts from part k on.
 later : {A : Type 0} (k n d : ℕ) (l : List A) → parts n d (drop (k * d) l) ≡ drop k (parts (k + n) d l)
 unfolding parts
 later zero n d l = rw (zero-mul, zero-add) refl
@@ -61,7 +61,7 @@ module _ (n d i : ℕ) (l : List Float) (h : i < n) (f : n * d ≤ length l) whe
       go : (k : ℕ) → i + 1 + k ≡ n → k * d + (i + 1) * d ≡ n * d
       go k e = sym (native.Mathlib.Nat.add-mul k (i + 1) d) ∙ ap (λ (x : ℕ). x * d) (omega arith)
 
-  -- What is left of the slice.
+  -- This is what is left of the slice.
   abbrev rest : List Float
   rest = take (length l - (i + 1) * d) (drop ((i + 1) * d) l)
 
@@ -77,7 +77,7 @@ module _ (n d i : ℕ) (l : List Float) (h : i < n) (f : n * d ≤ length l) whe
       go : (k : ℕ) → suc i + k ≡ n → parts k d (drop ((i + 1) * d) l) ≡ drop (suc i) (parts n d l)
       go k e = rw (add-one i) (later (suc i) k d l ∙ ap (λ (x : ℕ). drop (suc i) (parts x d l)) e)
 
-  -- What the code answers where it looks for point i among the later ones.
+  -- The code's answer for point i among the later ones is that of `find`.
   module _ (q : Vector) (is : take d q ≡ take d (drop (i * d) l)) (r : Found) (e : r ≡ foundAt (n - (i + 1)) (find (parts (n - (i + 1)) d rest) (take d q))) where
     same : foundAt (n - (i + 1)) (find (drop (suc i) (parts n d l)) (getD (parts n d l) i [])) ≡ r
     same =

@@ -1,4 +1,4 @@
--- Finite entries: what is left of a row, or of the rows, gives what the whole gives.
+-- A loop over finite entries keeps that what is left of a row, or of the rows, gives what the whole gives.
 -- Assumes nothing.
 use mathlib.Core.Path.{_≡_, refl}
 use mathlib.Core.Bool.{false}
@@ -11,14 +11,14 @@ use Rattle.spec.specs.Matrix.{row}
 use Rattle.float.specs.Reading.{corner, leading}
 use Rattle.float.proofs.Leading.{row-leading}
 
--- A magnitude below infinity.
+-- A float is finite exactly if its magnitude is below infinity.
 pub below-infinity : (x : Float) → lt (absF x) (inf false) ≡ finite x
 unfolding lt absF finite
 below-infinity nan = refl
 below-infinity (inf s) = refl
 below-infinity (fin s m e) = refl
 
--- row i of a corner
+-- Row i of a corner is the start of row i of the matrix.
 pub row-corner : (d : ℕ) (m : List (List Float)) (i : ℕ) → i < d → row (corner d m) i ≡ take d (getD m i [])
 unfolding corner leading
 row-corner d m i h = row-leading d d m i h

@@ -1,4 +1,4 @@
--- Rounds of changes, and the vertices that they give.
+-- This file follows the rounds of changes and the vertices that they give.
 -- Assumes nothing.
 use mathlib.Core.Path.{_≡_, refl, sym, ap, _∙_}
 use mathlib.Core.Bool.{true}
@@ -32,7 +32,7 @@ use Rattle.candidates.specs.Post.{Turned}
 
 -- ---- a round
 
--- ranks 1 to r - 1 are changed, and what is left gives what the whole gives
+-- Ranks 1 to r - 1 are changed, and what is left gives what the whole gives.
 pub record Turning (s : Solid) (F G : Flag) (r : ℕ) : Type 0 where
   pub low : 1 ≤ r
   pub high : r ≤ top s
@@ -62,7 +62,7 @@ module _ (s : Solid) (F : Flag) where
 
 -- ---- the vertices
 
--- F after n rounds
+-- This is what F becomes after n rounds.
 unfoldable pub rounds : Solid → ℕ → Flag → Flag
 rounds s zero F = F
 rounds s (suc n) F = changes s (properRanks s) (rounds s n F)
@@ -74,7 +74,7 @@ walk-from s F (suc n) k = ap (λ (l : List ℕ). elementAt (rounds s k F) 1 ∷ 
 
 -- ---- the columns
 
--- G is F after i - 1 rounds, and the first i rows hold the vertices so far
+-- The flag G is F after i - 1 rounds, and the first i rows hold the vertices so far.
 pub record Walking (sh : Shape) (w : List ℕ) (fl : List Float) (F G : Flag) (old rows : List (List Float)) (i : ℕ) : Type 0 where
   pub low : 1 ≤ i
   pub high : 0 < sh .dimension → i ≤ sh .dimension

@@ -1,4 +1,4 @@
--- A row that is written from its first cell on, until an image is not among the vertices.
+-- A row is written from its first cell on, until an image is not among the vertices.
 -- Assumes nothing.
 use mathlib.Core.Path.{_≡_, refl, sym, ap, _∙_}
 use mathlib.Core.Bool.{true, false, false≢true}
@@ -22,12 +22,12 @@ use Rattle.float.specs.Finding.{foundAt}
 use Rattle.float.proofs.Finding.{at-number, nothing-number}
 use Rattle.candidates.specs.Post.{Rowed}
 
--- The vertex that vertex i goes to.
+-- This is the vertex that vertex i goes to.
 abbrev pub imageOf : List Vector → Matrix → ℕ → ℕ
 imageOf ps m i = find ps (mulVec m (getD ps i []))
 
 module _ (n : ℕ) (ps : List Vector) (m : Matrix) (all : length ps ≡ n) where
-  -- k cells are written, and their images are found
+  -- The first k cells are written, and their images are found.
   pub record Rowing (old cells : List ℕ) (k : ℕ) : Type 0 where
     pub low : k ≤ n
     pub written : Written (λ x. x) (imageOf ps m) old cells k
@@ -48,7 +48,7 @@ module _ (n : ℕ) (ps : List Vector) (m : Matrix) (all : length ps ≡ n) where
   pub row-none : (old : List ℕ) → Rowing old old 0
   row-none old = record { low = omega arith; written = none; found = refl }
 
-  -- What the code answers where it looks for the image of vertex k.
+  -- The code's answer for the image of vertex k is that of `find`.
   module _ (old cells : List ℕ) (k : ℕ) (r : Rowing old cells k) (more : k < n) (answer : Found) (e : answer ≡ foundAt n (imageOf ps m k)) where
     pub at-low : {at : ℕ} → answer ≡ At at → at < n
     at-low z = at-number (sym e ∙ z) .1

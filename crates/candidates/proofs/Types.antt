@@ -1,4 +1,4 @@
--- The types of a flag's elements, as they are read in the words.
+-- The types of a flag's elements are those that are read in the words.
 -- Assumes nothing.
 use mathlib.Core.Path.{_≡_, sym, ap, ap₂, _∙_}
 use mathlib.Core.Bool.{Bool}
@@ -21,7 +21,7 @@ use Rattle.element_types.specs.State.{typesIn, stateIn}
 use Rattle.flag.proofs.Flags.{flag-in}
 use Rattle.candidates.specs.Post.{typesAgree}
 
--- The code's test at rank r.
+-- This is the code's test at rank r.
 abbrev pub agree : List ℕ → ℕ → List ℕ → List ℕ → List ℕ → ℕ → Bool
 agree w low starts a b r = eqb (getD w (low + getD starts r 0 + getD a r 0) 0) (getD w (low + getD starts r 0 + getD b r 0) 0)
 
@@ -35,7 +35,7 @@ type-read sh low w r e h k =
 
 module _ (sh : Shape) (low : ℕ) (w : List ℕ) (h : Held sh (take low w)) (room : low + total sh ≤ length w) where
   module _ (els : List ℕ) (f : IsFlag (absIn sh (take low w)) (take (suc (sh .rank)) els)) (r : ℕ) (q : r ≤ sh .rank) where
-    -- The word of an element's type.
+    -- The word of an element's type lies within the words.
     pub word-in : low + firstAt sh r + getD els r 0 < length w
     word-in = omega (arith, number-in sh (take low w) h r (getD els r 0) q (flag-in sh (take low w) h els f r q))
 

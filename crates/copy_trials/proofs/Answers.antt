@@ -20,7 +20,7 @@ use Rattle.spec.specs.Copying.{copies, points, matrices, copyTable, written, ju
 abbrev Out : Type 0
 Out = Answer × List Float × List ℕ
 
--- By how many cells the output of rows has.
+-- This is the answer, as the number of cells in the output of rows decides it.
 abbrev answer : ℕ → List Matrix → List Vector → ℕ → Answer
 answer n ms cs k = elim (leb (length cs) n && leb (length ms * length cs) k) as (λ _. Answer) [
   | false ↦ Refused ShortSheet (length (take n cs))

@@ -14,7 +14,7 @@ use Rattle.spec.specs.Copying.{near, found, spread, copiesFrom, copies}
 use Rattle.spec.proofs.CopyLaws.{not-found, not-lower}
 use Rattle.lookup.specs.Points.{Apart}
 
--- One more, that is not found.
+-- The copies stay apart when one joins that is not found among them.
 joined : (cs : List Vector) (q : Vector) → Apart cs → found cs q ≡ false → Apart (cs ++ q ∷ [])
 joined cs q a e = record { apart = λ j k h l. go j k h l (ltb k (length cs)) refl }
   where

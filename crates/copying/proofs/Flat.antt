@@ -1,4 +1,4 @@
--- Matrices one after another, row by row: the floats of one, and a buffer that is filled with more and more of them.
+-- This file lays matrices out one after another, row by row: the floats of one, and a buffer that is filled with more and more of them.
 -- Assumes nothing.
 use mathlib.Core.Path.{_≡_, refl, sym, ap, ap₂, _∙_}
 use mathlib.Core.List.{List, [], _∷_, _++_, map, map-append, append-assoc, append-nil}
@@ -17,7 +17,7 @@ use Rattle.copying.proofs.Growth.{join-append}
 
 -- ---- one matrix
 
--- float i of those that count
+-- This is float i of the nine that count.
 abbrev pub floatAt : Matrix → ℕ → Float
 floatAt m i = getD (getD m (i / 3) []) (i % 3) nan
 
@@ -37,7 +37,7 @@ nine m h w =
 
 -- ---- a buffer with the first k
 
--- their floats
+-- These are the floats of a list of matrices, one matrix after another.
 abbrev pub floats : List Matrix → List Float
 floats t = join (join (map (corner 3) t))
 
@@ -86,7 +86,7 @@ module _ {t : List Matrix} {before : List Float} where
   pub laid-all : {buffer : List Float} {k : ℕ} → k ≡ length t → Laid t before buffer k → buffer ≡ floats t ++ drop (length t * 9) before
   laid-all {buffer} {k} e l = l .is ∙ ap₂ (λ (x : List Matrix) (y : ℕ). floats x ++ drop (y * 9) before) (take-all k t (omega arith)) e
 
--- A buffer that has no cell more.
+-- A buffer that has no more cells than the matrices holds nothing else afterwards.
 pub whole : (t : List Matrix) (before : List Float) → length before ≤ length t * 9 → floats t ++ drop (length t * 9) before ≡ floats t
 whole t before h = ap (λ (x : List Float). floats t ++ x) (drop-of-length-le before {i = length t * 9} h) ∙ append-nil (floats t)
 

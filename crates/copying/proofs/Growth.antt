@@ -1,4 +1,4 @@
--- The copies in a lent buffer: they grow at the end, so the cells that hold them are written over with themselves and what joins.
+-- The copies in a lent buffer grow at the end, so the cells that hold them are written over with themselves and what joins.
 -- Assumes nothing.
 use mathlib.Core.Path.{_≡_, refl, sym, ap, ap₂, _∙_}
 use mathlib.Core.Bool.{Bool, true, false}
@@ -47,7 +47,7 @@ pub record Grown (d limit : ℕ) (before buffer : List Float) (n : ℕ) : Type 0
   pub long : length buffer ≡ length before
   pub is : buffer ≡ written (join (parts n d buffer)) before
 
--- All, which begin with cs.
+-- The list `all` begins with cs.
 abbrev pub Longer : List Vector → List Vector → Type 0
 Longer cs all = (new : List Vector) × (all ≡ cs ++ new)
 
@@ -76,7 +76,7 @@ module _ {d limit : ℕ} {before : List Float} where
         let k : limit ≡ length cs + (limit - n) = omega (arith, length-parts n d buffer, g .room) in
         (take (limit - n) (new .0), ap (take limit) (new .1) ∙ ap (λ (x : ℕ). take x (cs ++ new .0)) k ∙ take-append-add cs (new .0) (limit - n))
 
-    -- Where these are more than there is room for, so are the whole.
+    -- Where these are more than there is room for, so is the whole.
     pub grown-full : {after : List Float} {whole : List Vector} → Longer all whole → Overfull limit all buffer after → Overfull limit whole before after
     grown-full more k =
         let cs = parts n d buffer in
@@ -200,7 +200,7 @@ pub copies-nothing : (ms : List Matrix) (cs : List Vector) → copiesFrom ms [] 
 unfolding copiesFrom
 copies-nothing ms cs = refl
 
--- One matrix more.
+-- Spreading a point over one matrix more adds its image to the copies.
 pub spread-turn : (p : Vector) (m : Matrix) (ms : List Matrix) (cs : List Vector) → spread (m ∷ ms) p cs ≡ spread ms p (withImage cs (mulVec m p))
 unfolding spread
 spread-turn p m ms cs = go (found cs (mulVec m p)) refl
@@ -211,7 +211,7 @@ spread-turn p m ms cs = go (found cs (mulVec m p)) refl
     go true t = rw (image-old cs (mulVec m p) t, t)
     go false t = rw (image-new cs (mulVec m p) t, t)
 
--- One point more.
+-- Copying one point more adds the point's images to the copies.
 pub copies-turn : (ms : List Matrix) (p : Vector) (ps cs : List Vector) → copiesFrom ms (p ∷ ps) cs ≡ copiesFrom ms ps (withPoint ms cs p)
 unfolding copiesFrom
 copies-turn ms p ps cs = go (found cs p) refl
@@ -224,7 +224,7 @@ copies-turn ms p ps cs = go (found cs p) refl
 
 -- ---- the points and the matrices of a slice
 
--- matrix j
+-- Matrix j of a slice stands in d rows from cell j * (d * d) on.
 pub matrix-is : (d : ℕ) (l : List Float) (j : ℕ) → j < length l / (d * d) → getD (matrices d l) j [] ≡ parts d d (take (d * d) (drop (j * (d * d)) l))
 unfolding matrices
 matrix-is d l j h =

@@ -1,4 +1,4 @@
--- The judgement of points and matrices, test by test: which test fails first, and what holds where none does.
+-- This file takes the judgement of points and matrices test by test: which test fails first, and what holds where none does.
 -- Assumes nothing.
 use mathlib.Core.Path.{_≡_, refl, _∙_}
 use mathlib.Core.Bool.{Bool, true, false, _&&_}
@@ -62,7 +62,7 @@ module _ (d : ℕ) (ps ts : List Float) where
   unfolding judgeCopy
   judgements = rw (← last (ltb 0 (length ps) && ltb 0 (length ts)))
 
-  -- What the copying goes by.
+  -- The copying relies on these facts, which the judgement gives.
   pub record Judgeable : Type 0 where
     pub low : 1 ≤ d
     pub high : d ≤ maxDimension

@@ -1,4 +1,4 @@
--- The answer and the two outputs together, for each way through the call.
+-- This file gives the answer and the two outputs together, for each way through the call.
 -- Assumes nothing.
 use mathlib.Core.Path.{_≡_, sym, ap, ap₂, _∙_}
 use mathlib.Core.Bool.{true, false, _&&_}
@@ -29,7 +29,7 @@ module _ (n : ℕ) (ms : List Matrix) (cs : List Vector) (points : List Float) (
   abbrev cells : ℕ
   cells = length ms * length cs
 
-  -- The three branches.
+  -- The definition has three branches, and each lemma gives one of them.
   short : (leb (length cs) n && leb cells (length table)) ≡ false
       → (Refused ShortSheet (length (take n cs)), written (join (take n cs)) points, table) ≡ copyOut n ms cs points table
   unfolding copyOut
@@ -45,7 +45,7 @@ module _ (n : ℕ) (ms : List Matrix) (cs : List Vector) (points : List Float) (
   unfolding copyOut
   done e f = rw (e, f, copyOut)
 
-  -- More points than there is room for.
+  -- There are more points than there is room for.
   pub answer-full : {after : List Float} → Overfull n cs points after → (Refused ShortSheet n, after, table) ≡ copyOut n ms cs points table
   answer-full o =
       let k : length (take n cs) ≡ n = length-take-le n cs (omega (arith, o .more)) in
@@ -71,7 +71,7 @@ module _ (n : ℕ) (ms : List Matrix) (cs : List Vector) (points : List Float) (
     size : length ms * m ≡ cells
     size = ap (λ (x : ℕ). length ms * x) (sym count)
 
-    -- More cells than there is room for.
+    -- There are more cells than there is room for.
     pub answer-short : length table < length ms * m → (Refused ShortSheet m, after, table) ≡ copyOut n ms cs points table
     answer-short h =
         ap₂ (λ (a : ℕ) (b : List Float). (Refused ShortSheet a, b, table)) kept-count points-are
@@ -112,11 +112,11 @@ too-few l k n h e = rw (mul-comm k n) (div-lt-iff-lt-mul {k = k} {x = l} {y = n}
 pub enough : (l k n : ℕ) → 0 < k → n ≤ l / k → k * n ≤ l
 enough l k n h e = rw (mul-comm k n) (le-div-iff-mul-le {k = k} {x = n} {y = l} h .0 e)
 
--- room for some points of d floats, in l cells
+-- The points that fit, d floats each, take no more than the l cells that there are.
 pub room-fits : (l d : ℕ) → min maxCount (l / d) * d ≤ l
 room-fits l d = le-trans (mul-le-mul-right d (omega arith)) (div-mul-le-self l d)
 
--- The matrices of a slice that is not empty.
+-- A slice that is not empty holds at least one matrix.
 pub some-matrices : (d l : ℕ) → l % d ≡ 0 → 0 < l → 0 < l / d
 some-matrices d l e h = go (l / d) (div-add-mod' l d)
   where

@@ -1,4 +1,4 @@
--- A loop that ends at the first float that fails a test: what is left gives what the whole gives.
+-- In a loop that ends at the first float that fails a test, what is left gives what the whole gives.
 -- Assumes nothing.
 use mathlib.Core.Path.{_≡_, refl, sym, _∙_}
 use mathlib.Core.Bool.{Bool, true, false}

@@ -1,4 +1,4 @@
--- A table that is written from its first cell on, piece by piece, until a piece holds the number of an image that is not found.
+-- A table is written from its first cell on, piece by piece, until a piece holds the number of an image that is not found.
 -- Assumes nothing.
 use mathlib.Core.Path.{_≡_, refl, sym, ap, ap₂, _∙_}
 use mathlib.Core.Bool.{Bool, true, false, _||_, or-true}
@@ -58,7 +58,7 @@ pub record Filled (x : ℕ) (new before buffer : List ℕ) (k : ℕ) : Type 0 wh
   pub is : buffer ≡ take k new ++ drop k before
   pub none : holds eqb x (take k new) ≡ false
 
--- w cells of new, from cell k on
+-- A piece is w cells of `new`, from cell k on.
 pub record Piece (new : List ℕ) (k w : ℕ) (piece : List ℕ) : Type 0 where
   pub fits : k + w ≤ length new
   pub is : piece ≡ take w (drop k new)
@@ -124,7 +124,7 @@ module _ {x : ℕ} {new before : List ℕ} where
         is = f .is ∙ ap₂ (λ (y z : List ℕ). y ++ z) t (ap (λ (y : ℕ). drop y before) e);
       }
 
--- One number in the first cells.
+-- Filling the first n cells with one number writes that number over them.
 pub filled-is : (n x : ℕ) (l : List ℕ) → replicate n x ++ drop n l ≡ written (replicate n x) l
 unfolding written
 filled-is n x l = ap (λ (k : ℕ). replicate n x ++ drop k l) (sym (length-replicate n x))
@@ -137,7 +137,7 @@ cell new k y h e = record { fits = omega arith; is = rw (drop-cons new k 0 h, e)
 pub cell-set : (l : List ℕ) (k y : ℕ) → k < length l → set l k y ≡ take k l ++ ((y ∷ []) ++ drop 1 (drop k l))
 cell-set l k y h = rw (set-split l k y h, drop-drop 1 k l, add-one)
 
--- list j of some that are n long
+-- List j of some that are n long stands in the joined lists from place j * n on.
 join-at : (n : ℕ) (ls : List (List ℕ)) (j : ℕ) → Wide n ls → j < length ls → take n (drop (j * n) (join ls)) ≡ getD ls j []
 unfolding join
 join-at n [] j w h = absurd (omega arith)

@@ -1,4 +1,4 @@
--- What the parts of the call hand back, in terms of document 01's definitions.
+-- This file says what the parts of the call hand back, in terms of document 01's definitions.
 -- Assumes nothing.
 use mathlib.Core.Path.{_≡_}
 use Prim.Native.Nat.{ℕ, _≤_, _<_}
@@ -16,16 +16,16 @@ use Rattle.spec.specs.Lists.{join, holds}
 use Rattle.spec.specs.Matrix.{Vector, Matrix}
 use Rattle.spec.specs.Copying.{found, spread, parts, written}
 
--- The judgement that an answer of the code stands for.
+-- Gives the judgement that an answer of the code stands for.
 abbrev pub judgementOf : Judgement → Judged (Unit {0})
 judgementOf Passed = passed tt
 judgementOf (Refused why) = refused why
 
--- The copies with one image more, unless the image is found among them.
+-- Adds one image more to the copies, unless the image is found among them.
 unfoldable pub withImage : List Vector → Vector → List Vector
 withImage cs q = elim (found cs q) [ true ↦ cs | false ↦ cs ++ q ∷ [] ]
 
--- The copies with the images of one point more, unless the point is found among them.
+-- Adds the images of one point more to the copies, unless the point is found among them.
 unfoldable pub withPoint : List Matrix → List Vector → Vector → List Vector
 withPoint ms cs p = elim (found cs p) [ true ↦ cs | false ↦ spread ms p cs ]
 
@@ -40,7 +40,7 @@ pub record Overfull (limit : ℕ) (all : List Vector) (before after : List Float
   pub more : limit < length all
   pub is : after ≡ written (join (take limit all)) before
 
--- What a buffer holds by the answer, where `all` are the copies and at most `limit` are kept.
+-- Says what a buffer holds by the answer, where `all` are the copies and at most `limit` are kept.
 abbrev pub Kept : (d limit : ℕ) (all : List Vector) (before after : List Float) → Room → Type 0
 Kept d limit all before after (room.Fits n) = Fitting d limit all before after n
 Kept d limit all before after room.Full = Overfull limit all before after
@@ -55,7 +55,7 @@ pub record Opened (x : ℕ) (new before after : List ℕ) : Type 0 where
   pub some : holds eqb x new ≡ true
   pub past : drop (length new) after ≡ drop (length new) before
 
--- What a table holds by the answer, where `new` are its cells and x is the number of an image that is not found.
+-- Says what a table holds by the answer, where `new` are its cells and x is the number of an image that is not found.
 abbrev pub Tabled : (x : ℕ) (new before after : List ℕ) → Bool → Type 0
 Tabled x new before after true = Closed x new before after
 Tabled x new before after false = Opened x new before after

@@ -1,4 +1,4 @@
--- What the types call and a search or rotations call promise together, both run on one sheet and in one workspace.
+-- This file says what the types call and a search or rotations call promise together, both run on one sheet and in one workspace.
 -- Assumes nothing.
 use mathlib.Core.Path.{_≡_}
 use mathlib.Core.List.{List}

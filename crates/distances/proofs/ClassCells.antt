@@ -1,4 +1,4 @@
--- Where an element's distance class stands among all, and who shares one.
+-- This file says where an element's distance class stands among all, and which elements share one.
 -- Assumes nothing.
 use mathlib.Core.Path.{_≡_, refl, ap, ap₂, _∙_}
 use mathlib.Core.List.{List, [], _∷_, map}
@@ -24,7 +24,7 @@ use Rattle.distances.proofs.Room.{sizes-sum}
 
 -- ---- parts one after another
 
--- part k of a list in parts of the sizes that f gives from a on
+-- Part k of a list, cut into parts of the sizes that f gives from a on, follows the parts before it.
 part-of : {A : Type 0} (f : ℕ → ℕ) (a n k : ℕ) (l : List A) → k < n
     → getD (byRank (map f (range a n)) l) k [] ≡ take (f (a + k)) (drop (sum (map f (range a k))) l)
 unfolding byRank range sum

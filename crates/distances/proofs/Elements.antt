@@ -1,4 +1,4 @@
--- An element's vertices: there is one, each is a vertex of the solid, and its coordinates are those that stand in the floats.
+-- An element has a vertex, each of its vertices is a vertex of the solid, and its coordinates are those that stand in the floats.
 -- Assumes nothing.
 use mathlib.Core.Path.{_≡_, refl, sym, ap, _∙_}
 use mathlib.Core.Logic.{inl, inr}
@@ -42,7 +42,7 @@ join-in g t x (y ∷ l) (inr m) h = right (g y) (join-in g t x l m h)
     right [] q = q
     right (u ∷ a) q = inr (right a q)
 
--- going down from an element, a vertex is met
+-- Going down from an element, a vertex is met.
 module _ (s : Solid) (sound : Sound s) (filled : (r e : ℕ) → e < size s (suc r) → 0 < length (subs s (suc r) e)) where
   some-reach : (r e : ℕ) → e < size s (suc r) → (v : ℕ) × In v (reach s (suc r) e) × (v < size s 1)
   unfolding reach

@@ -1,4 +1,4 @@
--- Distances taken one after another: the laws of the list and the classes over plain lists, and of the cells that hold them.
+-- Distances are taken one after another: the laws of the list and the classes are over plain lists, and then of the cells that hold them.
 -- Assumes nothing.
 use mathlib.Core.Path.{_≡_, refl, sym, ap, ap₂, _∙_}
 use mathlib.Core.List.{List, [], _∷_, _++_, append-assoc, append-nil}
@@ -29,7 +29,7 @@ classes-append l (x ∷ xs) ys = ap (λ (c : List Float). listing l x .0 ∷ c) 
 
 -- ---- cells
 
--- Nothing was taken yet.
+-- At first no distance was taken.
 pub grown-none : (vd cell k : ℕ) (old : List Float) (n : ℕ) → Grown vd cell k old old n n []
 unfolding listAfter classesFrom
 grown-none vd cell k old n = record {
@@ -40,7 +40,7 @@ grown-none vd cell k old n = record {
   cells = rw add-zero (sym (append-nil (take k (drop cell old))));
 }
 
--- xs, and then ys
+-- The distances xs, and then ys, are taken.
 pub grown-more : {vd cell k h : ℕ} {a b c : List Float} {n m p : ℕ} {xs ys : List Float}
     → Grown vd cell k a b n m xs → h ≡ k + length xs → Grown vd cell h b c m p ys → Grown vd cell k a c n p (xs ++ ys)
 grown-more {vd} {cell} {k} {h} {a} {b} {c} {n} {m} {p} {xs} {ys} f e g =
@@ -59,7 +59,7 @@ grown-more {vd} {cell} {k} {h} {a} {b} {c} {n} {m} {p} {xs} {ys} f e g =
           ∙ ap (λ (z : List Float). take k (drop cell a) ++ z) (sym (classes-append l xs ys));
     }
 
--- One distance: the list stands in the part from vd on, and the class is written behind it.
+-- One distance is taken: the list stands in the part from vd on, and the class is written behind it.
 module _ (old after : List Float) (vd n cell k : ℕ) (x : Float) (t : Listing) (took : Takes (drop vd old) after n x t) (many : length after ≡ length (drop vd old))
     (apart : vd + n < cell) (inside : cell + k < length old) where
   low : length (take vd old) ≡ vd
@@ -104,7 +104,7 @@ module _ (old after : List Float) (vd n cell k : ℕ) (x : Float) (t : Listing) 
             ∙ ap (λ (v : Float). take k (drop cell old) ++ (v ∷ [])) (ap (λ (q : Float × List Float). q .0) (took .is));
       }
 
--- The same, as the part comes back: what is lent is the part to the end, and nothing stands behind it.
+-- The same holds as the part comes back, because what is lent is the part to the end, and nothing stands behind it.
 pub grown-part : (old after : List Float) (vd n cell k : ℕ) (x : Float) (t : Listing) → Takes (midOf vd (length old - vd) old) after n x t
     → length after ≡ length (midOf vd (length old - vd) old) → vd + n < cell → cell + k < length old
     → Grown vd cell k old (set (putMid vd (length old - vd) old after) (cell + k) (t .value)) n (t .count) (x ∷ [])

@@ -1,4 +1,4 @@
--- The loops over a rank's elements and over the proper ranks.
+-- This file follows the loops over a rank's elements and over the proper ranks.
 -- Assumes nothing.
 use mathlib.Core.Path.{_≡_, refl, sym, ap, _∙_}
 use mathlib.Core.List.{List, [], _∷_, _++_, map, append-nil, append-assoc}
@@ -37,7 +37,7 @@ module _ (sh : Shape) (w : List ℕ) (h : Held sh w) where
       let e : a + (b - a) ≡ b = omega arith in
       rw e at (rising a (b - a) (omega arith))
 
--- What a rank's loop knows of the offsets.
+-- A rank's loop knows these bounds of the offsets.
 module _ {sh : Shape} {w : List ℕ} {floats : List Float} {vd n r : ℕ} (a : Ready sh w floats vd n r) where
   pub ranks-fit : r + 1 < 7
   ranks-fit = omega (arith, a .high, a .held .tall)
@@ -56,7 +56,7 @@ module _ {sh : Shape} {w : List ℕ} {floats : List Float} {vd n r : ℕ} (a : R
 
 -- ---- a rank's elements
 
--- e elements of rank r were taken
+-- The first e elements of rank r were taken.
 pub record Turn (sh : Shape) (w : List ℕ) (floats₀ : List Float) (vd n r cell done many : ℕ) (floats : List Float) (m e : ℕ) : Type 0 where
   pub cell-is : cell ≡ vd + proper sh
   pub done-is : done ≡ before sh r
@@ -99,7 +99,7 @@ module _ {sh : Shape} {w : List ℕ} {floats₀ : List Float} {vd n r cell done 
   pub inside : e < many → cell + (done + e) < length floats
   inside h = omega (arith, here h, t .cell-is, t .done-is, t .grown .long, a .room)
 
-  -- And one more.
+  -- One element more is taken.
   pub next-turn : e < many → (x : Float) → x ≡ distanceOf (solidOn sh w (take vd floats) (sh .dimension)) r e
       → (new : List Float) (p : ℕ) → Grown vd cell (done + e) floats new m p (x ∷ []) → Turn sh w floats₀ vd n r cell done many new p (e + 1)
   next-turn h x q new p g =
@@ -128,7 +128,7 @@ unfolding join
 join-snoc [] l = append-nil l
 join-snoc (k ∷ ls) l = ap (λ (x : List Float). k ++ x) (join-snoc ls l) ∙ sym (append-assoc k (join ls) l)
 
--- The distances of the proper ranks below r.
+-- These are the distances of the proper ranks below r.
 unfoldable pub below : Concrete → ℕ → List Float
 below c r = join (map (rankDistances c) (range 1 (r - 1)))
 
@@ -170,7 +170,7 @@ first-round sh w floats vd v h =
       grown = rw e (grown-none vd (vd + proper sh) 0 floats 0);
     }
 
--- What the whole says, of all the ranks' distances.
+-- When all ranks' distances were taken, the whole solid is classed.
 ended : (sh : Shape) (w : List ℕ) (old new : List Float) (n : ℕ)
     → length (below (solidOn sh w (take (coordinates sh w) old) (sh .dimension)) (sh .rank)) ≡ proper sh
     → Grown (coordinates sh w) (coordinates sh w + proper sh) 0 old new 0 n (below (solidOn sh w (take (coordinates sh w) old) (sh .dimension)) (sh .rank)) → Classed sh w old new n
@@ -232,6 +232,6 @@ module _ {sh : Shape} {w : List ℕ} {floats₀ : List Float} {vd : ℕ} {floats
       let v = t .vertices in
       ended sh w floats₀ floats n (rw (e, v) at (t .many)) (rw (e, v) at (t .grown))
 
--- How many cells the coordinates take, as the offsets say it.
+-- The offsets tell how many cells the coordinates take.
 pub cells-are : (sh : Shape) (w : List ℕ) → 1 ≤ sh .rank → sizeAt sh 1 * sh .dimension ≡ coordinates sh w
 cells-are sh w h = ap (λ (i : ℕ). i * sh .dimension) (sym (size-is sh w 1 h))

@@ -25,7 +25,7 @@ module _ (sh : Shape) (w : List ℕ) (h : Held sh w) where
       let q = in-order sh w h (suc a) (suc a + n) (omega arith) (omega arith) in
       rw (e, s, i) (omega arith)
 
-  -- "E counts proper elements"
+  -- "E counts proper elements."
   pub proper-is : proper sh ≡ elements (absIn sh w)
   unfolding elements properRanks range sum
   proper-is = go (sh .rank) (top-is sh w) (omega arith)
@@ -50,7 +50,7 @@ module _ (sh : Shape) (w : List ℕ) (h : Held sh w) where
           let p = in-order sh w h 2 (sh .rank) (omega arith) (omega arith) in
           omega (arith, size-is sh w 1 (omega arith), h .some 1 (omega arith))
 
-  -- "8 times (E+8) floats"
+  -- The room of "8 times (E+8) floats" holds the coordinates, the list and the classes.
   pub roomy-floats : (n : ℕ) → 8 * (elements (absIn sh w) + 8) ≤ n → coordinates sh w + proper sh + proper sh ≤ n
   roomy-floats n k =
       let a = mul-le-mul-left (vertexCount sh w) (h .wide) in

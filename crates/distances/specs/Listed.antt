@@ -1,4 +1,4 @@
--- Distances that join a list one after another, and the cells that the list and the classes stand in.
+-- Distances join a list one after another, and the list and the classes stand in cells.
 -- Assumes nothing.
 use mathlib.Core.Path.{_≡_}
 use mathlib.Core.List.{List, [], _∷_, _++_, map}
@@ -14,12 +14,12 @@ use Rattle.ranked.specs.declared.Shape.{Shape}
 use Rattle.ranked.specs.Words.{Held}
 use Rattle.distances.specs.Solids.{solidOn, coordinates, proper, before}
 
--- The list that results when distances join the list l one after another.
+-- Gives the list that results when distances join the list l one after another.
 unfoldable pub listAfter : List Float → List Float → List Float
 listAfter l [] = l
 listAfter l (x ∷ xs) = listAfter (listing l x .1) xs
 
--- The distances of the elements of rank r.
+-- Lists the distances of the elements of rank r.
 unfoldable pub rankDistances : Concrete → ℕ → List Float
 rankDistances c r = map (distanceOf c r) (range 0 (size (c .abs) r))
 
@@ -32,8 +32,8 @@ pub record Grown (vd cell k : ℕ) (old new : List Float) (n m : ℕ) (xs : List
   pub list : take m (drop vd new) ≡ listAfter (take n (drop vd old)) xs
   pub cells : take (k + length xs) (drop cell new) ≡ take k (drop cell old) ++ classesFrom (take n (drop vd old)) xs
 
--- What taking the distances of rank r needs: r is proper, no more values are listed than elements were taken, and there is room for the list and the
--- classes.
+-- Taking the distances of rank r needs that r is proper, that no more values are listed than elements were taken, and that there is room for the list
+-- and the classes.
 pub record Ready (sh : Shape) (w : List ℕ) (floats : List Float) (vd n r : ℕ) : Type 0 where
   pub held : Held sh w
   pub low : 1 ≤ r
@@ -42,7 +42,7 @@ pub record Ready (sh : Shape) (w : List ℕ) (floats : List Float) (vd n r : ℕ
   pub few : n ≤ before sh r
   pub room : vd + proper sh + proper sh ≤ length floats
 
--- The result for the whole solid: n values are listed, and each proper element has its class.
+-- The whole solid is classed: n values are listed, and each proper element has its class.
 pub record Classed (sh : Shape) (w : List ℕ) (old new : List Float) (n : ℕ) : Type 0 where
   pub same : take (coordinates sh w) new ≡ take (coordinates sh w) old
   pub long : length new ≡ length old

@@ -1,4 +1,4 @@
--- The solid that stands in lent words and lent floats, and how many of its elements are proper.
+-- A solid stands in lent words and lent floats, and so many of its elements are proper.
 -- Assumes nothing.
 use Prim.Native.Nat.{ℕ, _-_, _*_}
 use mathlib.Core.List.{List, map}
@@ -10,26 +10,26 @@ use Rattle.spec.specs.Solid.{Concrete}
 use Rattle.ranked.specs.declared.Shape.{Shape}
 use Rattle.ranked.specs.Words.{firstAt, absIn}
 
--- How many vertices there are. There are none where the least element is the top.
+-- Counts the vertices. There are none where the least element is the top.
 abbrev pub vertexCount : Shape → List ℕ → ℕ
 vertexCount sh w = size (absIn sh w) 1
 
--- The solid in d dimensions whose vertices' coordinates stand one after another in fl.
+-- Gives the solid in d dimensions whose vertices' coordinates stand one after another in fl.
 abbrev pub solidOn : Shape → List ℕ → List Float → ℕ → Concrete
 solidOn sh w fl d = record { dimension = d; points = parts (vertexCount sh w) d fl; abs = absIn sh w }
 
--- How many floats the coordinates take.
+-- Counts the floats that the coordinates take.
 abbrev pub coordinates : Shape → List ℕ → ℕ
 coordinates sh w = vertexCount sh w * sh .dimension
 
--- The number of proper elements, which are those from rank 1 on and below the top: "E counts proper elements".
+-- Counts the proper elements, which are those from rank 1 on and below the top: "E counts proper elements".
 abbrev pub proper : Shape → ℕ
 proper sh = firstAt sh (sh .rank) - firstAt sh 1
 
--- How many proper elements lie below rank r.
+-- Counts the proper elements below rank r.
 abbrev pub before : Shape → ℕ → ℕ
 before sh r = firstAt sh r - firstAt sh 1
 
--- The same for a solid by itself, which stands in no words.
+-- Counts the same for a solid by itself, which stands in no words.
 unfoldable pub beforeIn : Solid → ℕ → ℕ
 beforeIn s r = sum (map (λ k. size s k) (range 1 (r - 1)))

@@ -1,4 +1,4 @@
--- The product of what the two callees give.
+-- The candidate is the product of what the two callees give.
 -- Assumes nothing.
 use mathlib.Core.Path.{_≡_, ap, _∙_}
 use native.Mathlib.Omega.{arith}

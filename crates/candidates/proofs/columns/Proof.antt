@@ -1,4 +1,5 @@
--- The loop's invariant: the flag has gone through i - 1 rounds, and the first i rows hold its vertices so far. The measure is what is left of d.
+-- The loop's invariant is that the flag has gone through i - 1 rounds, and that the first i rows hold its vertices so far.
+-- The measure is what is left of d.
 -- Assumes nothing.
 use borrow.Author.Needs.{needs}
 use native.Mathlib.Omega.{arith}

@@ -1,4 +1,4 @@
--- The loop's invariant: no point before i is near a later one. The measure is what is left of n.
+-- The loop's invariant is that no point before i is near a later one. The measure is what is left of n.
 -- Assumes nothing.
 use borrow.Author.Needs.{needs}
 use native.Mathlib.Omega.{arith}

@@ -1,4 +1,4 @@
--- The loop's invariant: the cells before k hold the numbers of their images, which are found. The measure is what is left of n.
+-- The loop's invariant is that the cells before k hold the numbers of their images, which are found. The measure is what is left of n.
 -- Assumes nothing.
 use borrow.Author.Needs.{needs}
 use native.Mathlib.Omega.{arith}

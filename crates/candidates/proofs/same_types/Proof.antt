@@ -1,4 +1,4 @@
--- The loop's invariant: the types agree below rank r. The measure is what is left of the ranks.
+-- The loop's invariant is that the types agree below rank r. The measure is what is left of the ranks.
 -- Assumes nothing.
 use borrow.Author.Needs.{needs}
 use borrow.Author.Tests.{eq-eqb, ne-eqb}
@@ -19,7 +19,7 @@ Inv words low starts rank a b r₀ r = (r ≤ suc rank) × Every (agree words lo
 abbrev μ : tie.MeasureT-loop
 μ words low starts rank a b r₀ r = suc rank - r
 
--- The words that are read.
+-- The words that are read lie in the slice.
 word : (c : tie.In-loop Inv μ) → let a = c .before .before .before .before .before .before .args in a .low + firstAt (a .sh) (c .before .loop .r) + getD (a .flag .elements) (c .before .loop .r) 0 < length (a .words .now)
 word c = let s = c .before .before .before .before .before .before in let a = s .args in
     word-in (a .sh) (a .low) (a .words .now) (s .pre .0) (s .pre .1 .0) (a .flag .elements) (s .pre .1 .1 .0) (c .before .loop .r) (c .loop-test .taken)

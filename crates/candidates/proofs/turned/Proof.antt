@@ -1,4 +1,4 @@
--- The loop's invariant: ranks 1 to r - 1 are changed. The measure is what is left of the ranks.
+-- The loop's invariant is that ranks 1 to r - 1 are changed. The measure is what is left of the ranks.
 -- Assumes nothing.
 use borrow.Author.Needs.{needs}
 use native.Mathlib.Omega.{arith}

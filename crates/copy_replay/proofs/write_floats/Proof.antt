@@ -1,4 +1,4 @@
--- Ends, and stays within its slice. Assumes nothing.
+-- `copy_replay::write_floats` ends, and stays within its slice. Assumes nothing.
 use Prim.Native.Nat.{_≤_, _-_}
 use lib.ListN.{length}
 use borrow.Author.Needs.{needs}

@@ -31,7 +31,7 @@ copies-requires c κs =
     let j = judged s in
     (j .low, j .high, rw (c .before .room .ensures) (room-fits (length (s .args .out .now)) (s .args .d)))
 
--- The matrices, and the copies under them.
+-- The call works with these matrices, and with the copies under them.
 abbrev ms : (c : tie.Start) → List Matrix
 ms c = matrices (c .args .d) (c .args .turns .now)
 
@@ -43,7 +43,7 @@ counted c =
     let j = judged c in
     some-matrices (c .args .d * c .args .d) (length (c .args .turns .now)) (j .whole) (j .some)
 
--- By the room for points, as the code has it.
+-- The code's room for points is the room that the definition goes by.
 limited : (c : tie.After-room) →
     (let s = c .before .before .before .before .before in
     copyOut (c .room .result) (ms s) (cs s) (s .args .out .now) (s .args .table .now)
@@ -59,7 +59,7 @@ returns c =
     answer-full (w .before .before .room .result) (ms s) (cs s) (s .args .out .now) (s .args .table .now) (rw (c .enum-told .given .1) at (w .copies .ensures))
     ∙ limited (w .before .before)
 
--- Where there is room for the copies.
+-- There is room for the copies.
 fitting : (c : tie.After-known-told) →
     (let w = c .before .before .before .before .before in
     let s = w .before .before .before .before .before .before .before in
@@ -107,7 +107,7 @@ write-requires c κs =
       rw (f .read) (copies-apart (ms s) (points (s .args .d) (s .args .from .now))),
     )
 
--- What the table holds, in terms of the copies.
+-- What the table holds is told in terms of the copies.
 tabled : (c : tie.After-write) →
     (let k = c .before .before .before .before in
     let s = k .before .before .before .before .before .before .before .before .before .before .before .before in

@@ -1,4 +1,4 @@
--- The judgement first, and the copying where it passes.
+-- The judgement comes first, and the copying where it passes.
 -- Assumes nothing.
 use mathlib.Core.Path.{sym, ap, _∙_}
 use borrow.Author.Needs.{needs}
@@ -7,7 +7,7 @@ use Rattle.copying.proofs.Outcome.{call-refused, call-passed}
 use Rattle.copying.proofs.copy.Statement.{statement}
 use Rattle.copying.proofs.copy.Tie as tie
 
--- The judgement, where the code's is known.
+-- The definition's judgement is known where the code's is.
 copied-requires : tie.Need-copied-requires
 copied-requires c κs = sym (c .before .before .before .before .judged .ensures) ∙ ap judgementOf (c .before .before .enum-told .given .1)
 

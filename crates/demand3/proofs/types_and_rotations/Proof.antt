@@ -1,4 +1,4 @@
--- Both calls' promises.
+-- The promises of both calls hold together.
 -- Assumes nothing.
 use borrow.Author.Needs.{needs}
 use Rattle.spec.specs.Calls.{rotationsCall}
@@ -13,7 +13,7 @@ types-and-rotations-spec =
     -- The needs are element-types-requires and rotations-requires.
     (λ c κs. search needs)
     (λ c κs. search needs)
-    -- same-length, for each slice
+    -- The needs are same-length for each slice.
     (λ c. search needs)
     (λ c. search needs)
     (λ c. search needs)

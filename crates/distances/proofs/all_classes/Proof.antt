@@ -1,4 +1,4 @@
--- The loop over the proper ranks: each rank's elements take their classes behind those of the ranks below.
+-- In the loop over the proper ranks, each rank's elements take their classes behind those of the ranks below.
 -- Assumes nothing.
 use borrow.Author.Needs.{needs}
 use native.Mathlib.Omega.{arith}
@@ -19,12 +19,12 @@ all-classes-spec =
     (tie.spec Inv μ
     -- The need is returns.
     (λ c. let s = c .before .before .before in none-classed (s .args .sh) (s .args .w .now) (s .args .floats .now) (s .pre .0) (c .if1 .taken))
-    -- vd: two reads, sub, mul
+    -- The needs of `vd` are two reads, a difference and a product.
     (λ c. search needs)
     (λ c. search needs)
     (λ c. let s = c .before .before .before .before in omega (arith, s .pre .0 .some 1 (omega (arith, c .before .if1 .left))))
     (λ c. let s = c .before .before .before .before in omega (arith, cells-are (s .args .sh) (s .args .w .now) (omega (arith, c .before .if1 .left)), s .pre .1))
-    -- loop-holds, classes-of-rank-requires
+    -- The needs are loop-holds and classes-of-rank-requires.
     (λ c. let s = c .before .before .before .before in
     first-round (s .args .sh) (s .args .w .now) (s .args .floats .now) _ (cells-are (s .args .sh) (s .args .w .now) (omega (arith, c .before .if1 .left))) (omega (arith, c .before .if1 .left)))
     (λ c κs. let l = c .before .before in let s = l .before .before .before .before .before in ready (l .loop .inv) (s .pre .0) (s .pre .1) (c .before .loop-test .taken))

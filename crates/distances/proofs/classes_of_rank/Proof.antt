@@ -1,4 +1,4 @@
--- The loop over a rank's elements: each takes its class behind those before it.
+-- In the loop over a rank's elements, each takes its class behind those before it.
 -- Assumes nothing.
 use borrow.Author.Needs.{needs}
 use native.Mathlib.Omega.{arith}
@@ -19,18 +19,18 @@ pub classes-of-rank-spec : {M : Type 1} → statement M
 classes-of-rank-spec =
     tie.close
     (tie.spec Inv μ
-    -- cell: mul, two reads, sub, add
+    -- The needs of `cell` are a product, two reads, a difference and a sum.
     (λ c. let a = c .before .before .before .pre in omega (arith, a .high, a .held .tall))
     (λ c. let a = c .before .before .before .pre in omega (arith, a .high, a .held .tall))
     (λ c. search needs)
     (λ c. start-end (c .before .before .before .pre))
     (λ c. omega (arith, c .before .before .before .pre .room))
-    -- done: mul, two reads, sub
+    -- The needs of `done` are a product, two reads and a difference.
     (λ c. let a = c .before .before .before .pre in omega (arith, ranks-fit a))
     (λ c. let a = c .before .before .before .pre in omega (arith, ranks-fit a))
     (λ c. search needs)
     (λ c. start-below (c .before .before .before .pre))
-    -- many: add, mul, read, mul, read, sub
+    -- The needs of `many` are a sum, a product, a read, a product, a read and a difference.
     (λ c. let a = c .before .before .before .pre in omega (arith, ranks-fit a))
     (λ c. let a = c .before .before .before .pre in omega (arith, ranks-fit a))
     (λ c. ranks-fit (c .before .before .before .pre))

@@ -1,4 +1,4 @@
--- The loop's invariant: no point before j is within 2 ^ -22 of point k. The measure is what is left of k.
+-- The loop's invariant is that no point before j is within 2 ^ -22 of point k. The measure is what is left of k.
 -- Assumes nothing.
 use mathlib.Core.Path.{ap}
 use mathlib.Core.Bool.{false≢true}

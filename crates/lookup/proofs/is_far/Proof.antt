@@ -1,4 +1,4 @@
--- The loop's invariant: i is at most as many as there are axes. The measure is what is left of them.
+-- The loop's invariant is that i is at most as many as there are axes. The measure is what is left of them.
 -- Assumes nothing.
 use mathlib.Core.Path.{_≡_, sym, _∙_}
 use mathlib.Core.Bool.{false≢true}

@@ -1,4 +1,4 @@
--- The loop's invariant: every point before k is clear of those before it. The measure is what is left of n.
+-- The loop's invariant is that every point before k is clear of those before it. The measure is what is left of n.
 -- Assumes nothing.
 use mathlib.Core.Bool.{false≢true}
 use Prim.Native.Nat.{_≤_, _-_}

@@ -1,4 +1,4 @@
--- The loop's invariant: i is at most as many as there are tries, and the table is as it was: a number that joins ends it.
+-- The loop's invariant is that i is at most as many as there are tries, and the table is as it was: a number that joins ends it.
 -- Assumes nothing.
 use mathlib.Core.Path.{_≡_, refl}
 use Prim.Native.Nat.{_≤_, _-_}

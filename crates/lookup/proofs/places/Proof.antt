@@ -1,4 +1,4 @@
--- The loop's invariant: k is at most n, and each place is free or has a point's number. The measure is what is left of n.
+-- The loop's invariant is that k is at most n, and each place is free or has a point's number. The measure is what is left of n.
 -- Assumes nothing.
 use Prim.Native.Nat.{_≤_, _-_}
 use native.Mathlib.Omega.{arith}

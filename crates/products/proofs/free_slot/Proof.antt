@@ -1,4 +1,4 @@
--- The loop's invariant: j is at most as many as there are slots. The measure is what is left of them.
+-- The loop's invariant is that j is at most as many as there are slots. The measure is what is left of them.
 -- Assumes nothing.
 use borrow.Author.Needs.{needs}
 use Prim.Native.Nat.{_≤_, _<_, _-_}

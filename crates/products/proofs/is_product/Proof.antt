@@ -1,4 +1,4 @@
--- The loop's invariant: the entries before p are the product's. The measure is what is left of the row.
+-- The loop's invariant is that the entries before p are the product's. The measure is what is left of the row.
 -- Assumes nothing.
 use borrow.Author.Needs.{needs}
 use native.Mathlib.Omega.{arith}

@@ -1,4 +1,4 @@
--- The loop's invariant: at is at most the row's length. The measure is what is left of it.
+-- The loop's invariant is that at is at most the row's length. The measure is what is left of it.
 -- Assumes nothing.
 use borrow.Author.Needs.{needs}
 use Prim.Native.Nat.{_≤_, _<_, _-_}

@@ -1,4 +1,4 @@
--- The loop's invariant: h is below 2 ^ 44, so that no sum wraps. The measure is what is left of the entries.
+-- The loop's invariant is that h is below 2 ^ 44, so that no sum wraps. The measure is what is left of the entries.
 -- Assumes nothing.
 use borrow.Author.Needs.{needs}
 use Prim.Native.Nat.{_≤_, _<_, _-_}

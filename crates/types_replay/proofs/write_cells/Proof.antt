@@ -1,4 +1,4 @@
--- Ends, and stays within its slice. Assumes nothing.
+-- `types_replay::write_cells` ends, and stays within its slice. Assumes nothing.
 use Prim.Native.Nat.{_≤_, _-_}
 use native.Mathlib.Omega.{arith}
 use mathlib.Core.Path.{_≡_}

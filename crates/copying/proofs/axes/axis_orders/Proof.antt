@@ -1,4 +1,4 @@
--- One computed test over every cell of all the entries.
+-- One computed test goes over every cell of all the entries.
 -- Assumes nothing.
 use mathlib.Core.Path.{refl}
 use lib.Ieee.{ofBits, neg}

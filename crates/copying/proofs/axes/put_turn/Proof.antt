@@ -1,4 +1,4 @@
--- The loop's invariant: the cells below i hold the matrix's floats. The measure is what is left of the nine.
+-- The loop's invariant is that the cells below i hold the matrix's floats. The measure is what is left of the nine.
 -- Assumes nothing.
 use mathlib.Core.Path.{_≡_, refl, sym, ap₂, _∙_}
 use mathlib.Core.List.{List, _++_}

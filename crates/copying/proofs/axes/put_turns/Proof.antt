@@ -1,4 +1,4 @@
--- The loop's invariant: the first k matrices are laid out. The measure is what is left of them.
+-- The loop's invariant is that the first k matrices are laid out. The measure is what is left of them.
 -- Assumes nothing.
 use mathlib.Core.Path.{_≡_, refl, ap, _∙_}
 use mathlib.Core.List.{List, _++_}

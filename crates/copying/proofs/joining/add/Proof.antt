@@ -51,7 +51,7 @@ add-more c =
     let s = c .before .before .before .before .before in
     omega (arith, short s, s .pre .2, s .pre .3, le-mul-of-pos-right {m = s .args .d} (s .args .limit) (s .pre .0))
 
--- Where the function starts.
+-- This is the function's start, before its tests.
 start : (c : tie.Then1) → tie.Start
 start c = c .before .before .before .before .before .before
 

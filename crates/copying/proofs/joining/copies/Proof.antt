@@ -1,4 +1,4 @@
--- The loop's invariant: the copies so far, with those of the points that are left, are the whole. The measure is what is left of the points.
+-- The loop's invariant is that the copies so far, with those of the points that are left, are the whole. The measure is what is left of the points.
 -- Assumes nothing.
 use mathlib.Core.Path.{_≡_, refl, sym, _∙_}
 use mathlib.Core.List.{List, []}
@@ -38,7 +38,7 @@ point-copied-requires c κs =
     let l = c .before .before .before .loop in
     (s .pre .0, s .pre .1, l .inv .1 .room, omega (arith, s .pre .2, l .inv .1 .long))
 
--- The copies with those of point k.
+-- These are the copies with those of point k.
 abbrev all : (c : tie.After-point-copied Inv-loop μ-loop) → List Vector
 all c =
     let a = c .before .before .before .before .before .before .before .before .args in

@@ -1,4 +1,5 @@
--- The loop's invariant: the copies so far, with the images under the matrices that are left, are the whole. The measure is what is left of the matrices.
+-- The loop's invariant is that the copies so far, with the images under the matrices that are left, are the whole.
+-- The measure is what is left of the matrices.
 -- Assumes nothing.
 use mathlib.Core.Path.{_≡_, refl, sym, ap, _∙_}
 use mathlib.Core.List.{List, []}
@@ -48,7 +49,7 @@ add-requires c κs =
 abbrev step : Vector → List Vector → Matrix → List Vector
 step p cs m = withImage cs (mulVec m p)
 
--- The copies with the image under matrix j.
+-- These are the copies with the image under matrix j.
 abbrev all : (c : tie.After-add Inv-loop μ-loop) → List Vector
 all c =
     let a = c .before .before .before .before .before .before .before .before .args in

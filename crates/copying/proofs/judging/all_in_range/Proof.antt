@@ -1,4 +1,4 @@
--- The loop's invariant: the floats before i are in range. The measure is what is left of the slice.
+-- The loop's invariant is that the floats before i are in range. The measure is what is left of the slice.
 -- Assumes nothing.
 use mathlib.Core.Path.{sym, _∙_}
 use Prim.Native.Nat.{_≤_, _-_}

@@ -1,4 +1,4 @@
--- The tests in the order of the judgements.
+-- The tests come in the order of the judgements.
 -- Assumes nothing.
 use mathlib.Core.Path.{_≡_, sym, _∙_}
 use Prim.Native.Nat.{ℕ, _*_, _%_, _<_}
@@ -21,7 +21,7 @@ use Rattle.copying.proofs.judging.judged.Tie as tie
 above : (n : ℕ) → (n ≡ 0 → ⊥) → 0 < n
 above n h = omega arith
 
--- What is left to judge, where the tests so far passed.
+-- Where the tests so far passed, what is left to judge gives the whole judgement.
 upto2 : (c : tie.Else2) → (let a = c .before .before .before .before .args in cutSheet (a .d) (a .from .now) (a .turns .now) ≡ judgeCopy (a .d) (a .from .now) (a .turns .now))
 upto2 c =
     let a = c .before .before .before .before .args in

@@ -1,4 +1,4 @@
--- The loop's invariant: the cells before i hold the number, the others what they held. The measure is what is left of the cells.
+-- The loop's invariant is that the cells before i hold the number, the others what they held. The measure is what is left of the cells.
 -- Assumes nothing.
 use mathlib.Core.Path.{_≡_, refl, _∙_}
 use mathlib.Core.List.{_++_}

@@ -1,4 +1,4 @@
--- The loop's invariant: the cells before k hold the numbers of their images, and none of them is n. The measure is what is left of n.
+-- The loop's invariant is that the cells before k hold the numbers of their images, and none of them is n. The measure is what is left of n.
 -- Assumes nothing.
 use mathlib.Core.Path.{_≡_, refl, sym, ap, _∙_}
 use mathlib.Core.List.{List, [], _∷_}
@@ -32,19 +32,19 @@ loaded-requires c κs =
     let s = c .before .before .before .before in
     (s .pre .0 .1, omega (arith, part-end (s .args .n) (s .args .d) (c .before .loop .k) (c .loop-test .taken), s .pre .0 .3))
 
--- The row over the copies.
+-- This is the row over the copies.
 abbrev whole : (c : tie.After-found Inv-loop μ-loop) → List ℕ
 whole c =
     let a = c .before .before .before .before .before .before .before .args in
     copyRow (parts (a .n) (a .d) (a .copies .now)) (corner (a .d) (a .m))
 
--- The number of copy k's image.
+-- This is the number of copy k's image.
 abbrev imageOf : (c : tie.After-found Inv-loop μ-loop) → ℕ
 imageOf c =
     let a = c .before .before .before .before .before .before .before .args in
     find (parts (a .n) (a .d) (a .copies .now)) (mulVec (corner (a .d) (a .m)) (getD (parts (a .n) (a .d) (a .copies .now)) (c .before .before .before .before .loop .k) []))
 
--- It is looked for.
+-- The image of copy k is what the code looked for.
 image-is : (c : tie.After-found Inv-loop μ-loop) → foundAt (c .before .before .before .before .before .before .before .args .n) (imageOf c) ≡ c .found .result
 image-is c =
     let a = c .before .before .before .before .before .before .before .args in
@@ -59,7 +59,7 @@ image-is c =
     (λ (q : Vector). foundAt (a .n) (find cs q))
     (take-image (a .d) m (length-corner (a .d) (a .m) (omega arith)) _ _ (c .before .image .ensures) ∙ ap (mulVec m) (c .before .before .loaded .ensures ∙ sym (part-at (a .n) (a .d) (a .copies .now) (l .k) (c .before .before .before .loop-test .taken)))))
 
--- And is the row's cell k.
+-- The number of copy k's image is the row's cell k.
 piece : (c : tie.After-found Inv-loop μ-loop) → (x : ℕ) → x ≡ imageOf c → Piece (whole c) (c .before .before .before .before .loop .k) 1 (x ∷ [])
 piece c x e =
     let a = c .before .before .before .before .before .before .before .args in
@@ -81,7 +81,7 @@ returns c =
     let e : imageOf w ≡ a .n = not-found cs q (is-missing cs q n (image-is w ∙ c .enum-told .given .1)) ∙ n in
     filled-open (l .inv .2) (piece w (imageOf w) refl) (one-held _ (imageOf w) e) refl
 
--- The number that is found.
+-- The number that is found is that of the image.
 number : (c : tie.After-known-told Inv-loop μ-loop) →
     (let w = c .before .before .before in (imageOf w ≡ c .before .at .given .0 .0) × (c .before .at .given .0 .0 < w .before .before .before .before .before .before .before .args .n))
 number c = let w = c .before .before .before in at-number (image-is w ∙ c .before .at .given .1)

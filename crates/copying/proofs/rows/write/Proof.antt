@@ -1,4 +1,4 @@
--- The loop's invariant: the rows before j stand in the table, and no cell of them is n. The measure is what is left of the matrices.
+-- The loop's invariant is that the rows before j stand in the table, and no cell of them is n. The measure is what is left of the matrices.
 -- Assumes nothing.
 use mathlib.Core.Path.{_≡_, refl, sym, ap₂, _∙_}
 use mathlib.Core.List.{List, []}
@@ -36,7 +36,7 @@ div-count c = square-pos (c .before .before .before .args .d) (c .before .before
 loop-holds : tie.Need-loop-holds Inv-loop μ-loop
 loop-holds c = (search needs, refl, rw zero-mul filled-none)
 
--- row j ends within the table, whose length fits a word
+-- Row j ends within the table, whose length fits a word.
 row-end : (c : tie.In-loop Inv-loop μ-loop) → c .before .loop .j * c .before .before .before .before .before .before .before .args .n + c .before .before .before .before .before .before .before .args .n ≤ length (c .before .loop .out)
 row-end c =
     let s = c .before .before .before .before .before .before .before in
@@ -69,7 +69,7 @@ row-requires c κs =
       c .before .before .before .before .before .before .is-lone .ensures,
     )
 
--- row j of the table over the copies
+-- This is row j of the table over the copies.
 abbrev line : (c : tie.After-row Inv-loop μ-loop) → List ℕ
 line c =
     let a = c .before .before .before .before .before .before .before .before .before .before .before .args in

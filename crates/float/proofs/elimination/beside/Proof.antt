@@ -1,4 +1,4 @@
--- The loop's invariant: the cells below j hold the row's, the others 0. The measure is what is left of d.
+-- The loop's invariant is that the cells below j hold the row's, the others 0. The measure is what is left of d.
 -- Assumes nothing.
 use mathlib.Core.Path.{_≡_, refl, ap, _∙_}
 use mathlib.Core.List.{List}

@@ -1,4 +1,4 @@
--- The loop's invariant: what is left to eliminate gives what the whole elimination gives. The measure is what is left of d.
+-- The loop's invariant is that what is left to eliminate gives what the whole elimination gives. The measure is what is left of d.
 -- Assumes nothing.
 use mathlib.Core.Path.{_≡_, sym, ap, _∙_}
 use mathlib.Core.Option.{some}

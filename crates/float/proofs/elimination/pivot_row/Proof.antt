@@ -1,4 +1,4 @@
--- The loop's invariant: p is the pivot of the rows before r, and is a row. The measure is what is left of d.
+-- The loop's invariant is that p is the pivot of the rows before r, and is a row. The measure is what is left of d.
 -- Assumes nothing.
 use mathlib.Core.Path.{_≡_, sym, ap, _∙_}
 use mathlib.Core.Logic.{⊎-elim}

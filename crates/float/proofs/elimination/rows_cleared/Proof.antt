@@ -1,4 +1,4 @@
--- The loop's invariant: the rows below r are done, as their first d + d entries show. The measure is what is left of d.
+-- The loop's invariant is that the rows below r are done, as their first d + d entries show. The measure is what is left of d.
 -- Assumes nothing.
 use mathlib.Core.Path.{_≡_, ap, _∙_}
 use Prim.Native.Nat.{_+_, _≤_, _<_, _-_}

@@ -1,4 +1,4 @@
--- The loop's invariant: none of the points before k is near. The measure is what is left of n.
+-- The loop's invariant is that none of the points before k is near. The measure is what is left of n.
 -- Assumes nothing.
 use mathlib.Core.Path.{_≡_, sym, ap, _∙_}
 use Prim.Native.Nat.{_≤_, _-_}

@@ -1,4 +1,4 @@
--- The loop's invariant: the axes before i are near. The measure is what is left of the axes.
+-- The loop's invariant is that the axes before i are near. The measure is what is left of the axes.
 -- Assumes nothing.
 use mathlib.Core.Path.{_≡_, sym, _∙_}
 use Prim.Native.Nat.{_≤_, _-_}

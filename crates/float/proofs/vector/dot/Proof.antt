@@ -1,4 +1,4 @@
--- The loop's invariant: what is left to add gives what the whole gives. The measure is what is left of the length.
+-- The loop's invariant is that what is left to add gives what the whole gives. The measure is what is left of the length.
 -- Assumes nothing.
 use Prim.Native.Nat.{_≤_, _-_}
 use native.Mathlib.Omega.{arith}

@@ -1,4 +1,4 @@
--- The loop's invariant: the cells below i hold the slice's, the others 0. The measure is what is left of the slice.
+-- The loop's invariant is that the cells below i hold the slice's, the others 0. The measure is what is left of the slice.
 -- Assumes nothing.
 use mathlib.Core.Path.{refl, _∙_}
 use mathlib.Core.List.{List}

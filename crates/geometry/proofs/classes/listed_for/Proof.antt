@@ -1,4 +1,4 @@
--- The loop's invariant: what was found is what the values from i on give. The measure is i.
+-- The loop's invariant is that what was found is what the values from i on give. The measure is i.
 -- Assumes nothing.
 use mathlib.Core.Path.{sym, _∙_}
 use Prim.Native.Nat.{_≤_}

@@ -1,4 +1,4 @@
--- The loop's invariant: the hull is that of the first i points, and k counts its vectors. The measure is what is left of the list.
+-- The loop's invariant is that the hull is that of the first i points, and k counts its vectors. The measure is what is left of the list.
 -- Assumes nothing.
 use mathlib.Core.Path.{_≡_, sym, ap, _∙_}
 use mathlib.Core.Logic.{⊎-elim}

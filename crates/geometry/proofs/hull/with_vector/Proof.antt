@@ -1,4 +1,4 @@
--- The loop's invariant: the cells below `at` stand as they did, and the next j hold v's entries, divided. The measure is what is left of d.
+-- The loop's invariant is that the cells below `at` stand as they did, and the next j hold v's entries, divided. The measure is what is left of d.
 -- Assumes nothing.
 use mathlib.Core.Path.{_≡_, refl, _∙_}
 use Prim.Native.Nat.{_+_, _*_, _≤_, _-_}

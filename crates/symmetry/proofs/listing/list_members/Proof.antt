@@ -1,4 +1,4 @@
--- The loop's invariant: what is listed stands in the outputs, and the flags from this one on are to come. The measure is how many they are.
+-- The loop's invariant is that what is listed stands in the outputs, and the flags from this one on are to come. The measure is how many they are.
 -- Assumes nothing.
 use mathlib.Core.Path.{_≡_, refl, sym, ap, subst, _∙_}
 use mathlib.Core.Logic.{⊎-elim}

@@ -1,4 +1,4 @@
--- The loop's invariant: the first i entries are in place. The measure is what is left of n.
+-- The loop's invariant is that the first i entries are in place. The measure is what is left of n.
 -- Assumes nothing.
 use mathlib.Core.Path.{_≡_, refl, _∙_}
 use mathlib.Core.List.{_++_}

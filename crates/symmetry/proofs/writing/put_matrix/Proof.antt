@@ -1,4 +1,4 @@
--- The loop's invariant: the first i rows, i * d cells, are in place. The measure is what is left of d.
+-- The loop's invariant is that the first i rows, i * d cells, are in place. The measure is what is left of d.
 -- Assumes nothing.
 use mathlib.Core.Path.{_≡_, refl, sym, ap, _∙_}
 use mathlib.Core.List.{[]}

@@ -1,4 +1,4 @@
--- The loop's invariant: the marks before i are counted. The measure is what is left of n.
+-- The loop's invariant is that the marks before i are counted. The measure is what is left of n.
 -- Assumes nothing.
 use mathlib.Core.Path.{_≡_, refl, sym, ap, _∙_}
 use Prim.Native.Nat.{_+_, _*_, _≤_, _-_}

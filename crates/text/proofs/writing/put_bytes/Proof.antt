@@ -1,4 +1,4 @@
--- The loop's invariant: the first i bytes are in place. The measure is what is left of them.
+-- The loop's invariant is that the first i bytes are in place. The measure is what is left of them.
 -- Assumes nothing.
 use mathlib.Core.Path.{_≡_, refl, sym, ap, _∙_}
 use Prim.Native.Nat.{_+_, _≤_, _-_}

@@ -1,4 +1,4 @@
--- The invariant: the types that e elements have stand in their cells.
+-- The invariant is that the types that e elements have stand in their cells.
 -- Assumes nothing.
 use borrow.Author.Needs.{needs}
 use native.Mathlib.Omega.{arith}

@@ -1,4 +1,4 @@
--- The loop's invariant: q is where the first k vectors lead. The measure is what is left of the basis.
+-- The loop's invariant is that q is where the first k vectors lead. The measure is what is left of the basis.
 -- Assumes nothing.
 use mathlib.Core.Path.{_≡_, sym, ap, _∙_}
 use mathlib.Core.List.{map}
