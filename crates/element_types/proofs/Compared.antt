@@ -1,4 +1,4 @@
--- Runs of words compared one word at a time, and keys one at a time.
+-- Runs of words are compared one word at a time, and keys one at a time.
 -- Assumes nothing.
 use mathlib.Core.Path.{_≡_, sym, _∙_, ap, ap₂}
 use mathlib.Core.Logic.{_≢_, inl, inr}
@@ -41,7 +41,7 @@ pub same-end : (l m : List ℕ) (k : ℕ) → length l ≤ k → length m ≤ k 
 unfolding eqList
 same-end l m k hl hm s = sym (ap₂ eqList (drop-of-length-le l hl) (drop-of-length-le m hm)) ∙ s
 
--- lists of different lengths are not the same
+-- Lists of different lengths are not the same.
 pub other-length : (l m : List ℕ) → length l ≢ length m → false ≡ eqList l m
 other-length l m h = go (split eqList lists l m)
   where
@@ -49,7 +49,7 @@ other-length l m h = go (split eqList lists l m)
     go (inl (p, _)) = absurd (h (ap length p))
     go (inr (_, e)) = sym e
 
--- A run of words.
+-- A run of n words from word a on is n long, and its words are those of the list.
 module _ (w : List ℕ) (a n : ℕ) (h : a + n ≤ length w) where
   pub length-run : length (take n (drop a w)) ≡ n
   length-run = simp (length-take, length-drop) (omega arith)

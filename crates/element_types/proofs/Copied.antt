@@ -1,4 +1,4 @@
--- Words copied down one at a time, and a step's numbers put over its types.
+-- Words are copied down one at a time, and so a step's numbers are put over its types.
 -- Assumes nothing.
 use mathlib.Core.Path.{_≡_, sym, _∙_, ap, ap₂}
 use mathlib.Core.List.{List, _++_}

@@ -1,4 +1,4 @@
--- One element numbered: what its key, its number and its key's place leave of the keys that were there.
+-- When one element is numbered, its key, its number and its key's place leave the keys that were there as they were.
 -- Assumes nothing.
 use mathlib.Core.Path.{_≡_, sym, _∙_, ap, ap₂}
 use mathlib.Core.Logic.{_≢_, inl, inr}
@@ -31,7 +31,7 @@ module _ (u v : List ℕ) (a : ℕ) (e : take a u ≡ take a v) (g : length u �
       ap (λ (n : ℕ). take (n + 1) (drop (p + 1) u)) (getD-kept u v a p e (omega arith))
       ∙ run-kept u v a (p + 1) (getD v p 0 + 1) e g b (omega arith)
 
-  -- The keys that stand where the words from reps say.
+  -- The keys that stand where the words from reps say are kept.
   pub keys-kept : (reps m : ℕ) → reps + m ≤ a → ((j : ℕ) → j < m → getD v (reps + j) 0 + 2 + getD v (getD v (reps + j) 0) 0 ≤ a)
       → repKeys u reps m ≡ repKeys v reps m
   unfolding repKeys
@@ -56,7 +56,7 @@ keys-set v c x reps m h k =
 
 -- ---- one element
 
--- A key that is there already, and one that is new.
+-- A key is either there already or new.
 pub noted-low : (u : List ℕ) (cell reps m q : ℕ) → numberOf u reps m q < m → noted u cell reps m q ≡ set u cell (numberOf u reps m q)
 unfolding noted
 noted-low u cell reps m q h = rw (noted, lt-ltb (numberOf u reps m q) m h)
@@ -87,7 +87,7 @@ module _ (w : List ℕ) (low i base at cell reps m q : ℕ) (o : Open w low i ba
   kept : take q u ≡ take q w
   kept = written-low w low i base at q (o .key)
 
-  -- What finding the key asks.
+  -- Finding the key asks for these bounds.
   pub places-in : reps + m ≤ length u
   places-in = omega (arith, long, fits, o .places)
 
@@ -104,7 +104,7 @@ module _ (w : List ℕ) (low i base at cell reps m q : ℕ) (o : Open w low i ba
   unfolding numberOf
   number-le = omega (arith, length-keys u reps m q, place-le (keyAt u q) (repKeys u reps m))
 
-  -- As the code has it: v is what writing the key left, and p what finding it gave.
+  -- In the code's terms, v is what writing the key left, and p is what finding it gave.
   module _ (v : List ℕ) (e : v ≡ u) where
     pub find-asks : (reps + m ≤ length v) × (((j : ℕ) → j < m → Keyed v (getD v (reps + j) 0)) × Keyed v q)
     find-asks = rw e (places-in, (keys-in, key-in))

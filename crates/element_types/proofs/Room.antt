@@ -26,7 +26,7 @@ use Rattle.element_types.specs.State.{entries, needed, Sweepable}
 
 -- ---- sums
 
--- One of the summed, and all of them under a bound.
+-- One of the summed numbers is at most their sum, and numbers under a bound have a sum under one.
 sum-has : (f : ℕ → ℕ) (l : List ℕ) (r : ℕ) → In r l → f r ≤ sum (map f l)
 unfolding sum
 sum-has f (q ∷ l) r (inl e) = rw e (omega arith)
@@ -80,7 +80,7 @@ down-few s r =
     (once-keep (λ e. holds eqb e (subs s (suc r) f)) es (once-range 0 (size s r)))
     (λ e k. in-holds e (subs s (suc r) f) (in-keep (λ e. holds eqb e (subs s (suc r) f)) e es k .1))))
 
--- The lengths of a list's lists, as a table.
+-- The lengths of a list's lists make a table.
 lengths : (a : ℕ) (l : List (List ℕ)) (f : ℕ → ℕ) → ((e : ℕ) → e < length l → f (a + e) ≡ length (getD l e [])) → map length l ≡ map f (range a (length l))
 unfolding range
 lengths a [] f h = refl
@@ -92,7 +92,7 @@ rank-entries : (s : Solid) (r : ℕ) → sum (map length (getD s r [])) ≡ entr
 unfolding entries subs
 rank-entries s r = ap sum (lengths 0 (getD s r []) (λ e. length (subs s r e)) (λ e k. let q : 0 + e ≡ e = omega arith in rw q refl))
 
--- Where R is two or more.
+-- Where R is two or more, the entries are those of the vertices, of the lists and of the top.
 sub-entries-is : (sh : Shape) (J z : ℕ) → sh .rank ≡ suc (suc z) → subEntries sh J ≡ sizeAt sh 1 + J + sizeAt sh (suc z)
 unfolding subEntries
 sub-entries-is sh J z e = rw (e, subEntries)
@@ -193,7 +193,7 @@ module _ (sh : Shape) (l : List ℕ) (h : Held sh l) where
       let e : a + suc n ≡ suc a + n = omega arith in
       rw e (omega (arith, size-is sh l a (omega arith), h .some a (omega arith), sizes-sum n (suc a) (omega arith)))
 
-  -- The proper elements, the least and the top.
+  -- The elements are the proper ones, the least and the top.
   total-is : 2 ≤ sh .rank → total sh ≡ E + 2
   unfolding elements properRanks
   total-is k =
@@ -219,7 +219,7 @@ module _ (sh : Shape) (l : List ℕ) (h : Held sh l) where
             size-in (suc z) (omega arith) (omega arith),
           )
 
-  -- A step's words, by the solid's counts.
+  -- A step's words are bounded by the solid's counts.
   pub step-words : (x : Step) → 1 ≤ at x → at x < sh .rank → lowOf sh I + total sh + 4 * sizeAt sh (at x) + entries s x ≤ 14 * E + 3 * I + 10
   unfolding lowOf
   step-words x a b =
@@ -232,7 +232,7 @@ module _ (sh : Shape) (l : List ℕ) (h : Held sh l) where
         entries-few x a b,
       )
 
--- "workspace under 16 times (E+I+4) 32-bit words" is refused: what is not is enough, and its words can hold any place in it that a step uses
+-- A "workspace under 16 times (E+I+4) 32-bit words" is refused. One that is not is enough, and its words can hold any place in it that a step uses.
 pub room-enough : (sh : Shape) (low : ℕ) (w : List ℕ) → Held sh (take low w) → low ≡ lowOf sh (solids.entries (absIn sh (take low w)))
     → 16 * (elements (absIn sh (take low w)) + solids.entries (absIn sh (take low w)) + 4) ≤ length w
     → (x : Step) → 1 ≤ at x → at x < sh .rank → (needed sh low w x ≤ length w) × (needed sh low w x < 2 ^ 32)

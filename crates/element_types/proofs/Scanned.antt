@@ -1,4 +1,4 @@
--- The elements of a rank numbered one after another: what holds when e are done.
+-- The elements of a rank are numbered one after another, and this file says what holds when e are done.
 -- Assumes nothing.
 use mathlib.Core.Path.{_≡_, refl, sym, _∙_, ap, ap₂}
 use mathlib.Core.Logic.{_≢_}
@@ -27,7 +27,7 @@ test = lists
 
 -- ---- the keys' places
 
--- m keys stand where the words from reps say, from word top on and below q
+-- The first m keys stand where the words from reps say, from word top on and below q.
 abbrev pub Slots : List ℕ → ℕ → ℕ → ℕ → ℕ → Type 0
 Slots v reps m top q = (j : ℕ) → j < m → (top ≤ getD v (reps + j) 0) × (getD v (reps + j) 0 + 2 + getD v (getD v (reps + j) 0) 0 ≤ q)
 

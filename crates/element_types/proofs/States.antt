@@ -36,7 +36,7 @@ unfolding sum
 sum-snoc [] x = omega arith
 sum-snoc (y ∷ l) x = omega (arith, sum-snoc l x)
 
--- The words that keys take.
+-- The keys take two words each, and one for each entry of their lists.
 space-is : (l : List ℕ) (base n : ℕ) → spaceTo l base n ≡ 2 * n + sum (map (λ e. length (listAt l (base + 4 * e))) (range 0 n))
 unfolding spaceTo sum range
 space-is l base zero = refl
@@ -58,7 +58,7 @@ keys-table w low base lists from (suc n) =
 carry : (a b c d : List ℕ) → eqList a b ≡ eqList c d → a ≡ b → c ≡ d
 carry a b c d e p = lists .sound c d (sym e ∙ subst (λ (z : List ℕ). eqList a z ≡ true) p (lists .pass a))
 
--- keys that a test cannot tell from others are numbered as they are
+-- Keys that a test cannot tell from others are numbered as those are.
 renumber-tables : (f g : ℕ → List ℕ) (n : ℕ) → ((i j : ℕ) → i < n → j < n → eqList (f i) (f j) ≡ eqList (g i) (g j))
     → renumber eqList (map f (range 0 n)) ≡ renumber eqList (map g (range 0 n))
 renumber-tables f g n h =
@@ -88,7 +88,7 @@ abbrev pub Sums : Shape → ℕ → List ℕ → ℕ → ℕ → ℕ → ℕ →
 Sums sh low w r a p c =
     (firstAt sh r ≤ firstAt sh a) × (low + firstAt sh c ≤ length w) × (low + firstAt sh p ≤ length w) × (low + firstAt sh r ≤ length w) × (4 * firstAt sh r + 4 ≤ length w)
 
--- What a step's elements look to, and where their lists are.
+-- A step's elements look to these neighbours, and their lists are here.
 pub record Looks (sh : Shape) (low : ℕ) (w : List ℕ) (x : Step) (base : ℕ) : Type 0 where
   pub next-in : next x ≤ sh .rank
   pub listed : (e : ℕ) → e < sizeAt sh (at x) → listAt (take low w) (base + 4 * e) ≡ neighbours (absIn sh (take low w)) x e
@@ -159,7 +159,7 @@ module _ (sh : Shape) (low : ℕ) (w : List ℕ) (x : Step) (t : Steppable sh lo
   type-read q y h k =
       ap (λ (l : List ℕ). getD l y 0) (types-at q h) ∙ getD-take (sizeAt sh q) (drop (low + firstAt sh q) w) y 0 k ∙ getD-drop (low + firstAt sh q) w y 0
 
-  -- As the paper has them, and as the program does.
+  -- The keys are given as the paper has them, and as the program does.
   paper : ℕ → List ℕ
   paper e = key (typesAt S (next x)) (typeOf S (at x) e) (neighbours s x e)
 
@@ -223,7 +223,7 @@ module _ (sh : Shape) (low : ℕ) (w : List ℕ) (x : Step) (t : Steppable sh lo
         rank-new (at x) (omega (arith, t .under)) ∙ ap (take n) (drop-here W from (from + n) R part part-in)
         ∙ take-at R (drop (from + n) W) n many
 
-    -- ranks below and above
+    -- The ranks below and above keep their types.
     below : (q : ℕ) → q < at x → typesIn sh low v q ≡ typesIn sh low w q
     below q h =
         let k = first-le sh (take low w) (t .held) (at x - suc q) (suc q) (at x) (omega arith) (omega (arith, t .under)) in

@@ -1,4 +1,4 @@
--- The steps of a sweep, one after another.
+-- The steps of a sweep are taken one after another.
 -- Assumes nothing.
 use mathlib.Core.Path.{_≡_, refl, sym, _∙_, ap}
 use mathlib.Core.List.{List, [], _∷_, _++_, map, reverse, reverse-append}
@@ -47,14 +47,14 @@ pub downs-end : (r : ℕ) → r ≤ 1 → downs r ≡ []
 unfolding downs range
 downs-end r h = let e : r - 1 ≡ 0 = omega arith in rw e refl
 
--- "up at 1 to R−1, then down at R−1 to 1"
+-- The steps of a sweep are "up at 1 to R−1, then down at R−1 to 1".
 steps-are : (sh : Shape) (l : List ℕ) → sweepSteps (absIn sh l) ≡ ups 1 (sh .rank) ++ downs (sh .rank)
 unfolding sweepSteps properRanks ups downs
 steps-are sh l = ap (λ (n : ℕ). map up (range 1 (n - 1)) ++ map down (reverse (range 1 (n - 1)))) (top-is sh l)
 
 -- ---- in the words
 
--- v's lists are w's, and what steps xs make of v's state, steps ys make of w's
+-- The lists of v are those of w, and what the steps xs make of v's state, the steps ys make of w's.
 pub record Swept (sh : Shape) (low : ℕ) (w v : List ℕ) (xs ys : List Step) : Type 0 where
   pub long : length v ≡ length w
   pub kept : take low v ≡ take low w
@@ -94,7 +94,7 @@ module _ (sh : Shape) (low : ℕ) (w v : List ℕ) (xs ys : List Step) (i : Swep
   unfolding play
   swept-end e = (i .kept, rw e at (i .state))
 
--- ups and then downs
+-- A sweep is the ups and then the downs.
 pub both : (sh : Shape) (low : ℕ) (w v : List ℕ) → take low v ≡ take low w → stateIn sh low v ≡ play (absIn sh (take low w)) (stateIn sh low w) (ups 1 (sh .rank))
     → (u : List ℕ) → take low u ≡ take low v → stateIn sh low u ≡ play (absIn sh (take low v)) (stateIn sh low v) (downs (sh .rank))
     → (take low u ≡ take low w) × (stateIn sh low u ≡ sweep (absIn sh (take low w)) (stateIn sh low w))

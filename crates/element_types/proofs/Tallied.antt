@@ -1,4 +1,4 @@
--- Where types are numbered from 0 by first appearance, there is one more than the greatest number; and the sum over the ranks.
+-- Where types are numbered from 0 by first appearance, there is one more than the greatest number, and the ranks' numbers add up.
 -- Assumes nothing.
 use mathlib.Core.Path.{_≡_, refl, sym, _∙_, ap}
 use mathlib.Core.Logic.{_⊎_, inl, inr}
@@ -23,7 +23,7 @@ use Rattle.element_types.proofs.Room.{rising}
 
 -- ---- one rank
 
--- m is one more than the greatest of the first e words from `from`, or 0 where there are none
+-- The number m is one more than the greatest of the first e words from `from`, or 0 where there are none.
 pub record Past (w : List ℕ) (from m e : ℕ) : Type 0 where
   pub high : (j : ℕ) → j < e → getD w (from + j) 0 < m
   pub met : (m ≡ 0) ⊎ ((j : ℕ) × (j < e) × (suc (getD w (from + j) 0) ≡ m))
@@ -80,7 +80,7 @@ module _ (w : List ℕ) (from n : ℕ) (inside : from + n ≤ length w) where
   run-at : (j : ℕ) → j < n → getD l j 0 ≡ getD w (from + j) 0
   run-at j h = getD-take n (drop from w) j 0 h ∙ getD-drop from w j 0
 
-  -- No more types than elements.
+  -- There are no more types than elements.
   pub types-few : k ≤ n
   types-few = rw length-run at (pigeons eqb numbers (distinct eqb l) l (once-distinct eqb numbers l) (λ t m. of-distinct eqb numbers t l m))
 
@@ -118,7 +118,7 @@ module _ (w : List ℕ) (from n : ℕ) (inside : from + n ≤ length w) where
 unfoldable pub countIn : Shape → ℕ → List ℕ → ℕ → ℕ
 countIn sh low w r = length (distinct eqb (typesIn sh low w r))
 
--- Those of rank r and above.
+-- Counts the types of rank r and above.
 unfoldable pub countsFrom : Shape → ℕ → List ℕ → ℕ → ℕ
 countsFrom sh low w r = sum (map (countIn sh low w) (range r (sh .rank - r)))
 
@@ -142,7 +142,7 @@ module _ (sh : Shape) (low : ℕ) (w : List ℕ) where
   unfolding countsFrom range sum
   counts-end r h = let e : sh .rank - r ≡ 0 = omega arith in rw e refl
 
--- n types were counted below rank r
+-- Below rank r, n types were counted.
 pub record Tally (sh : Shape) (low : ℕ) (w : List ℕ) (n r : ℕ) : Type 0 where
   pub proper : 1 ≤ r
   pub few : n ≤ firstAt sh r
@@ -153,7 +153,7 @@ tally-first sh low w = record { proper = omega arith; few = omega arith; rest = 
 
 module _ (sh : Shape) (low : ℕ) (w : List ℕ) (a : Countable sh low w) (n r : ℕ) (i : Tally sh low w n r) where
   module _ (h : r < sh .rank) where
-    -- The ranks' offsets.
+    -- The rank's offsets are in order and lie within the shape.
     pub offsets : (firstAt sh r < firstAt sh (r + 1)) × (firstAt sh (r + 1) ≤ total sh) × (r + 1 < 7)
     offsets =
         let e : suc r + (sh .rank - r) ≡ suc (sh .rank) = omega arith in

@@ -1,4 +1,4 @@
--- The elements of a rank, numbered by their keys one after another.
+-- The elements of a rank are numbered by their keys one after another.
 -- Assumes nothing.
 use mathlib.Core.Path.{_≡_}
 use mathlib.Core.Bool.{true, false}
@@ -14,11 +14,11 @@ use Rattle.element_types.specs.Runs.{keyOf, keyAt, repKeys, Writable}
 
 -- ---- one element
 
--- The number of the first of the m keys that is the key at word q, or m if none is.
+-- Gives the number of the first of the m keys that is the key at word q, or m if none is.
 unfoldable pub numberOf : List ℕ → ℕ → ℕ → ℕ → ℕ
 numberOf v reps m q = place eqList (keyAt v q) (repKeys v reps m)
 
--- The words with that number at word `cell` and, where the key is new, with its place behind the places of the other keys.
+-- Gives the words with that number at word `cell` and, where the key is new, with its place behind the places of the other keys.
 unfoldable pub noted : List ℕ → ℕ → ℕ → ℕ → ℕ → List ℕ
 noted v cell reps m q =
     let p = numberOf v reps m q in
@@ -34,16 +34,16 @@ pub record Open (w : List ℕ) (low i base at cell reps m q : ℕ) : Type 0 wher
 
 -- ---- a rank
 
--- The key of element e, whose list is at word lists + 4 * e and whose type is at word from + e.
+-- Gives the key of element e, whose list is at word lists + 4 * e and whose type is at word from + e.
 unfoldable pub keyIn : List ℕ → ℕ → ℕ → ℕ → ℕ → ℕ → List ℕ
 keyIn w low lists base from e = keyOf w low (lists + 4 * e) base (from + e)
 
--- The keys of the elements below e.
+-- Lists the keys of the elements below e.
 unfoldable pub keysTo : List ℕ → ℕ → ℕ → ℕ → ℕ → ℕ → List (List ℕ)
 keysTo w low lists base from zero = []
 keysTo w low lists base from (suc e) = keysTo w low lists base from e ++ keyIn w low lists base from e ∷ []
 
--- How many words those keys take at most.
+-- Counts the words that those keys take at most.
 unfoldable pub spaceTo : List ℕ → ℕ → ℕ → ℕ
 spaceTo l lists zero = 0
 spaceTo l lists (suc e) = spaceTo l lists e + (2 + length (listAt l (lists + 4 * e)))

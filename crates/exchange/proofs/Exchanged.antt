@@ -1,4 +1,4 @@
--- The exchange in the words: with the lists of two facets in each other's place the words hold the exchanged solid.
+-- With the lists of two facets in each other's place, the words hold the exchanged solid.
 -- Assumes nothing.
 use mathlib.Core.Path.{_≡_, sym, _∙_, ap}
 use mathlib.Core.Logic.{_≢_}
@@ -89,7 +89,7 @@ module _ (sh : Shape) (w : List ℕ) (st : Stored sh w) (d : diamond (absIn sh w
   other-in : 4 * (g + f) + 1 < length w
   other-in = omega (arith, facet-in f low, st .room)
 
-  -- What stands behind the starts and lengths.
+  -- What stands behind the starts and lengths is as it was.
   rest : drop (4 * total sh) w′ ≡ drop (4 * total sh) w
   rest = lists-drop w g (g + f) (4 * total sh) (omega (arith, facet-in f low)) (omega (arith, facet-in f low))
 
@@ -105,7 +105,7 @@ module _ (sh : Shape) (w : List ℕ) (st : Stored sh w) (d : diamond (absIn sh w
       let q : getD w′ (suc (4 * k)) 0 ≡ getD w (suc (4 * j)) 0 = rw (add-one (4 * k), add-one (4 * j)) at (e .1) in
       rw (q, e .0) (ap (take (getD w (suc (4 * j)) 0)) (past (getD w (4 * j) 0) (st .apart j h)))
 
-  -- Where an element's list came from.
+  -- Each element's list came from some element.
   came : (k : ℕ) → k < total sh → (j : ℕ) × (j < total sh) × Came w w′ k j
   came k h = go (ℕ-discrete k g) (ℕ-discrete k (g + f))
     where

@@ -1,4 +1,4 @@
--- Words and lists that change places: what stands where then.
+-- Words and lists change places, and this file says what stands where then.
 -- Assumes nothing.
 use mathlib.Core.Path.{_≡_, _∙_, ap}
 use mathlib.Core.Logic.{_≢_}
@@ -46,7 +46,7 @@ module _ (w : List ℕ) (i j : ℕ) where
 
 -- ---- two lists
 
--- element k of w′ has the start and the length that element j of w has
+-- Element k of w′ has the start and the length that element j of w has.
 abbrev pub Came : List ℕ → List ℕ → ℕ → ℕ → Type 0
 Came w w′ k j = (getD w′ (4 * k) 0 ≡ getD w (4 * j) 0) × (getD w′ (4 * k + 1) 0 ≡ getD w (4 * j + 1) 0)
 
@@ -95,7 +95,7 @@ module _ (w : List ℕ) (g h : ℕ) where
         swapped-take one (4 * g + 1) (4 * h + 1) n hg hh
         ∙ ap (λ (v : List ℕ). swapped v (4 * g + 1) (4 * h + 1)) (swapped-take w (4 * g) (4 * h) n (omega arith) (omega arith))
 
--- One swap after the other.
+-- One swap comes after the other.
 pub lists-are : (w w₁ w₂ : List ℕ) (g h : ℕ) → w₁ ≡ swapped w (4 * g) (4 * h) → w₂ ≡ swapped w₁ (4 * g + 1) (4 * h + 1) → w₂ ≡ swappedLists w g h
 unfolding swappedLists
 lists-are w w₁ w₂ g h e₁ e₂ = rw (← e₁) e₂

@@ -1,4 +1,4 @@
--- Words, and the lists of subs that they describe, that change places.
+-- Words, and the lists of subs that they describe, change places.
 -- Assumes nothing.
 use Prim.Native.Nat.{ℕ, _+_, _*_}
 use mathlib.Core.List.{List}

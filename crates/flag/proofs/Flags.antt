@@ -1,4 +1,4 @@
--- The laws that the loops over flags pass on: going down from the top, and looking for the other element.
+-- This file has the laws that the loops over flags pass on: going down from the top, and looking for the other element.
 -- Assumes nothing.
 use mathlib.Core.Path.{_≡_, refl, sym, _∙_, ap}
 use mathlib.Core.Bool.{Bool, true, false, not}
@@ -88,7 +88,7 @@ module _ (sh : Shape) (w : List ℕ) (h : Held sh w) where
 -- ---- the other element
 
 module _ (e : ℕ) (p : ℕ → Bool) where
-  -- k entries in, what is left gives what the whole gives
+  -- After k entries, what is left gives what the whole gives.
   abbrev pub OtherFrom : List ℕ → ℕ → Type 0
   OtherFrom l k = otherIn e (keep p (drop k l)) ≡ otherIn e (keep p l)
 
@@ -122,7 +122,7 @@ module _ (e : ℕ) (p : ℕ → Bool) where
   unfolding keep otherIn firstIn
   other-end l k h inv = rw (drop-of-length-le l h) at inv
 
--- What the definition gives in the two cases.
+-- The definition gives a number in the one case, and none in the other.
 module _ (e : ℕ) (l : List ℕ) where
   first-or : (m : List ℕ) → ((y : ℕ) → some y ≡ firstIn m → y ≡ getD m 0 e) × (none ≡ firstIn m → e ≡ getD m 0 e)
   unfolding firstIn

@@ -1,4 +1,4 @@
--- The flag after a flag, in the words that hold the solid: a move at a rank, and the loop over the ranks.
+-- The flag after a flag is found in the words that hold the solid, by a move at a rank and the loop over the ranks.
 -- Assumes nothing.
 use mathlib.Core.Path.{_≡_, refl, sym, _∙_, ap, subst}
 use mathlib.Core.Bool.{Bool, true, false, true≢false, false≢true}
@@ -31,7 +31,7 @@ module _ (sh : Shape) (w : List ℕ) (h : Held sh w) (els : List ℕ) (r : ℕ) 
   pub word-fits : 4 * (firstAt sh (r + 1) + getD els (r + 1) 0) + 2 ≤ length w + 2
   word-fits = omega (arith, above-at, subs-lie sh w h (suc r) (getD els (suc r) 0) b up .head)
 
-  -- The list that the element at r moves on in, at word i.
+  -- The list that the element at r moves on in stands at word i.
   module _ (i : ℕ) (word : i ≡ 4 * (firstAt sh (r + 1) + getD els (r + 1) 0)) where
     pub above-lies : Lies w i
     above-lies = rw (word ∙ above-at) (subs-lie sh w h (suc r) (getD els (suc r) 0) b up)

@@ -1,4 +1,4 @@
--- A loop over the flags: it starts at flag 0, each turn goes on to the next number, and it ends after the last.
+-- A loop over the flags starts at flag 0, each turn goes on to the next number, and it ends after the last.
 -- Assumes nothing.
 use mathlib.Core.Path.{_≡_, sym, _∙_}
 use mathlib.Core.Bool.{Bool, true, false}

@@ -1,4 +1,4 @@
--- Which flag comes after which in `flags`: the lowest rank whose element is not the last sub of the next moves on, and below it the first subs are taken.
+-- In `flags`, the lowest rank whose element is not the last sub of the next moves on, and below it the first subs are taken.
 -- Assumes nothing.
 use mathlib.Core.Path.{_≡_, refl, sym, _∙_, ap}
 use mathlib.Core.Logic.{inl, inr}
@@ -12,18 +12,18 @@ use Rattle.spec.specs.Demand.{Sound}
 use Rattle.spec.specs.Flags.{Flag, firstTo, flagsTo, flags}
 use Rattle.spec.proofs.FlagList.{every-flag-once}
 
--- F is the last of L
+-- The last of L is F.
 pub record Last {A : Type 0} (F : A) (L : List A) : Type 0 where
   pub front : List A
   pub is : L ≡ front ++ (F ∷ [])
 
--- G stands right after F in L
+-- In L, G stands right after F.
 pub record After {A : Type 0} (F G : A) (L : List A) : Type 0 where
   pub front : List A
   pub back : List A
   pub is : L ≡ front ++ (F ∷ G ∷ back)
 
--- G is the first of L
+-- The first of L is G.
 pub record Starts {A : Type 0} (G : A) (L : List A) : Type 0 where
   pub back : List A
   pub is : L ≡ G ∷ back
@@ -51,7 +51,7 @@ unfolding join
 join-append h [] b = refl
 join-append h (x ∷ a) b = ap (λ l. h x ++ l) (join-append h a b) ∙ sym (append-assoc (h x) (join (map h a)) (join (map h b)))
 
--- at entry f of the list, with a before it and b after it
+-- The step is made at entry f of the list, with a before it and b after it.
 module _ {A : Type 0} (h : ℕ → List A) (a : List ℕ) (f : ℕ) (b : List ℕ) (F G : A) where
   abbrev all : List A
   all = join (map h (a ++ (f ∷ b)))
@@ -109,7 +109,7 @@ module _ (s : Solid) (ok : Sound s) (filled : (r e : ℕ) → e < size s (suc r)
           let t = starts-map (λ (F : Flag). F ++ (e ∷ [])) (firstTo s r x) (firstTo s r x) (flagsTo s r x) (ih x (ok .below r e x (rw q (inl refl)))) in
           rw q (record { back = t .back ++ join (map (λ f. map (λ F. F ++ (e ∷ [])) (flagsTo s r f)) l); is = ap (λ m. m ++ join (map (λ f. map (λ F. F ++ (e ∷ [])) (flagsTo s r f)) l)) (t .is) })
 
--- at entry f of the subs of e
+-- The step is made at entry f of the subs of e.
 module _ (s : Solid) (r e : ℕ) (a : List ℕ) (f : ℕ) (b : List ℕ) (q : subs s (suc r) e ≡ a ++ (f ∷ b)) (F G : Flag) where
   abbrev up : Flag → Flag
   up H = H ++ (e ∷ [])
@@ -117,7 +117,7 @@ module _ (s : Solid) (r e : ℕ) (a : List ℕ) (f : ℕ) (b : List ℕ) (q : su
   abbrev ups : ℕ → List Flag
   ups x = map (λ H. H ++ (e ∷ [])) (flagsTo s r x)
 
-  -- The same step one rank up.
+  -- The same step is made one rank up.
   pub after-up : After F G (flagsTo s r f) → After (F ++ (e ∷ [])) (G ++ (e ∷ [])) (flagsTo s (suc r) e)
   unfolding flagsTo
   after-up t = rw q (after-join ups a f b (up F) (up G) (after-map up F G (flagsTo s r f) t))
@@ -127,7 +127,7 @@ module _ (s : Solid) (r e : ℕ) (a : List ℕ) (f : ℕ) (b : List ℕ) (q : su
   unfolding flagsTo
   last-up z t = rw q (last-join ups a f b (up F) (up G) (last-map up F G (flagsTo s r f) t) z)
 
-  -- And of another sub's, the first of the next sub's comes after it.
+  -- After the last of another sub's flags comes the first of the next sub's.
   pub cross-up : (g : ℕ) (c : List ℕ) → b ≡ g ∷ c → Last F (flagsTo s r f) → Starts G (flagsTo s r g)
       → After (F ++ (e ∷ [])) (G ++ (e ∷ [])) (flagsTo s (suc r) e)
   unfolding flagsTo

@@ -1,4 +1,4 @@
--- The lists that a change at rank r looks through, of the element above and of the one below.
+-- A change at rank r looks through the lists of the element above and of the one below.
 -- Assumes nothing.
 use mathlib.Core.Path.{_≡_}
 use mathlib.Core.List.{List}
@@ -9,7 +9,7 @@ use Rattle.ranked.specs.Words.{firstAt, sizeAt, Held}
 use Rattle.ranked.specs.Reading.{subsWord, supsWord, Fork}
 use Rattle.ranked.proofs.Judged.{fork}
 
--- g is of the rank above, x of the one below
+-- Element g is of the rank above, and x of the one below.
 pub sides : (sh : Shape) (w : List ℕ) → Held sh w → (r : ℕ) → 0 < r → r < sh .rank → (g : ℕ) → g < sizeAt sh (suc r) → (x : ℕ) → x < sizeAt sh (r - 1)
     → Fork w (subsWord (firstAt sh (suc r)) g) (supsWord (firstAt sh (r - 1)) x) (4 * (firstAt sh r + 0)) g x
 sides sh w h zero a b g k x l = absurd (omega arith)

@@ -1,4 +1,4 @@
--- A step to the next flag, as the loop over ranks makes it.
+-- A step to the next flag is made as the loop over ranks makes it.
 -- Assumes nothing.
 use mathlib.Core.Path.{_≡_, sym, _∙_, ap, subst}
 use mathlib.Core.Logic.{inl, inr}
@@ -94,7 +94,7 @@ module _ (s : Solid) (ok : Sound s) (filled : (r e : ℕ) → e < size s (suc r)
       rw (more r k)
       (after-up s r (at (suc r)) (take (place eqb (at r) (list r)) (list r)) (at r) (drop (suc (place eqb (at r) (list r))) (list r)) (split (at r) (list r) (chain r k)) (take (suc r) els) G t)
 
-  -- From rank q on, n ranks more.
+  -- The step goes on from rank q through n ranks more.
   pub climb : (n q : ℕ) → q + n ≤ R → (G : Flag) → After (take (suc q) els) G (flagsTo s q (at q))
       → After (take (suc (q + n)) els) (G ++ take n (drop (suc q) els)) (flagsTo s (q + n) (at (q + n)))
   climb zero q h G t = rw (add-zero q, append-nil G) t
@@ -103,7 +103,7 @@ module _ (s : Solid) (ok : Sound s) (filled : (r e : ℕ) → e < size s (suc r)
       let x : drop (suc q) els ≡ at (suc q) ∷ drop (suc (suc q)) els = drop-cons els (suc q) 0 (omega arith) in
       rw (e, x, ← append-assoc G (at (suc q) ∷ []) (take n (drop (suc (suc q)) els))) (climb n (suc q) (omega arith) (G ++ (at (suc q) ∷ [])) (after-step q (omega arith) G t))
 
-  -- The element at r moved on to the next sub, with first subs below it, up to the top.
+  -- The element at r moves on to the next sub, with first subs below it, up to the top.
   pub next-flag : (r : ℕ) → r < R → Last (take (suc r) els) (flagsTo s r (at r)) → (k : ℕ) → k ≡ suc (place eqb (at r) (list r)) → k < length (list r)
       → getD (list r) k 0 < size s r
       → After (take (suc R) els) (firstTo s r (getD (list r) k 0) ++ take (R - r) (drop (suc r) els)) (flagsTo s R (at R))

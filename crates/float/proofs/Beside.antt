@@ -1,4 +1,4 @@
--- A row of the matrix beside a row of the identity, in arrays of any width.
+-- A row of the matrix stands beside a row of the identity, in arrays of any width.
 -- Assumes nothing.
 use mathlib.Core.Path.{_≡_, refl, sym, ap, _∙_}
 use mathlib.Core.Bool.{true, false}
@@ -33,7 +33,7 @@ unit-cell : (d i j : ℕ) → i < d → j < d → Dec (j ≡ i) → getD (set (r
 unit-cell d i j h k (yes e) = rw (e, eq-eqb i i refl, getD-set-same (replicate d zeroF) i oneF zeroF (rw length-replicate h))
 unit-cell d i j h k (no e) = rw (ne-eqb i j (λ q. e (sym q)), getD-set-other (replicate d zeroF) i j oneF zeroF e, getD-replicate d j zeroF zeroF k)
 
--- zeros with a one at i are row i of the identity
+-- Zeros with a one at i are row i of the identity.
 unit-set : (d i : ℕ) → i < d → set (replicate d zeroF) i oneF ≡ unit d i
 unfolding unit
 unit-set d i h =
@@ -65,7 +65,7 @@ beside-rows d m h =
     sym (zip-maps (λ x e. x ++ e) (λ i. take d (row m i)) (unit d) (range 0 d))
     ∙ ap (λ (a : Matrix). zip (λ x e. x ++ e) a (map (unit d) (range 0 d))) (over-corner (λ x. x) d m h ∙ map-id (corner d m))
 
--- The half that was a row of the identity, and how long it is.
+-- The half that was a row of the identity can be taken out of the row, and has a known length.
 pub drop-take : {A : Type 0} (d n : ℕ) (l : List A) → d ≤ length l → drop d (take (d + n) l) ≡ take n (drop d l)
 drop-take d n l h = rw (take-add d n l) (drop-at (take d l) (take n (drop d l)) d (length-take-le d l h))
 

@@ -1,4 +1,4 @@
--- The loop over the columns: what is left to eliminate gives what the whole elimination gives.
+-- In the loop over the columns, what is left to eliminate gives what the whole elimination gives.
 -- Assumes nothing.
 use mathlib.Core.Path.{_≡_, refl, sym, ap, ap₂, _∙_}
 use mathlib.Core.Bool.{Bool, true, false, not}
@@ -62,7 +62,7 @@ flip k = go (ℕ-discrete (k % 2) 1)
 abbrev pub begin : Matrix → Work
 begin a = record { rows = a; pivots = []; swaps = 0 }
 
--- A is what the columns before c made of a₀, t the product of their pivots, and odd says whether their swaps are odd in number.
+-- The matrix a is what the columns before c made of a₀, t is the product of their pivots, and odd says whether their swaps are odd in number.
 pub record Run (d : ℕ) (a₀ a : Matrix) (t : Float) (odd : Bool) (c : ℕ) : Type 0 where
   pub pivots : List Float
   pub swaps : ℕ

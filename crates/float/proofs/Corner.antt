@@ -1,4 +1,4 @@
--- The leading d by d part of a matrix.
+-- This file has the laws of the leading d by d part of a matrix.
 -- Assumes nothing.
 use mathlib.Core.Path.{_≡_, refl, sym, ap, _∙_}
 use mathlib.Core.List.{List, [], _∷_, map}
@@ -22,7 +22,7 @@ pub length-corner : (d : ℕ) (m : List (List Float)) → d ≤ length m → len
 unfolding corner
 length-corner d m h = length-map (take d m) (take d) ∙ length-take-le d m h
 
--- g of the rows, taken by number, is g of the rows
+-- Applying g to the rows by number gives g of the rows.
 pub over-leading : {B : Type 0} (g : Vector → B) (d n : ℕ) (m : List (List Float)) → d ≤ length m →
     map (λ i. g (take n (getD m i []))) (range 0 d) ≡ map g (leading d n m)
 unfolding leading

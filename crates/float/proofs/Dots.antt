@@ -1,4 +1,4 @@
--- The loop of a dot product: what is left to add gives what the whole gives.
+-- In the loop of a dot product, what is left to add gives what the whole gives.
 -- Assumes nothing.
 use mathlib.Core.Path.{_≡_, refl, sym, _∙_}
 use mathlib.Core.List.{List, [], _∷_}
@@ -10,7 +10,7 @@ use lib.Seq.{drop-cons}
 use lib.Ieee.{Float, nan, binary64, ofBits}
 use Rattle.spec.specs.Float.{zeroF, plus, times, zip, addOn, total, dot}
 
--- t is the sum of the first i products
+-- The float t is the sum of the first i products.
 abbrev pub Summed : List Float → List Float → Float → ℕ → Type 0
 Summed a b t i = addOn t (zip times (drop i a) (drop i b)) ≡ dot a b
 

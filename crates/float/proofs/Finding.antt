@@ -1,4 +1,4 @@
--- What the answer of a scan tells of the number that was sought.
+-- The answer of a scan tells this of the number that was sought.
 -- Assumes nothing.
 use mathlib.Core.Path.{_≡_, refl, ap, _∙_}
 use mathlib.Core.Bool.{Bool, true, false}
@@ -44,7 +44,7 @@ nothing-number {n} {x} e = go (ltb x n) refl e
     go true t z = let i : _≡_ {A = ℕ} 0 1 = cc in absurd (omega arith)
     go false t z = ltb-false x n t
 
--- Whether a point is found among n points, by the answer of the scan.
+-- The answer of the scan tells whether a point is found among n points.
 module _ (ps : List Vector) (q : Vector) {n : ℕ} (all : length ps ≡ n) where
   pub is-found : {k : ℕ} → foundAt n (find ps q) ≡ At k → found ps q ≡ true
   is-found {k} e = go (found ps q) refl

@@ -1,4 +1,4 @@
--- The steps of the elimination on whole arrays, as their leading parts show them: for d rows and n entries of any arrays.
+-- The steps of the elimination on whole arrays are those that their leading parts show, for d rows and n entries of any arrays.
 -- Assumes nothing.
 use mathlib.Core.Path.{_≡_, refl, sym, ap, ap₂, _∙_}
 use mathlib.Core.Bool.{Bool, true, false}
@@ -35,7 +35,7 @@ zip-map f g [] b = refl
 zip-map f g (x ∷ a) [] = refl
 zip-map {D = D} f g (x ∷ a) (y ∷ b) = ap (λ (z : List D). f x (g y) ∷ z) (zip-map f g a b)
 
--- What row r becomes in column c, where the pivot row is divided.
+-- This is what row r becomes in column c, where the pivot row is divided.
 abbrev pub nextRow : ℕ → Vector → ℕ → Vector → Vector
 nextRow c pivot r v = elim (eqb r c) [ true ↦ pivot | false ↦ cleared c pivot v ]
 
@@ -90,7 +90,7 @@ next-take n c pivot r v h = go (eqb r c)
     go true = refl
     go false = cleared-take n c pivot v h
 
--- A whole column: the swap, the division and the clearing.
+-- A whole column takes the swap, the division and the clearing.
 pub column-leading : (d n : ℕ) (w : Matrix) (p c : ℕ) (x : Float) → p < d → c < d →
     clear c (take n (divided (row (swapRows w p c) c) x)) (leading d n (swapRows w p c))
     ≡ (let a = swapRows (leading d n w) p c in clear c (divided (row a c) x) a)

@@ -1,4 +1,4 @@
--- The magnitude by two tests against 0: each public lemma is one of the three ways through the tests.
+-- The magnitude goes by two tests against 0, and each public lemma is one of the three ways through the tests.
 -- Assumes nothing.
 use mathlib.Core.Path.{_≡_, refl, sym, ap}
 use mathlib.Core.Bool.{Bool, true, false, _&&_, _||_}

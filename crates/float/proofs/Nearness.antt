@@ -1,4 +1,4 @@
--- Loops that compare a point with another, axis by axis, and with the points of a list, one by one: what is left to do gives what the whole gives.
+-- In the loops that compare a point with another, axis by axis, and with the points of a list, one by one, what is left gives what the whole gives.
 -- Assumes nothing.
 use mathlib.Core.Path.{_≡_, refl, sym, ap, _∙_}
 use mathlib.Core.Bool.{Bool, true, false}
@@ -25,7 +25,7 @@ in-range-is (fin s m e) = refl
 
 -- ---- one point
 
--- within EPS on axis i
+-- Tells whether two points are within EPS on axis i.
 abbrev pub axisNear : Vector → Vector → ℕ → Bool
 axisNear p q i = le (absF (minus (getD p i nan) (getD q i nan))) eps
 
@@ -59,7 +59,7 @@ module _ {p q : Vector} where
 
 -- ---- the lowest of a list
 
--- None before k is near.
+-- None of the points before k is near.
 pub record FoundFrom (ps : List Vector) (q : Vector) (k : ℕ) : Type 0 where
   pub is : k + find (drop k ps) q ≡ find ps q
 
@@ -86,11 +86,11 @@ module _ {ps : List Vector} {q : Vector} where
 
 -- ---- the parts of a slice
 
--- point k is d wide
+-- Point k is d wide.
 pub part-wide : (d : ℕ) (l : Vector) (k : ℕ) → k * d + d ≤ length l → length (take d (drop (k * d) l)) ≡ d
 part-wide d l k h = length-take-le d (drop (k * d) l) (omega (arith, length-drop (k * d) l))
 
--- point k, of one axis at least, is not near where its first axis is not
+-- Point k, of one axis at least, is not near where its first axis is not.
 pub first-not : (d : ℕ) (l q : Vector) (k : ℕ) → 1 ≤ d → d ≤ length q → k * d + d ≤ length l →
     le (absF (minus (getD l (k * d) nan) (getD q 0 nan))) eps ≡ false → false ≡ near (take d (drop (k * d) l)) (take d q)
 first-not d l q k low wide h t =
@@ -100,13 +100,13 @@ first-not d l q k low wide h t =
     near-not {p = p} {q = q} {i = 0} (omega (arith, long)) (omega (arith, long)) near-none (ap (λ (x : Float). le (absF (minus x (getD q 0 nan))) eps) first ∙ t)
     ∙ ap (λ (w : ℕ). near p (take w q)) long
 
--- points of no axes are near all
+-- Points of no axes are near all.
 pub find-flat : (n : ℕ) (l : Vector) (q : Vector) → 0 ≡ find (parts n 0 l) q
 unfolding find place near parts
 find-flat zero l q = refl
 find-flat (suc n) l q = refl
 
--- What a comparison with a slice tells of point k.
+-- A comparison with a slice tells this of point k.
 pub near-part : (d : ℕ) (l q : Vector) (k : ℕ) (p : Vector) → k * d + d ≤ length l → p ≡ take d (drop (k * d) l) →
     near p (take (length p) q) ≡ near (take d (drop (k * d) l)) (take d q)
 near-part d l q k p h e =

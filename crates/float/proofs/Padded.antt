@@ -1,4 +1,5 @@
--- Arrays whose cells past the entries hold zeros: the entries are read of them again, and a loop that writes the first cells of zeros leaves one.
+-- In arrays whose cells past the entries hold zeros, the entries can be read back, and a loop that writes the first cells of zeros leaves such an
+-- array.
 -- Assumes nothing.
 use mathlib.Core.Path.{_≡_, refl, sym, ap, ap₂, _∙_}
 use mathlib.Core.Logic.{inl, inr}
@@ -34,7 +35,7 @@ corner-padded d m r s e = ap (λ (x : Matrix). map (take d) (take d x)) e ∙ ap
 
 -- ---- the same of an image, of columns and of a product: each has d entries, or d rows of d, where the matrix has d rows
 
--- rows that are told by their numbers
+-- Rows that are told by their numbers make a square.
 pub square-table : (g : ℕ → Vector) (d : ℕ) → ((k : ℕ) → k < d → length (g k) ≡ d) → Square d (map g (range 0 d))
 square-table g d f = (length-table g d, λ r m. let u = in-map g r (range 0 d) m in ap length (u .2) ∙ f (u .0) (omega (arith, of-range 0 d (u .0) (u .1) .1)))
 

@@ -1,4 +1,4 @@
--- The parts of a list: how many there are, each of them, and what is one more.
+-- This file has the laws of the parts of a list: how many there are, each of them, and what is one more.
 -- Assumes nothing.
 use mathlib.Core.Path.{_≡_, refl, sym, ap, ap₂, _∙_}
 use mathlib.Core.List.{List, [], _∷_, _++_, map}
@@ -17,7 +17,7 @@ module _ {A : Type 0} where
   length-parts zero d l = refl
   length-parts (suc n) d l = ap suc (length-parts n d (drop d l))
 
-  -- n parts in, k further on
+  -- Going n parts on after the first part is going on by n + 1 parts.
   further : (n d : ℕ) (l : List A) → drop (n * d) (drop d l) ≡ drop (suc n * d) l
   further n d l = rw (drop-drop (n * d) d l, suc-mul n d, add-comm (n * d) d)
 
@@ -27,14 +27,14 @@ module _ {A : Type 0} where
   part-at (suc n) d l zero h = rw zero-mul
   part-at (suc n) d l (suc k) h = part-at n d (drop d l) k (omega arith) ∙ ap (take d) (further k d l)
 
-  -- One part more.
+  -- One part more is the part after the first n.
   pub parts-more : (n d : ℕ) (l : List A) → parts (suc n) d l ≡ parts n d l ++ (take d (drop (n * d) l) ∷ [])
   unfolding parts
   parts-more zero d l = rw zero-mul
   parts-more (suc n) d l =
       ap (λ (x : List (List A)). take d l ∷ x) (parts-more n d (drop d l) ∙ ap (λ (x : List A). parts n d (drop d l) ++ (take d x ∷ [])) (further n d l))
 
-  -- One after another they are what they were cut from.
+  -- The parts, one after another, are what they were cut from.
   pub join-parts : (n d : ℕ) (l : List A) → join (parts n d l) ≡ take (n * d) l
   unfolding parts join
   join-parts zero d l = rw zero-mul
@@ -55,7 +55,7 @@ module _ {A : Type 0} where
       (ap (λ (k : ℕ). take d (take k l)) e ∙ take-take d (d + n * d) l (omega arith))
       (ap (λ (k : ℕ). parts n d (drop d (take k l))) e ∙ ap (parts n d) (drop-take d (n * d) l) ∙ parts-take n d (drop d l))
 
-  -- The parts, by their numbers.
+  -- The parts are those that their numbers tell.
   pub parts-table : (n d : ℕ) (l : List A) → map (λ i. take d (drop (i * d) l)) (range 0 n) ≡ parts n d l
   parts-table n d l =
       let t = length-table (λ i. take d (drop (i * d) l)) n in
@@ -64,7 +64,7 @@ module _ {A : Type 0} where
   pub parts-same : (n d : ℕ) (l m : List A) → take (n * d) l ≡ take (n * d) m → parts n d l ≡ parts n d m
   parts-same n d l m e = sym (parts-take n d l) ∙ ap (parts n d) e ∙ parts-take n d m
 
--- The end of part k.
+-- Part k ends within the cells that are cut.
 pub part-end : (n d k : ℕ) → k < n → k * d + d ≤ n * d
 part-end n d k h = rw suc-mul at (mul-le-mul-right d h)
 
@@ -72,13 +72,13 @@ part-end n d k h = rw suc-mul at (mul-le-mul-right d h)
 pub part-long : {A : Type 0} (n d : ℕ) (l : List A) (k : ℕ) → k < n → n * d ≤ length l → length (take d (drop (k * d) l)) ≡ d
 part-long n d l k h f = length-take-le d (drop (k * d) l) (omega (arith, length-drop (k * d) l, part-end n d k h))
 
--- A list of d cells that others follow, of which it is the first.
+-- A list of d cells that others follow is the first d cells of them all.
 pub first-of : {A : Type 0} (d : ℕ) (p r rest : List A) → length p ≡ d → r ≡ p ++ rest → take d r ≡ p
 first-of d p r rest h e = ap (take d) e ∙ take-at p rest d h
 
 -- ---- matrices that stand row by row, d times d floats each
 
--- row i of matrix j
+-- Row i of matrix j starts i rows after the start of the matrix.
 pub row-place : (d j i : ℕ) → (j * d + i) * d ≡ j * (d * d) + i * d
 row-place d j i = add-mul (j * d) i d ∙ ap (λ (k : ℕ). k + i * d) (mul-assoc j d d)
 

@@ -1,4 +1,4 @@
--- The loop that looks for a pivot: what is left to scan gives what the whole scan gives.
+-- In the loop that looks for a pivot, what is left to scan gives what the whole scan gives.
 -- Assumes nothing.
 use mathlib.Core.Path.{_≡_, sym, _∙_}
 use mathlib.Core.Bool.{true, false}
@@ -12,7 +12,7 @@ use Rattle.spec.specs.Lists.{range}
 use Rattle.spec.specs.Float.{absF}
 use Rattle.spec.specs.Matrix.{Matrix, entry, scan, pivotRow}
 
--- row p is the pivot of the rows before r
+-- Row p is the pivot of the rows before r.
 pub record Scanned (a : Matrix) (d c p r : ℕ) : Type 0 where
   pub is : scan a c p (range r (d - r)) ≡ pivotRow a c
 

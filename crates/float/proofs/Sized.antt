@@ -1,4 +1,4 @@
--- What a function is told of an array of arrays that it is passed: each row has its width.
+-- A function is told of an array of arrays that it is passed that each row has its width.
 -- Assumes nothing.
 use mathlib.Core.Path.{_≡_, refl}
 use mathlib.Core.List.{List, [], _∷_}
@@ -21,7 +21,7 @@ module _ (R : RattleType) (w : ℕ) where
   pub wide : (n : ℕ) (m : List (List (R .Denot))) (vs : List Val) (i : ℕ) → Is (Array (Array R w) n) m vs → i < n → length (getD m i []) ≡ w
   wide n m vs i p h = each-wide m (p .0) i (p .1 .1) (omega (arith, p .1 .0 .1))
 
--- within the list the default is not read
+-- Within the list the default is not read.
 pub getD-any : {A : Type 0} (l : List A) (i : ℕ) (x y : A) → i < length l → getD l i x ≡ getD l i y
 getD-any [] i x y h = absurd (omega arith)
 getD-any (z ∷ l) zero x y h = refl

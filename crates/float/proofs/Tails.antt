@@ -1,4 +1,4 @@
--- The part of a buffer from a cell to its end: what a loop writes at its front, and the buffer as it is back from the call.
+-- This file is about the part of a buffer from a cell to its end: what a loop writes at its front, and the buffer as it is back from the call.
 -- Assumes nothing.
 use mathlib.Core.Path.{_≡_, sym, ap, ap₂, _∙_}
 use mathlib.Core.List.{List, [], _++_, append-nil, append-assoc}
@@ -19,28 +19,28 @@ module _ {A : Type 0} (l ys : List A) (k : ℕ) (h : k ≤ length l) where
       let post : postOf k (length l - k) l ≡ [] = drop-of-length-le (drop k l) {i = length l - k} (omega (arith, length-drop k l)) in
       rw (post, append-nil)
 
-  -- With new, w cells, written at its front.
+  -- The w cells `new` are written at the front of the part.
   pub tail-written : (w : ℕ) (new : List A) → length new ≡ w → ys ≡ written new (midOf k (length l - k) l) → putMid k (length l - k) l ys ≡ take k l ++ (new ++ drop w (drop k l))
   unfolding written
   tail-written w new n e = tail-back ∙ ap (λ (y : List A). take k l ++ y) (e ∙ ap₂ (λ (a : ℕ) (b : List A). new ++ drop a b) n tail-is)
 
 -- ---- an output that is filled from its front
 
--- `cells` stand in the output; `new` is written to the part after them
+-- The list `cells` stands in the output, and `new` is written to the part after it.
 written-after : {A : Type 0} (cells new old : List A) → take (length cells) (written cells old) ++ written new (drop (length cells) (written cells old)) ≡ written (cells ++ new) old
 unfolding written
 written-after cells new old =
     rw (take-append-seam cells (drop (length cells) old), drop-append-seam cells (drop (length cells) old), drop-drop (length new) (length cells) old, length-append cells new)
     (sym (append-assoc cells new (drop (length cells + length new) old)))
 
--- The same of a part that was lent and is back.
+-- The same holds of a part that was lent and is back.
 pub part-written : {A : Type 0} (cells new old now part : List A) (k : ℕ) → length cells ≡ k → k ≤ length now → now ≡ written cells old
     → part ≡ written new (midOf k (length now - k) now) → putMid k (length now - k) now part ≡ written (cells ++ new) old
 part-written cells new old now part k l h z e =
     tail-back now part k h ∙ ap (λ u. take k now ++ u) (e ∙ ap (λ u. written new u) (tail-is now part k h)) ∙ rw (z, ← l) (written-after cells new old)
 
 module _ {A : Type 0} (q l : List A) where
-  -- The first i cells are q's, and one more.
+  -- The first i cells are q's, and then one more is.
   pub front-next : (i : ℕ) (z : A) → i < length q → i < length l → set (take i q ++ drop i l) i (getD q i z) ≡ take (i + 1) q ++ drop (i + 1) l
   front-next i z h k =
       let y = getD q i z in

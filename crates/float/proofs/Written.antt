@@ -1,4 +1,4 @@
--- A loop that writes one cell a turn, in arrays of any width: what it leaves, as a map over the cells' numbers or over lists.
+-- A loop that writes one cell a turn, in arrays of any width, leaves a map over the cells' numbers or over lists.
 -- Assumes nothing.
 use mathlib.Core.Path.{_≡_, refl, sym, ap, ap₂, _∙_}
 use mathlib.Core.List.{List, [], _∷_, _++_, map, map-append, map-id}
@@ -16,7 +16,8 @@ unfolding range
 range-snoc g a zero b e = ap (λ x. g x ∷ []) (e ∙ add-zero a)
 range-snoc {B} g a (suc n) b e = ap (λ (x : List B). g a ∷ x) (range-snoc g (suc a) n b (omega arith))
 
--- The loop's invariant: r is l but for its first n cells, and what f reads of those is g's. f serves where a callee says only a part of what it hands back.
+-- The loop's invariant is that r is l but for its first n cells, and that what f reads of those is g's. Here f serves where a callee says only a part
+-- of what it hands back.
 pub record Written {A B : Type 0} (f : A → B) (g : ℕ → B) (l r : List A) (n : ℕ) : Type 0 where
   pub long : length r ≡ length l
   pub read : map f (take n r) ≡ map g (range 0 n)
@@ -44,7 +45,7 @@ module _ {A : Type 0} {g : ℕ → A} {l : List A} where
   pub end-plain : {r : List A} {i : ℕ} (n : ℕ) → i ≤ n → n ≤ i → Written (λ x. x) g l r i → take n r ≡ map g (range 0 n)
   end-plain {r} n p q w = sym (map-id (take n r)) ∙ end n p q w
 
-  -- Where the loop went through every cell.
+  -- The loop went through every cell.
   pub all : {r : List A} {i : ℕ} (n : ℕ) → length l ≡ n → i ≤ n → n ≤ i → Written (λ x. x) g l r i → r ≡ map g (range 0 n)
   all {r} {i} n h p q w = sym (take-all n r (omega (arith, w .long))) ∙ end-plain n p q w
 
@@ -88,7 +89,7 @@ zip-shift f a zero l = refl
 zip-shift f a (suc n) [] = refl
 zip-shift {C = C} f a (suc n) (y ∷ l) = ap (λ (z : List C). f (suc a) y ∷ z) (zip-shift f (suc a) n l)
 
--- With the cell's number as an argument.
+-- The same holds with the cell's number as an argument.
 pub table-count : {B C : Type 0} (f : ℕ → B → C) (y : B) (l : List B) (n : ℕ) → n ≤ length l →
     map (λ i. f i (getD l i y)) (range 0 n) ≡ zip f (range 0 n) (take n l)
 unfolding range zip
@@ -99,7 +100,7 @@ table-count {C = C} f y (x ∷ l) (suc n) h =
     (λ (z : List C). f 0 x ∷ z)
     (shift (λ i. f i (getD (x ∷ l) i y)) 0 n ∙ table-count (λ i. f (suc i)) y l n (omega arith) ∙ sym (zip-shift f 0 n (take n l)))
 
--- A list copied into an array of k equal cells.
+-- A list is copied into an array of k equal cells.
 pub copied : {A : Type 0} (p r : List A) (x z : A) (k i n : ℕ) → n ≤ length p → i ≤ n → n ≤ i → Written (λ y. y) (λ j. getD p j x) (replicate k z) r i →
     r ≡ take n p ++ replicate (k - n) z
 copied p r x z k i n h a b w =

@@ -1,2 +1,2 @@
--- What the proofs of module `bits` share.
+-- The proofs of module `bits` share these facts.
 mod Nans

@@ -1,4 +1,4 @@
--- What the proofs of the root's functions use.
+-- The proofs of the root's functions use these facts.
 mod Digits
 mod Fields
 mod Rounded

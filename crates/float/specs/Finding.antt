@@ -1,4 +1,4 @@
--- The answers of the code that looks for something in a list, in terms of document 01's numbers.
+-- The answers of the code that looks for something in a list are given here in terms of document 01's numbers.
 -- Assumes nothing.
 use mathlib.Core.Bool.{true, false}
 use mathlib.Core.List.{List, [], _∷_}
@@ -12,7 +12,7 @@ use Rattle.float.specs.declared.points.Found.the-variants.{At, Nothing}
 unfoldable pub foundAt : ℕ → ℕ → Found
 foundAt n k = elim (ltb k n) as (λ _. Found) [ true ↦ At k | false ↦ Nothing ]
 
--- The answer of a scan that ends at the first of the numbers that pass.
+-- Gives the answer of a scan that ends at the first of the numbers that pass.
 abbrev pub firstOf : List ℕ → Found
 firstOf [] = Nothing
 firstOf (k ∷ ks) = At k

@@ -1,4 +1,5 @@
--- How the arrays of the code are read, and what the cells that no entry needs hold. A d by d matrix is the leading part of an array of arrays.
+-- This file says how the arrays of the code are read, and what the cells that no entry needs hold.
+-- A d by d matrix is the leading part of an array of arrays.
 -- Assumes nothing.
 use mathlib.Core.Path.{_≡_}
 use mathlib.Core.Bool.{Bool, true, false}
@@ -15,28 +16,28 @@ use Rattle.spec.specs.Matrix.{Vector, Matrix}
 abbrev pub width : ℕ
 width = maxDimension + maxDimension
 
--- The first n entries of the first d rows.
+-- Gives the first n entries of the first d rows.
 unfoldable pub leading : ℕ → ℕ → List (List Float) → Matrix
 leading d n m = map (take n) (take d m)
 
--- The d by d matrix that an array of arrays begins with.
+-- Gives the d by d matrix that an array of arrays begins with.
 unfoldable pub corner : ℕ → List (List Float) → Matrix
 corner d m = map (take d) (take d m)
 
--- A vector in an array: its entries, and +0.0 in each cell after them.
+-- Puts a vector into an array: its entries stand first, and +0.0 in each cell after them.
 unfoldable pub padded : Vector → List Float
 padded v = v ++ replicate (maxDimension - length v) zeroF
 
--- A matrix in an array of arrays: its rows, each padded, and rows of +0.0 after them.
+-- Puts a matrix into an array of arrays: its rows stand first, each padded, and rows of +0.0 after them.
 unfoldable pub paddedRows : Matrix → List (List Float)
 paddedRows m = map padded m ++ replicate (maxDimension - length m) (replicate maxDimension zeroF)
 
--- The matrix, if the answer beside it says that there is one.
+-- Gives the matrix, if the answer beside it says that there is one.
 unfoldable pub ifRegular : Bool → Matrix → Option Matrix
 ifRegular true m = some m
 ifRegular false m = none
 
--- Every cell of the array that holds an inverse. Where there is no inverse, each cell is +0.0.
+-- Gives every cell of the array that holds an inverse. Where there is no inverse, each cell is +0.0.
 unfoldable pub inverseCells : Option Matrix → List (List Float)
 inverseCells none = paddedRows []
 inverseCells (some m) = paddedRows m

@@ -1,4 +1,4 @@
--- The loop of a projection: what is left of the basis gives what the whole gives.
+-- In the loop of a projection, what is left of the basis gives what the whole gives.
 -- Assumes nothing.
 use mathlib.Core.Path.{_≡_, sym, _∙_}
 use mathlib.Core.List.{List, map}
@@ -16,11 +16,11 @@ use Rattle.spec.specs.Matrix.{Vector}
 use Rattle.spec.specs.Hull.{along}
 use Rattle.geometry.specs.Reading.{vectorAt}
 
--- "q += b times .."
+-- This is "q += b times ..", on one axis.
 abbrev pub by : Float → Float → Float → Float
 by s x y = plus x (times y s)
 
--- q is where the first k vectors of the basis b lead from q₀
+-- The point q is where the first k vectors of the basis b lead from q₀.
 pub record Along (b : ℕ → Vector) (n : ℕ) (away q₀ q : Vector) (k : ℕ) : Type 0 where
   pub is : along away q (map b (range k (n - k))) ≡ along away q₀ (map b (range 0 n))
 
@@ -48,7 +48,7 @@ part-is d at l = rw (add-sub-cancel-left at d)
 pub vector-long : (d k n : ℕ) (l : List Float) → d ≤ maxDimension → k < n → n ≤ maxDimension → length l ≡ maxDimension * maxDimension → length (vectorAt d l k) ≡ d
 vector-long d k n l hd hk hn e = length-take-le d (drop (k * maxDimension) l) (rw (length-drop (k * maxDimension) l) (omega arith))
 
--- What a turn makes of q, where the part b that is lent is the vector v.
+-- This is what a turn makes of q, where the part b that is lent is the vector v.
 pub moved-is : {d : ℕ} {b v : Vector} (q r : Vector) (s : Float) → b ≡ v → length v ≡ d →
     take (length b) r ≡ zip (by s) (take (length b) q) b → take d r ≡ zip (by s) (take d q) v
 moved-is {d} {b} {v} q r s e n h =

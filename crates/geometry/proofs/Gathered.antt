@@ -1,4 +1,4 @@
--- The loop over the points of a hull: what is left to add gives what the whole list gives.
+-- In the loop over the points of a hull, what is left to add gives what the whole list gives.
 -- Assumes nothing.
 use mathlib.Core.Path.{_≡_, refl, sym, ap, _∙_}
 use mathlib.Core.List.{List, [], _∷_, map}
@@ -48,7 +48,7 @@ module _ (d : ℕ) (h g : Hull) (p : Vector) (e : hullIn d g ≡ add (hullIn d h
 
 -- ---- the points
 
--- The part of the slice for number i of the list.
+-- The part of the slice for number i of the list lies within the slice, and is the point of that number.
 pub part-is : (d n : ℕ) (points : List Float) (l : List ℕ) (i v : ℕ) (p : Vector) →
     ((j : ℕ) → j < n → (getD l j 0 + 1) * d ≤ length points) → i < n → v ≡ getD l i 0 → p ≡ pointAt d points v →
     (p ≡ pointAt d points (getD l i 0)) × (length p ≡ d)
@@ -59,7 +59,7 @@ part-is d n points l i v p all h ev ep =
 
 -- ---- the loop
 
--- h is the hull of the first i points that f gives of the first n numbers of l
+-- The hull h is that of the first i points that f gives of the first n numbers of l.
 pub record Gathered (d : ℕ) (f : ℕ → Vector) (l : List ℕ) (n : ℕ) (h : spec.Hull) (i : ℕ) : Type 0 where
   pub is : addAll d h (map f (drop i (take n l))) ≡ hullOf d (map f (take n l))
 
@@ -82,7 +82,7 @@ module _ {d : ℕ} {f : ℕ → Vector} {l : List ℕ} {n : ℕ} (hn : n ≤ len
   unfolding hullOf
   first h0 e = record { is = rw e (ap (λ (xs : List ℕ). hullOf d (map f xs)) (sym (left l n 0 hn h0))) }
 
-  -- at d vectors the others change nothing
+  -- Once there are d vectors, the other points change nothing.
   pub stop : {h : spec.Hull} {i : ℕ} → length (h .basis) ≡ d → Gathered d f l n h i → h ≡ hullOf d (map f (take n l))
   stop {h} {i} e w = full d h (map f (drop i (take n l))) e ∙ w .is
 

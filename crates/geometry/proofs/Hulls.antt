@@ -1,4 +1,4 @@
--- Adding to a hull: what the struct holds afterwards, and what the definitions say in the two cases.
+-- This file says what the struct holds after a point is added to a hull, and what the definitions say in the two cases.
 -- Assumes nothing.
 use mathlib.Core.Path.{_≡_, sym, ap, ap₂, _∙_}
 use mathlib.Core.Bool.{true, false}
@@ -19,14 +19,14 @@ use Rattle.float.proofs.Written.{range-snoc}
 use Rattle.float.proofs.Beside.{drop-take}
 use Rattle.geometry.specs.Reading.{vectorAt}
 
--- lists that agree up to n agree in each part up to n
+-- Lists that agree up to n agree in each part up to n.
 agree : {A : Type 0} (n a d : ℕ) (r l : List A) → a + d ≤ n → n ≤ length r → n ≤ length l → take n r ≡ take n l → take d (drop a r) ≡ take d (drop a l)
 agree n a d r l h hr hl e =
     sym (drop-take a d r (omega arith))
     ∙ ap (drop a) (sym (take-take (a + d) n r h) ∙ ap (take (a + d)) e ∙ take-take (a + d) n l h)
     ∙ drop-take a d l (omega arith)
 
--- One vector more.
+-- One vector more joins the basis.
 pub one-more : (d n : ℕ) (b r : List Float) (v : Vector) → d ≤ maxDimension → n < maxDimension →
     length b ≡ maxDimension * maxDimension → length r ≡ maxDimension * maxDimension →
     take (n * maxDimension) r ≡ take (n * maxDimension) b → vectorAt d r n ≡ v →
@@ -39,7 +39,7 @@ one-more d n b r v hd hn lb lr e ev =
     (map-same (vectorAt d r) (vectorAt d b) (range 0 n) (λ k m. let o = of-range 0 n k m in agree (n * maxDimension) (k * maxDimension) d r b (omega arith) (omega arith) (omega arith) e))
     ev
 
--- The two cases, by the length of what is left of p.
+-- The length of what is left of p decides between the two cases.
 module _ (h : Hull) (p : Vector) (l : Float) (e : l ≡ norm (rest h p)) where
   pub joins-far : lt eps l ≡ true → joined l ≡ joins h p
   unfolding joins

@@ -1,4 +1,4 @@
--- The scan of the list of distances, from its end: what stands behind i gives what the definition gives of it. And the list that joins.
+-- The scan of the list of distances goes from its end: what stands behind i gives what the definition gives of it. The list that joins is here too.
 -- Assumes nothing.
 use mathlib.Core.Path.{_≡_, refl, sym, ap, _∙_}
 use mathlib.Core.Bool.{true, false}
@@ -13,7 +13,7 @@ use lib.Ieee.{Float, nan, lt}
 use Rattle.spec.specs.Hull.{nearer, smaller, listedFor, listing}
 use Rattle.geometry.specs.Classes.{Takes}
 
--- o is what x finds in the first n of l, from i on
+-- The value o is what x finds in the first n of l, from i on.
 pub record Found (x : Float) (l : List Float) (n : ℕ) (o : Option Float) (i : ℕ) : Type 0 where
   pub is : o ≡ listedFor x (drop i (take n l))
 

@@ -1,4 +1,4 @@
--- Numbers by first appearance under a test that is symmetric and transitive, but may fail at an element and itself. Elements that fail it
+-- Things are numbered by first appearance under a test that is symmetric and transitive, but may fail at an element and itself. Elements that fail it
 -- have one number, past those of the others; two others share a number exactly when the test passes.
 -- Assumes nothing.
 use mathlib.Core.Path.{_≡_, refl, sym, ap, ap₂, _∙_}

@@ -1,4 +1,4 @@
--- Floats that compare equal: this is symmetric and transitive, and every float but NaN equals itself.
+-- That floats compare equal is symmetric and transitive, and every float but NaN equals itself.
 -- Assumes nothing.
 use mathlib.Core.Path.{_≡_, refl, sym, ap, _∙_}
 use mathlib.Core.Logic.{_⊎_, inl, inr}
@@ -13,7 +13,7 @@ use Rattle.geometry.specs.Classes.{sameClass}
 
 -- ---- magnitudes with signs
 
--- ±a = ±b
+-- With their signs, a and b are equal: ±a = ±b.
 record Level (s : Bool) (a : ℕ) (t : Bool) (b : ℕ) : Type 0 where
   size : a ≡ b
   sign : (s ≡ t) ⊎ (a ≡ 0)
@@ -59,7 +59,7 @@ level-sym {s} {a} {t} {b} l = record { size = sym (l .size); sign = go (l .sign)
 factor : (a c : ℕ) → 0 < c → a * c ≡ 0 → a ≡ 0
 factor a c h e = eq-of-mul-eq-mul-right c h a 0 (e ∙ sym (zero-mul c))
 
--- A / x = b / y = c / z, as products.
+-- From a / x = b / y and b / y = c / z follows a / x = c / z, as products.
 level-trans : (s : Bool) (a x : ℕ) (t : Bool) (b y : ℕ) (u : Bool) (c z : ℕ) → 0 < x → 0 < y → 0 < z →
     Level s (a * y) t (b * x) → Level t (b * z) u (c * y) → Level s (a * z) u (c * x)
 level-trans s a x t b y u c z hx hy hz l m = record { size = size; sign = go (l .sign) (m .sign) }

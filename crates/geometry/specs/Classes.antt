@@ -1,4 +1,4 @@
--- How the answers about distance classes are read, and when two listed values are one class.
+-- This file says how the answers about distance classes are read, and when two listed values are one class.
 -- Assumes nothing.
 use mathlib.Core.Path.{_≡_}
 use mathlib.Core.Bool.{Bool, _&&_, _||_}
@@ -12,17 +12,17 @@ use Rattle.geometry.specs.declared.classes.Nearest.{Nearest}
 use Rattle.geometry.specs.declared.classes.Nearest.the-variants.{Listed, Nothing}
 use Rattle.geometry.specs.declared.classes.Listing.{Listing}
 
--- The listed value that was found, if any.
+-- Gives the listed value that was found, if any.
 unfoldable pub nearestOf : Nearest → Option Float
 nearestOf (Listed y) = some y
 nearestOf Nothing = none
 
--- The value that x takes, and the list afterwards, which is the first `count` cells, of which one may be new. The other cells are as before.
+-- Taking x gives a value, and the list afterwards is the first `count` cells, of which one may be new. The other cells are as before.
 pub record Takes (before after : List Float) (n : ℕ) (x : Float) (r : Listing) : Type 0 where
   pub is : _≡_ {A = Float × List Float} (r .value, take (r .count) after) (listing (take n before) x)
   pub room : r .count ≤ n + 1
   pub rest : drop (r .count) after ≡ drop (r .count) before
 
--- Whether two values are one class: either they are equal as numbers, so that the two zeros are one class, or both are NaN.
+-- Tells whether two values are one class: either they are equal as numbers, so that the two zeros are one class, or both are NaN.
 unfoldable pub sameClass : Float → Float → Bool
 sameClass x y = eq x y || (isNan x && isNan y)

@@ -1,4 +1,4 @@
--- The answer of a call, handed on as its code with the outputs as they are, and read back from the code.
+-- The answer of a call is handed on as its code with the outputs as they are, and is read back from the code.
 -- Assumes nothing.
 use mathlib.Core.Path.{_≡_, refl, sym, ap, _∙_}
 use Prim.Native.Nat.{ℕ, _^_, _<_}

@@ -1,4 +1,4 @@
--- How many flags a sheet's solid can have: from one rank to the second above it, at most the entries between times as many.
+-- The flags that a sheet's solid can have are bounded: from one rank to the second above it, there are at most the entries between times as many.
 -- Assumes nothing.
 use mathlib.Core.Path.{_≡_, refl, sym, ap, _∙_}
 use mathlib.Core.Logic.{inl, inr}
@@ -26,7 +26,7 @@ use Rattle.types.proofs.Call.{length-join}
 
 -- ---- sums
 
--- over a rising list, at most the sum over all numbers that it lies among
+-- The sum over a rising list is at most the sum over all numbers that it lies among.
 sum-some : (g : ℕ → ℕ) (c a n : ℕ) (l : List ℕ) → From a c l → c ≤ a + n → sum (map g l) ≤ sum (map g (range a n))
 unfolding sum range From
 sum-some g c a n [] h k = zero-le
@@ -78,11 +78,11 @@ module _ (s : Solid) (v : Sound s) where
       (pigeons eqb numbers (subs s (suc r) e) (range 0 (size s r)) (rising-once (subs s (suc r) e) (v .rising (suc r) e))
       (λ x m. in-range 0 (size s r) x (omega arith) (omega (arith, v .below r e x m))))
 
-  -- One rank up.
+  -- One rank up, there are at most as many times more as the element has subs.
   next : (r k : ℕ) → ((f : ℕ) → many r f ≤ k) → (e : ℕ) → many (suc r) e ≤ length (subs s (suc r) e) * k
   next r k h e = rw (many-sum r e) (sum-under (many r) k (subs s (suc r) e) (λ f m. h f))
 
-  -- Two ranks up: each pair of an element between and a sub of it is met once.
+  -- Two ranks up, each pair of an element between and a sub of it is met once.
   over : (r k : ℕ) → ((f : ℕ) → many r f ≤ k) → (e : ℕ) → many (suc (suc r)) e ≤ sum (map length (getD s (suc r) [])) * k
   unfolding subs
   over r k h e =

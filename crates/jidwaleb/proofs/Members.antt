@@ -86,7 +86,7 @@ found-count (passed y) m h =
     let l = fitting m (y .0 .dimension) (length (y .0 .points)) 0 (y .1) in
     omega (arith, kept-count (y .1) l, fitting-few m (y .0 .dimension) (length (y .0 .points)) 0 (y .1), h y refl)
 
--- The flags of a solid as it is searched.
+-- A solid as it is searched has few flags, too.
 exchanged-few : (b : List ℕ) (words floats : ℕ) (c : Concrete) → preflight b words floats ≡ passed c → 2 ≤ top (c .abs)
     → (f : ℕ) → f < size (c .abs) (top (c .abs) - 1) → length (flags (exchangedIn (c .abs) f)) ≤ 2 ^ 30
 exchanged-few b words floats c e tall f low =

@@ -1,4 +1,4 @@
--- The last line, by the search's answer: what it wrote is what the line says.
+-- The last line goes by the search's answer, and says what the search wrote.
 -- Assumes nothing.
 use mathlib.Core.Path.{_≡_, refl, sym, ap, _∙_, subst}
 use mathlib.Core.Logic.{inl, inr}
@@ -64,7 +64,7 @@ dimension-is b words floats y e =
     let p = every-passed b words floats (y .0) (members-confirm b words floats .read y e) in
     (rw (p .read) (p .dimension), p .wide)
 
--- d * d cells a member
+-- Each member takes d * d cells.
 squares-wide : (d : ℕ) (ms : List Member) → ((x : Member) → In x ms → Square d (x .matrix)) → Wide (d * d) (map (λ x. join (x .matrix)) ms)
 squares-wide d [] s = tt
 squares-wide d (x ∷ ms) s = (square-long d (x .matrix) (s x (inl refl)), squares-wide d ms (λ z i. s z (inr i)))

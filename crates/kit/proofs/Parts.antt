@@ -1,4 +1,4 @@
--- The whole text, by the sheet's length and the types call's answer.
+-- The whole text goes by the sheet's length and the types call's answer.
 -- Assumes nothing.
 use mathlib.Core.Path.{_≡_, refl, sym, ap, _∙_}
 use mathlib.Core.List.{List, _++_, map}
@@ -25,7 +25,7 @@ pub cut-text : (b : List ℕ) → longest < length b → refusedLine CutSheet �
 unfolding kitText
 cut-text b h = rw (lt-ltb longest (length b) h, kitText) refl
 
--- Of a sheet that is not too long, whose types call answered a.
+-- The sheet is not too long, and its types call answered a.
 module _ (b : List ℕ) (old new : TypesOut) (a : Answer) (words floats : ℕ) (e : (a, new) ≡ typesCall b words floats old) (short : length b ≤ longest)
     (w : words ≡ workWords) (f : floats ≡ workFloats) (m : length (old .elements) ≡ elementCells) (t : length (old .types) ≡ typeRecords) where
   abbrev judged : Judged Given

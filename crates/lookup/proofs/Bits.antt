@@ -1,4 +1,4 @@
--- A loop that compares two vectors by their bit patterns, axis by axis.
+-- A loop compares two vectors by their bit patterns, axis by axis.
 -- Assumes nothing.
 use mathlib.Core.Path.{_≡_, refl, sym, ap, ap₂, _∙_}
 use mathlib.Core.List.{[], _∷_, _++_}
@@ -29,6 +29,6 @@ module _ {p q : Vector} where
       let k : i ≡ length p = omega arith in
       sym (take-length p) ∙ (rw k at (s .is))
 
--- What a comparison with a slice tells of point k.
+-- A comparison with a slice tells whether point k is the same.
 pub same-part : (d : ℕ) (l q : Vector) (k : ℕ) (p : Vector) → k * d + d ≤ length l → p ≡ take d (drop (k * d) l) → p ≡ take (length p) q → take d (drop (k * d) l) ≡ take d q
 same-part d l q k p h e f = sym e ∙ f ∙ ap (λ (w : ℕ). take w q) (ap length e ∙ part-wide d l k h)

@@ -26,12 +26,12 @@ module _ (n d : ℕ) (l : List Float) (q : Vector) (k : ℕ) (low : k < n) (clos
       let g : k < length (parts n d l) = omega (arith, length-parts n d l) in
       found-here g (found-from (parts n d l) q k (omega arith) none) (ap (λ (v : Vector). near v q) (part-at n d l k low) ∙ close)
 
-  -- The point itself.
+  -- The point itself is found at its own number.
   same-number : Apart (parts n d l) → take d (drop (k * d) l) ≡ q → k ≡ find (parts n d l) q
   same-number a e =
       at-own (λ j i. ap (near (getD (parts n d l) j [])) (sym (part-at n d l k low ∙ e)) ∙ a .apart j k i (omega (arith, length-parts n d l)))
 
-  -- The only one near.
+  -- The only point that is near is found at its own number.
   lone-number : length q ≡ d → n * d ≤ length l → Lone (parts n d l) → k ≡ find (parts n d l) q
   lone-number long f a = at-own (λ j i. none j i (near (getD (parts n d l) j []) q) refl)
     where

@@ -1,4 +1,4 @@
--- Loops that find no two points within 2 ^ -22 on every axis: one axis that is not tells two points apart, point by point.
+-- These loops find no two points within 2 ^ -22 on every axis: one axis that is not tells two points apart, point by point.
 -- Assumes nothing.
 use mathlib.Core.Path.{_≡_, refl, sym, ap, ap₂, _∙_}
 use mathlib.Core.Bool.{Bool, true, false}
@@ -15,7 +15,7 @@ use Rattle.float.proofs.Parts.{length-parts, part-at}
 use Rattle.float.proofs.Nearness.{part-wide}
 use Rattle.lookup.specs.Points.{wideF, within, Clear, Lone}
 
--- An axis that is further.
+-- An axis that is further tells two points apart.
 pub far-axis : (w : Float) (p q : Vector) (i : ℕ) → i < length p → length p ≤ length q → le (absF (minus (getD p i nan) (getD q i nan))) w ≡ false
     → within w p (take (length p) q) ≡ false
 unfolding within
@@ -28,7 +28,7 @@ far-axis w (x ∷ p) (y ∷ q) (suc i) h k e = go (le (absF (minus x y)) w) (far
     go true t = t
     go false t = refl
 
--- What a comparison of two points tells, p as the code has point j, and q as it has point k.
+-- A comparison of two points tells this, where p is point j and q is point k as the code has them.
 pub far-part : (d : ℕ) (l : List Float) (j k : ℕ) (p q : Vector) → j * d + d ≤ length l → p ≡ take d (drop (j * d) l) → take d q ≡ take d (drop (k * d) l)
     → within wideF p (take (length p) q) ≡ false → within wideF (take d (drop (j * d) l)) (take d (drop (k * d) l)) ≡ false
 far-part d l j k p q h e f t =
@@ -45,7 +45,7 @@ module _ {d : ℕ} {l : List Float} where
   pub clear-end : {k j : ℕ} → j ≤ k → k ≤ j → Clear d l k j → Clear d l k k
   clear-end {k} {j} g h s = record { clear = λ i t. s .clear i (omega arith) }
 
--- Every point before k is.
+-- Every point before k is clear of those before it.
 pub record ClearTo (d : ℕ) (l : List Float) (k : ℕ) : Type 0 where
   pub each : (i : ℕ) → i < k → Clear d l i i
 

@@ -1,4 +1,4 @@
--- A table whose places are free or have points' numbers, while numbers join it.
+-- A table's places are free or have points' numbers, and stay so while numbers join it.
 -- Assumes nothing.
 use mathlib.Core.Path.{_≡_}
 use mathlib.Core.Logic.{_⊎_, inl, inr}

@@ -1,4 +1,4 @@
--- Near does not turn on the order: two floats' differences, either way round, have one magnitude.
+-- Nearness does not turn on the order, because two floats' differences, either way round, have one magnitude.
 -- Assumes nothing.
 use mathlib.Core.Path.{_≡_, refl, sym, ap₂, _∙_}
 use mathlib.Core.Bool.{Bool, true, false}

@@ -1,6 +1,6 @@
--- Nearness by rounded differences: two numbers that are each within EPS of a third are within 2 ^ -22 of each other.
--- A rounded difference at most EPS has an exact one at most 2 ^ -23, since rounding keeps the order and 2 ^ -23 is a float above EPS. The exact
--- ones add up to 2 ^ -22 at most, which is a float too. Assumes nothing.
+-- Nearness goes by rounded differences: two numbers that are each within EPS of a third are within 2 ^ -22 of each other.
+-- A rounded difference at most EPS has an exact one at most 2 ^ -23, since rounding keeps the order and 2 ^ -23 is a float above EPS.
+-- The exact ones add up to 2 ^ -22 at most, which is a float too. Assumes nothing.
 use mathlib.Core.Path.{_≡_, refl, sym, ap, _∙_, subst}
 use mathlib.Core.Bool.{Bool, true, false, not, cond, true≢false}
 use mathlib.Core.List.{[], _∷_}
@@ -21,11 +21,11 @@ use Rattle.spec.specs.Matrix.{Vector}
 use Rattle.spec.specs.Copying.{near}
 use Rattle.lookup.specs.Points.{wideF, within}
 
--- The magnitude of the float x - y is at most w.
+-- Tells whether the magnitude of the float x - y is at most w.
 unfoldable pub closeTo : Float → Float → Float → Bool
 closeTo w x y = le (absF (minus x y)) w
 
--- document 01's test is the one with EPS
+-- Document 01's test is the one with EPS.
 pub near-within : (p q : Vector) → near p q ≡ within eps p q
 unfolding near within
 near-within [] ys = refl
@@ -34,11 +34,11 @@ near-within (x ∷ xs) (y ∷ ys) = ap (λ (r : Bool). elim (le (absF (minus x y
 
 -- ---- how far apart two numbers with signs are
 
--- Of two numbers.
+-- Gives how far two numbers are apart.
 unfoldable pub apart : ℕ → ℕ → ℕ
 apart a b = (a - b) + (b - a)
 
--- Of ±a and ±b, negative where the sign is true.
+-- Gives how far ±a and ±b are apart, where a sign that is true is negative.
 unfoldable pub gap : Bool → ℕ → Bool → ℕ → ℕ
 gap false a false b = apart a b
 gap false a true b = a + b
@@ -101,7 +101,7 @@ round-abs : (f : Format) (s : Bool) (a c : ℕ) → absF (round f s a c) ≡ rou
 unfolding round
 round-abs f s a c = units-abs f s _ _
 
--- The two branches of a difference of magnitudes.
+-- The two branches of a difference of magnitudes have one magnitude.
 pick-abs : (f : Format) (s t : Bool) (a b c : ℕ) → absF (cond (ltb a b) (round f s (b - a) c) (round f t (a - b) c)) ≡ round f false (apart a b) c
 unfolding apart
 pick-abs f s t a b c = go (ltb a b) (ltb→lt a b) (nltb→le a b)
@@ -130,7 +130,7 @@ sign nan = false
 sign (inf s) = s
 sign (fin s m e) = s
 
--- x and y are finite, and at most a / b apart
+-- The numbers x and y are finite, and at most a / b apart.
 pub record AtMost (a b : ℕ) (x y : Float) : Type 0 where
   pub first : T (finite x)
   pub second : T (finite y)
@@ -139,7 +139,7 @@ pub record AtMost (a b : ℕ) (x y : Float) : Type 0 where
 gap-at : (k : ℕ) (s : Bool) (a : ℕ) (t : Bool) (b a' b' : ℕ) → a' ≡ k * a → b' ≡ k * b → gap s a' t b' ≡ k * gap s a t b
 gap-at k s a t b a' b' p q = rw (p, q) (gap-scale k s a t b)
 
--- q * g at most r * h + p * k, with h / (p * q) and k / (r * q) at most a / b and c / b
+-- If q * g is at most r * h + p * k, and h / (p * q) and k / (r * q) are at most a / b and c / b, then g is bounded by their sum.
 bound : (g h k a b c p q r : ℕ) → q * g ≤ r * h + p * k → h * b ≤ a * (p * q) → k * b ≤ c * (r * q) → g * b * q ≤ (a + c) * (p * r) * q
 bound g h k a b c p q r all H K =
     let left : g * b * q ≡ q * g * b = simp (mul-assoc, mul-comm) in
@@ -150,7 +150,7 @@ bound g h k a b c p q r all H K =
     (le-trans (le-of-eq middle)
     (le-trans (add-le-add (mul-le-mul-right r H) (mul-le-mul-right p K)) (le-of-eq right))))
 
--- x / p, y / q and z / r, with signs
+-- The bounds add up for the fractions x / p, y / q and z / r, with signs.
 add-fractions : (s t u : Bool) (x y z p q r a b c : ℕ) → 0 < q → gap s (x * q) t (y * p) * b ≤ a * (p * q) → gap u (z * q) t (y * r) * b ≤ c * (r * q) →
     gap s (x * r) u (z * p) * b ≤ (a + c) * (p * r)
 add-fractions s t u x y z p q r a b c Q h k =
@@ -163,7 +163,7 @@ add-fractions s t u x y z p q r a b c Q h k =
     let all : q * gap s (x * r) u (z * p) ≤ r * gap s (x * q) t (y * p) + p * gap u (z * q) t (y * r) = rw (xz, xy, zy) at (gap-triangle s t u X Y Z) in
     le-of-mul-le-mul-right (bound (gap s (x * r) u (z * p)) (gap s (x * q) t (y * p)) (gap u (z * q) t (y * r)) a b c p q r all h k) Q
 
--- Two numbers near a third.
+-- Two numbers near a third are at most as far apart as both are from it together.
 pub apart-add : {a b c : ℕ} {x y z : Float} → AtMost a b x y → AtMost c b z y → AtMost (a + c) b x z
 apart-add {a} {b} {c} {x} {y} {z} h k = record {
   first = h .first;
@@ -245,12 +245,12 @@ apart-close a b B (fin s m e) (fin t n d) h =
 
 -- ---- EPS
 
--- numbers within EPS are at most 2 ^ -23 apart
+-- Numbers within EPS are at most 2 ^ -23 apart.
 pub eps-apart : (x y : Float) → closeTo eps x y ≡ true → AtMost 1 (2 ^ 23) x y
 unfolding eps ofBits round le
 eps-apart x y h = close-apart eps 1 (2 ^ 23) (pow-pos 23) tt tt refl x y h
 
--- And numbers that are at most twice as far apart are within 2 ^ -22.
+-- Numbers that are at most twice as far apart are within 2 ^ -22.
 pub apart-wide : (x y : Float) → AtMost 2 (2 ^ 23) x y → closeTo wideF x y ≡ true
 unfolding wideF ofBits round
 apart-wide x y h = apart-close 2 (2 ^ 23) (pow-pos 23) x y h

@@ -1,4 +1,4 @@
--- Points that are apart, so that one is found at once by its bits; and points that are lone, so that one is found at once by being near.
+-- Where points are apart, one is found at once by its bits, and where they are lone, one is found at once by being near.
 -- Assumes nothing.
 use mathlib.Core.Path.{_≡_}
 use mathlib.Core.Logic.{_⊎_}
@@ -18,11 +18,11 @@ use Rattle.float.specs.Finding.{foundAt}
 pub record Apart (cs : List Vector) : Type 0 where
   pub apart : (j k : ℕ) → j < k → k < length cs → near (getD cs j []) (getD cs k []) ≡ false
 
--- The number 2 ^ -22, which is more than twice EPS.
+-- This is the number 2 ^ -22, which is more than twice EPS.
 unfoldable pub wideF : Float
 wideF = ofBits binary64 0x3e90_0000_0000_0000
 
--- Document 01's `near` with w for EPS.
+-- This is document 01's `near` with w for EPS.
 unfoldable pub within : Float → Vector → Vector → Bool
 within w [] ys = true
 within w (x ∷ xs) [] = true
@@ -41,7 +41,8 @@ pub record Hit (lone : Bool) (p q : Vector) : Type 0 where
   pub close : near p q ≡ true
   pub why : (lone ≡ true) ⊎ (p ≡ q)
 
--- A guess at what is found, where x is the number sought among n. One that names a number has to be right, and one that names none says nothing.
+-- A guess is made at what is found, where x is the number sought among n.
+-- One that names a number has to be right, and one that names none says nothing.
 abbrev pub Guessed : ℕ → ℕ → Found → Type 0
 Guessed n x (At k) = At k ≡ foundAt n x
 Guessed n x Nothing = Unit

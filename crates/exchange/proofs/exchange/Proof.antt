@@ -7,10 +7,10 @@ use Rattle.exchange.proofs.exchange.Tie as tie
 
 pub exchange-spec : {M : Type 1} → statement M
 exchange-spec = tie.close (tie.spec
-    -- sub-first-of, first-of-requires
+    -- The needs are sub-first-of and first-of-requires.
     (λ c. search needs)
     (λ c κs. let s = c .before .before in facets-fit _ _ (s .args .words .now) (s .pre .0) _ (s .pre .1))
-    -- add-first-of, first-of-requires-2
+    -- The needs are add-first-of and first-of-requires-2.
     (λ c. let s = c .before .before .before .before in omega (arith, past-fits _ _ (s .args .words .now) (s .pre .0) _ (s .pre .1)))
     (λ c κs. let s = c .before .before .before .before in past-fits _ _ (s .args .words .now) (s .pre .0) _ (s .pre .1))
     -- The needs are add-swap-lists and swap-lists-requires.

@@ -1,4 +1,4 @@
--- From the top down: the elements above rank r are found, and the one at r is at hand.
+-- Going down from the top, the elements above rank r are found, and the one at r is at hand.
 -- Assumes nothing.
 use borrow.Author.Needs.{needs}
 use native.Mathlib.Omega.{arith}

@@ -1,4 +1,4 @@
--- The place of the element among the subs of the one above it, and the sub after that.
+-- The element has a place among the subs of the one above it, and the sub after that is taken.
 -- Assumes nothing.
 use borrow.Author.Needs.{needs}
 use native.Mathlib.Omega.{arith}

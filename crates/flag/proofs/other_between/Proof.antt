@@ -1,4 +1,4 @@
--- Either list gives the same: they hold the same elements between in the same order.
+-- Either list gives the same, since they hold the same elements between in the same order.
 -- Assumes nothing.
 use borrow.Author.Needs.{needs}
 use Rattle.flag.proofs.other_between.Statement.{statement}

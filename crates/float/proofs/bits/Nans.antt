@@ -1,4 +1,4 @@
--- Which patterns are those of NaNs, and which floats are NaN.
+-- This file tells which patterns are those of NaNs, and which floats are NaN.
 -- Assumes nothing.
 use mathlib.Core.Path.{_≡_, refl, sym, ap, _∙_, subst}
 use Prim.Native.Nat.{ℕ, _*_, _%_, _^_, _≤_, _<_}

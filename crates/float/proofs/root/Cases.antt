@@ -1,4 +1,4 @@
--- The root of each kind of argument, as the tests against zero and the infinity's pattern tell them apart.
+-- This file gives the root of each kind of argument, as the tests against zero and the infinity's pattern tell them apart.
 -- Assumes nothing.
 use mathlib.Core.Path.{_≡_, refl, sym, ap, _∙_, subst}
 use mathlib.Core.Logic.{_⊎_, inl, inr}
@@ -28,7 +28,7 @@ no-of e = subst (λ (b : Bool). T (not b)) (sym e) tt
 abbrev zeroOf : Float
 zeroOf = ofBits binary64 0
 
--- above zero
+-- An argument above zero is the infinity or positive and finite.
 pub above : (x : Float) → lt zeroOf x ≡ true → (x ≡ inf false) ⊎ T (positive x)
 unfolding lt ofBits
 above nan e = absurd (true≢false (sym e))
@@ -37,7 +37,7 @@ above (inf false) e = inl refl
 above (fin true m d) e = absurd (true≢false (sym e))
 above (fin false m d) e = let l = ltb→lt (0 * down d) (m * up d * 1) (yes-of e) in inr (lt→ltb 0 m (first-pos m (up d) (omega arith)))
 
--- Below zero.
+-- The root of an argument below zero is NaN.
 pub below : (x : Float) → lt x zeroOf ≡ true → nan ≡ root x
 unfolding lt ofBits root
 below nan e = absurd (true≢false (sym e))
@@ -53,7 +53,7 @@ below (fin false m d) e = absurd (none (ltb→lt (m * up d * 1) (0 * down d) (ye
     none : m * up d * 1 < 0 * down d → ⊥
     none l = omega arith
 
--- neither
+-- An argument that is neither above nor below zero is its own root.
 pub neither : (x : Float) → lt zeroOf x ≡ false → lt x zeroOf ≡ false → x ≡ root x
 unfolding lt ofBits root
 neither nan e f = refl

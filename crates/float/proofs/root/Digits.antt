@@ -1,4 +1,4 @@
--- The whole part of a root, digit by digit and by one division. Everything here is about whole numbers.
+-- The whole part of a root is found digit by digit and by one division. Everything here is about whole numbers.
 -- Assumes nothing.
 use mathlib.Core.Path.{_≡_, refl, sym, ap, _∙_, subst}
 use Prim.Native.Nat.{ℕ, zero, suc, _+_, _-_, _*_, _/_, _%_, _^_, _≤_, _<_}
@@ -13,7 +13,7 @@ use Rattle.spec.proofs.RootIs.{sq-twice, sq-suc, rootDown-is, sq-le}
 
 -- ---- one digit more
 
--- Twice the root of a quarter, or one more.
+-- The root is twice the root of a quarter, or one more.
 abbrev pick : ℕ → ℕ → ℕ
 pick r a = elim (leb (suc r * suc r) a) [ true ↦ suc r | false ↦ r ]
 
@@ -27,7 +27,7 @@ pick-more r a h = ap (λ (b : Bool). elim b [ true ↦ suc r | false ↦ r ]) (i
 pick-same : (r a : ℕ) → a < suc r * suc r → pick r a ≡ r
 pick-same r a h = ap (λ (b : Bool). elim b [ true ↦ suc r | false ↦ r ]) (is-false (leb (suc r * suc r) a) (lt→nleb (suc r * suc r) a h))
 
--- q is the root of the digits so far, a, in i of its digits, and c what its square leaves
+-- The number q is the root of the digits so far, a, in i of its digits, and c is what its square leaves.
 abbrev pub Root : ℕ → ℕ → ℕ → ℕ → Type 0
 Root i a q c = (q ≡ rootDown i a) × (q * q + c ≡ a)
 

@@ -1,4 +1,4 @@
--- The argument's pattern, taken apart: 53 digits, and the zeros after them in the square of the root in units.
+-- The argument's pattern is taken apart into 53 digits, and the zeros after them in the square of the root in units.
 -- Assumes nothing.
 use mathlib.Core.Path.{_≡_, sym, ap, _∙_, subst}
 use Prim.Native.Nat.{ℕ, suc, _+_, _-_, _*_, _/_, _%_, _^_, _≤_, _<_}
@@ -11,7 +11,7 @@ use Rattle.spec.specs.Root.{inUnits}
 use Rattle.spec.proofs.RootIs.{units-at}
 use Rattle.spec.proofs.RootOnly.{zero-field}
 
--- d and z are the digits and the zeros of the argument with the pattern b
+-- The numbers d and z are the digits and the zeros of the argument with the pattern b.
 abbrev pub IsArgument : ℕ → ℕ → ℕ → Type 0
 IsArgument b d z = (2 ^ 52 ≤ d) × (d < 2 ^ 53) × (1022 ≤ z) × (z < 3120) × (d * 2 ^ z ≡ inUnits (ofBits binary64 b) * 2 ^ 1074)
 

@@ -1,4 +1,4 @@
--- The root's pattern, from the whole part of the root of the digits kept.
+-- The root's pattern comes from the whole part of the root of the digits kept.
 -- Assumes nothing.
 use mathlib.Core.Path.{_≡_, refl, sym, ap, _∙_, subst}
 use Prim.Native.Nat.{ℕ, suc, _+_, _-_, _*_, _/_, _%_, _^_, _≤_, _<_, compare, Ordering, Ordering·lt, Ordering·eq, Ordering·gt}
@@ -55,7 +55,7 @@ nearest-down q a b h = go (compare a b) (cmp a b)
     go Ordering·eq e = absurd (lt-irrefl a (lt-of-lt-of-le h (le-of-eq (sym e))))
     go Ordering·gt l = absurd (lt-irrefl a (lt-of-lt-of-le h (le-of-lt l)))
 
--- The square of twice a midpoint.
+-- This is the square of twice a midpoint.
 odd-square : (q : ℕ) → (2 * q + 1) * (2 * q + 1) ≡ 4 * (q * q) + 4 * q + 1
 odd-square q =
     let e : 2 * q + 1 ≡ suc (2 * q) = omega arith in
@@ -69,14 +69,14 @@ written : (p k : ℕ) → 2 ^ 52 ≤ p → p ≤ 2 ^ 53 → 0 < k → k < 2000 �
 written p k lo hi z h =
     ap (ofBits binary64) (sym (pattern-at (units binary64 false p k) p k (at-units p k lo hi z h))) ∙ ofBits-toBits binary64 (units binary64 false p k) (units-fit p k hi h)
 
--- How many zeros are dropped from a root with z in its square, and what is kept of the square.
+-- These are the number of zeros that are dropped from a root with z in its square, and what is kept of the square.
 abbrev K : ℕ → ℕ
 K z = (z - 52) / 2
 
 abbrev N : ℕ → ℕ → ℕ
 N d z = d * 2 ^ (z % 2) * 2 ^ 52
 
--- n is d with z zeros after it, and q the whole part of the root of d with 52 zeros or 53, an even number less than z
+-- The number n is d with z zeros after it, and q is the whole part of the root of d with 52 zeros or 53, an even number less than z.
 module _ (n d z q c : ℕ) (lo : 2 ^ 52 ≤ d) (hi : d < 2 ^ 53) (least : 1022 ≤ z) (most : z < 3120) (e : d * 2 ^ z ≡ n) (r : Root 53 (d * 2 ^ (z % 2) * 2 ^ 52) q c) where
   spread : n ≡ N d z * 4 ^ K z
   spread =
@@ -96,7 +96,7 @@ module _ (n d z q c : ℕ) (lo : 2 ^ 52 ≤ d) (hi : d < 2 ^ 53) (least : 1022 �
   is-kept : Kept n (K z) q
   is-kept = let s = long in subst (λ (x : ℕ). Kept n (K z) x) kept (kept-is n (K z) (sym dropped) (omega arith))
 
-  -- The number and the midpoint's square, each four times, in their order.
+  -- The number and the midpoint's square, each four times, keep their order.
   four : 4 * n ≡ 4 * N d z * 4 ^ K z
   four = ap (λ (x : ℕ). 4 * x) spread ∙ sym (mul-assoc 4 (N d z) (4 ^ K z))
 

@@ -1,4 +1,4 @@
--- The answer of `copying::copy`, as its code; the outputs are its own.
+-- The answer is that of `copying::copy`, as its code, and the outputs are its own.
 -- Assumes nothing.
 use mathlib.Core.Path.{ap, _∙_}
 use mathlib.Core.List.{List}

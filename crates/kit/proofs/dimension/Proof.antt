@@ -1,4 +1,4 @@
--- It stands in the header.
+-- The dimension stands in the header.
 -- Assumes nothing.
 use mathlib.Core.Path.{ap}
 use borrow.Author.Needs.{needs}

@@ -1,4 +1,4 @@
--- By the sheet's length and the types call's answer.
+-- The text goes by the sheet's length and the types call's answer.
 -- Assumes nothing.
 use mathlib.Core.Path.{refl}
 use native.Mathlib.Omega.{arith}
@@ -14,10 +14,10 @@ pub kit-text-spec : {M : Type 1} → statement M
 kit-text-spec =
     tie.close
     (tie.spec
-    -- refused-requires, returns: the sheet is too long
+    -- The needs are refused-requires and returns, where the sheet is too long.
     (λ c κs. omega (arith, refused-long CutSheet))
     (λ c. puts-is (c .refused .ensures) (cut-text _ (c .before .before .if1 .taken)))
-    -- What the types call is lent.
+    -- The needs are those of what the types call is lent.
     (λ c. search needs)
     (λ c. search needs)
     (λ c. search needs)

@@ -1,4 +1,4 @@
--- By the search's answer.
+-- The line goes by the search's answer.
 -- Assumes nothing.
 use mathlib.Core.Path.{refl}
 use native.Mathlib.Omega.{arith}
@@ -20,7 +20,7 @@ unfolding searched entry
 last-line-spec =
     tie.close
     (tie.spec
-    -- What the search is lent.
+    -- The needs are those of what the search is lent.
     (λ c. search needs)
     (λ c. search needs)
     (λ c. search needs)

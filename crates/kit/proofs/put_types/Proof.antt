@@ -1,4 +1,4 @@
--- The buffer has room: a cell has at most five digits.
+-- The buffer has room, because a cell has at most five digits.
 -- Assumes nothing.
 use native.Mathlib.Omega.{arith}
 use borrow.Author.Needs.{needs}

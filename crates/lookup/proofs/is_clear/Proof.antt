@@ -19,7 +19,7 @@ Inv-loop points d k q j₀ j = (j ≤ k) × Clear d points k j
 abbrev μ-loop : tie.MeasureT-loop
 μ-loop points d k q j₀ j = k - j
 
--- point j lies in the slice
+-- Point j lies in the slice.
 in-slice : (c : tie.In-loop Inv-loop μ-loop) → let s = c .before .before .before .before in c .before .loop .j * s .args .d + s .args .d ≤ length (s .args .points .now)
 in-slice c =
     let s = c .before .before .before .before in

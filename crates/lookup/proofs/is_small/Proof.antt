@@ -1,4 +1,4 @@
--- One comparison on each side of 0, as `within` of crate float.
+-- There is one comparison on each side of 0, as in `within` of crate float.
 -- Assumes nothing.
 use mathlib.Core.Path.{_≡_}
 use mathlib.Core.Bool.{_&&_}

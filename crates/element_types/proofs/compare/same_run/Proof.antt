@@ -14,7 +14,7 @@ Inv w a b n k₀ k = (k ≤ n) × Same (take n (drop a w)) (take n (drop b w)) k
 abbrev μ : tie.MeasureT-loop
 μ w a b n k₀ k = n - k
 
--- word k of a run
+-- Word k of a run is the word that the code reads.
 run : (c : tie.In-loop Inv μ)
     → let a = c .before .before .before .args in
     (n m : _) → n ≡ getD (a .w .now) (a .a + c .before .loop .k) 0 → m ≡ getD (a .w .now) (a .b + c .before .loop .k) 0
@@ -23,7 +23,7 @@ run c n m p q =
     let s = c .before .before .before in
     (p ∙ sym (getD-run _ _ _ (s .pre .0) _ (c .loop-test .taken)), q ∙ sym (getD-run _ _ _ (s .pre .1) _ (c .loop-test .taken)))
 
--- It is in both.
+-- Word k is in both runs.
 inside : (c : tie.In-loop Inv μ)
     → let a = c .before .before .before .args in
     (c .before .loop .k < length (take (a .n) (drop (a .a) (a .w .now)))) × (c .before .loop .k < length (take (a .n) (drop (a .b) (a .w .now))))

@@ -14,7 +14,7 @@ Inv words low sh rank n₀ r₀ n r = Tally sh low words n r
 abbrev μ : tie.MeasureT-loop
 μ words low sh rank n₀ r₀ n r = rank - r
 
--- The rank's offsets, in a turn.
+-- In a turn, the rank's offsets are known.
 ranks : (c : tie.In-loop Inv μ)
     → let l = c .before in
     let a = l .before .before .args in

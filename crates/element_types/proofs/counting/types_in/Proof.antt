@@ -1,4 +1,4 @@
--- m is one more than the greatest of the first e types.
+-- The number m is one more than the greatest of the first e types.
 -- Assumes nothing.
 use borrow.Author.Needs.{needs}
 use native.Mathlib.Omega.{arith}

@@ -1,4 +1,4 @@
--- The key is written and found, and its number stored; a new key's place too.
+-- The key is written and found, and its number is stored. The place of a new key is stored too.
 -- Assumes nothing.
 use native.Mathlib.Omega.{arith}
 use lib.ListN.{length-set}

@@ -1,4 +1,4 @@
--- One element after another, as `Scan` says.
+-- The elements are numbered one after another, as `Scan` says.
 -- Assumes nothing.
 use borrow.Author.Needs.{needs}
 use native.Mathlib.Omega.{arith}
@@ -24,7 +24,7 @@ sums : (c : tie.In-loop Inv μ)
     Sums (a .words .now) (a .low) (a .lists) (a .from) (a .out) (c .before .loop .q) (c .before .loop .e)
 sums c = let l = c .before in sums-fit _ _ _ _ _ _ _ (l .before .before .pre) _ _ _ _ (l .loop .inv) (c .loop-test .taken)
 
--- The words after a turn whose key was new.
+-- After a turn whose key was new, the element's list can be read again.
 back : (c : tie.Then1 Inv μ)
     → let n = c .before .before .before in
     let l = n .before .before .before in
@@ -36,7 +36,7 @@ back c =
     let l = i .before in
     list-back _ _ _ _ _ _ _ (l .before .before .pre) _ _ _ _ (l .loop .inv) (i .loop-test .taken) _ _ (n .number-one .ensures .0) (n .number-one .ensures .1) (c .if1 .taken)
 
--- How many neighbours the element has.
+-- The word that is read says how many neighbours the element has.
 many : (c : tie.After-count-at Inv μ)
     → let l = c .before .before .before .before .before .before .before .before in
     let a = l .before .before .args in

@@ -1,4 +1,4 @@
--- k words are copied.
+-- After k turns, k words are copied.
 -- Assumes nothing.
 use borrow.Author.Needs.{needs}
 use mathlib.Core.Path.{_≡_, refl}

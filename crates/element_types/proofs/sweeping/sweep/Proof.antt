@@ -1,4 +1,4 @@
--- The ups, and then the downs.
+-- The ups come first, and then the downs.
 -- Assumes nothing.
 use borrow.Author.Needs.{needs}
 use Rattle.element_types.proofs.Sweeps.{sweepable-kept, both}

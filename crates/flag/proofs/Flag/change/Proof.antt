@@ -15,7 +15,7 @@ use Rattle.flag.proofs.Sides.{sides}
 use Rattle.flag.proofs.Flag.change.Statement.{statement}
 use Rattle.flag.proofs.Flag.change.Tie as tie
 
--- What is known of the two lists from the start.
+-- From the start, this is known of the two lists.
 both : (s : tie.Start) → let a = s .args in Fork (a .w .now) (subsWord (firstAt (a .sh) (suc (a .r))) (getD (a .self .elements) (suc (a .r)) 0))
     (supsWord (firstAt (a .sh) (a .r - 1)) (getD (a .self .elements) (a .r - 1) 0)) (4 * (firstAt (a .sh) (a .r) + 0)) (getD (a .self .elements) (suc (a .r)) 0) (getD (a .self .elements) (a .r - 1) 0)
 both s = let a = s .args in sides (a .sh) (a .w .now) (s .pre .0) (a .r) (s .pre .1 .0 .0) (s .pre .1 .0 .1) _ (s .pre .1 .1 .0) _ (s .pre .1 .1 .1)

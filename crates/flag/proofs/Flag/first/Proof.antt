@@ -1,4 +1,4 @@
--- From the top, whose only element is 0.
+-- The first flag goes down from the top, whose only element is 0.
 -- Assumes nothing.
 use borrow.Author.Needs.{needs}
 use native.Mathlib.Omega.{arith}

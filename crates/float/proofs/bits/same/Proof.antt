@@ -11,7 +11,7 @@ use Rattle.float.specs.Reading.{Alike}
 use Rattle.float.proofs.bits.same.Statement.{statement}
 use Rattle.float.proofs.bits.same.Tie as tie
 
--- A float from its pattern.
+-- A float that fits comes back from its pattern.
 back : (x : Float) → fits binary64 x ≡ true → ofBits binary64 (toBits binary64 x) ≡ x
 back x f = ofBits-toBits binary64 x (subst T (sym f) tt)
 

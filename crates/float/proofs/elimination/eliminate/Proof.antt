@@ -28,7 +28,7 @@ loop-holds c = (search needs, first _ _)
 long : (c : tie.Start Inv-loop μ-loop) → c .args .d ≤ length (c .args .m)
 long c = search needs
 
--- The pivot as it stands in the leading part.
+-- The pivot is as it stands in the leading part.
 pivot-is : (c : tie.After-entry Inv-loop μ-loop) →
     let l = c .before .before .before in
     let d = l .before .before .args .d in

@@ -20,7 +20,7 @@ use Rattle.float.proofs.Padded.{corner-padded, square-table, padded-row
 use Rattle.float.proofs.elimination.right_halves.Statement.{statement}
 use Rattle.float.proofs.elimination.right_halves.Tie as tie
 
--- row k's right half
+-- This is the right half of row k.
 abbrev half : List (List Float) → ℕ → ℕ → List Float
 half w d k = drop d (take (d + d) (row w k))
 

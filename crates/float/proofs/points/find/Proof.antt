@@ -33,7 +33,7 @@ near-at-requires c κs =
     let s = c .before .before .before .before .before in
     (omega (arith, c .before .before .if2 .left), s .pre .0, omega (arith, part-end (s .args .n) (s .args .d) (c .before .loop .k) (c .loop-test .taken), s .pre .1))
 
--- What the comparison tells of point k.
+-- The comparison tells whether point k is near.
 near-is : (c : tie.After-near-at Inv-loop μ-loop) →
     (let a = c .before .before .before .before .before .before .args in
     near (getD (parts (a .n) (a .d) (a .points .now)) (c .before .before .loop .k) []) (take (a .d) (a .q)) ≡ c .near-at .result)

@@ -1,4 +1,4 @@
--- The first axis decides, or the whole point.
+-- The first axis decides, or else the whole point does.
 -- Assumes nothing.
 use mathlib.Core.Path.{_≡_, sym, ap, _∙_}
 use native.Mathlib.Omega.{arith}

@@ -1,4 +1,4 @@
--- `float::root::argument` meets its contract (`Fields.antt`). Assumes nothing.
+-- `float::root::argument` meets its contract, by the laws of `Fields.antt`. Assumes nothing.
 use mathlib.Core.Path.{_≡_}
 use Prim.Native.Nat.{_-_, _/_, _^_, _≤_, _<_}
 use native.Mathlib.Omega.{arith}

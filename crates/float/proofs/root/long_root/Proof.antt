@@ -1,4 +1,4 @@
--- `float::root::long_root` meets its contract: after the call, one division (`Digits.antt`). Assumes nothing.
+-- `float::root::long_root` meets its contract: after the call there is one division, of which `Digits.antt` has the law. Assumes nothing.
 use Prim.Native.Nat.{_*_, _/_, _%_, _^_}
 use native.Mathlib.Omega.{arith}
 use Rattle.float.proofs.root.Digits.{Divided, divided, lower-right, lower-over}

@@ -1,4 +1,4 @@
--- `float::root::root` meets its contract: each argument by its kind (`Cases.antt`). Assumes nothing.
+-- `float::root::root` meets its contract: `Cases.antt` takes each argument by its kind. Assumes nothing.
 use mathlib.Core.Path.{sym, _∙_, subst}
 use lib.Dec.{T}
 use lib.Ieee.{binary64, fits}
@@ -7,7 +7,7 @@ use Rattle.float.proofs.root.Cases.{below, neither, nan-is, no-nan, fin
 use Rattle.float.proofs.root.root.Statement.{statement}
 use Rattle.float.proofs.root.root.Tie as tie
 
--- What owning an `f64` tells: the format holds it.
+-- Owning an `f64` tells that the format holds it.
 held : (c : tie.Start) → T (fits binary64 (c .args .x))
 held c = subst T (sym (c .good .0 .1)) tt
 

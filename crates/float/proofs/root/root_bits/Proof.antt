@@ -1,4 +1,4 @@
--- `float::root::root_bits` meets its contract (`Rounded.antt`). Assumes nothing.
+-- `float::root::root_bits` meets its contract, by the laws of `Rounded.antt`. Assumes nothing.
 use mathlib.Core.Path.{_≡_, sym, subst}
 use mathlib.Core.Logic.{⊎-elim}
 use Prim.Native.Nat.{ℕ, _+_, _-_, _*_, _/_, _%_, _^_, _≤_, _<_}

@@ -1,5 +1,5 @@
--- `float::root::short_root` meets its contract. The invariant of its loop: `root` is the root of the digits brought down, in as many digits
--- as turns are done, and `rest` what its square leaves of them. Assumes nothing.
+-- `float::root::short_root` meets its contract. The invariant of its loop is that `root` is the root of the digits brought down, in as many digits as
+-- turns are done, and that `rest` is what its square leaves of them. Assumes nothing.
 use mathlib.Core.Path.{_≡_, refl, sym, ap, _∙_, subst}
 use mathlib.Core.Logic.{_⊎_, inl, inr}
 use Prim.Native.Nat.{ℕ, suc, _+_, _-_, _*_, _/_, _%_, _^_, _≤_, _<_}
@@ -12,7 +12,7 @@ use Rattle.float.proofs.root.Digits.{Root, digit-one, digit-zero, parts
 use Rattle.float.proofs.root.short_root.Statement.{statement}
 use Rattle.float.proofs.root.short_root.Tie as tie
 
--- The digits that are down after i turns.
+-- These are the digits that are down after i turns.
 abbrev Brought : ℕ → ℕ → ℕ
 Brought n i = n / 2 ^ (54 - 2 * i)
 
@@ -32,7 +32,7 @@ small n i q c h r =
     let l = shr-le n (54 - 2 * i) in
     (omega arith, omega arith)
 
--- Two digits more.
+-- Two digits more are brought down.
 module _ (n i q c : ℕ) (h : i < 27) (r : Root i (Brought n i) q c) where
   before : Root i (n / 2 ^ (52 - 2 * i) / 4) q c
   before =
@@ -58,7 +58,7 @@ last n i q c h k r =
 bounds : (c : tie.In-loop Inv-loop μ-loop) → (c .before .loop .root < 2 ^ 54) × (c .before .loop .rest < 2 ^ 54)
 bounds c = small _ _ _ _ (c .before .before .pre) (c .before .loop .inv .1)
 
--- What `at_most` answers of the test that a digit is by.
+-- This is what `at_most` answers of the test that a digit goes by.
 abbrev Digit : ℕ → ℕ → ℕ → Type 0
 Digit a b d = ((d ≡ 1) × (a ≤ b)) ⊎ ((d ≡ 0) × (b < a))
 

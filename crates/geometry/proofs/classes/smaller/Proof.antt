@@ -9,7 +9,7 @@ use Rattle.geometry.proofs.Nearest.{other-smaller, not-smaller}
 use Rattle.geometry.proofs.classes.smaller.Statement.{statement}
 use Rattle.geometry.proofs.classes.smaller.Tie as tie
 
--- The definition at what was found before.
+-- The definition is applied at what was found before.
 at : (y : Float) {f g : Nearest} → f ≡ g → smaller y (nearestOf g) ≡ smaller y (nearestOf f)
 at y e = ap (λ (f : Nearest). smaller y (nearestOf f)) (sym e)
 

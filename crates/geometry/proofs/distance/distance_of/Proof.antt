@@ -27,7 +27,7 @@ one-point x = record { offset = x; basis = [] }
 abbrev entry : tie.At-loop Inv-loop μ-loop → tie.Start Inv-loop μ-loop
 entry c = c .before .before .before .before .before .before
 
--- The part that is handed back for the first point, and for the point of the turn.
+-- These are the parts that are handed back for the first point, and for the point of the turn.
 part-first : (c : tie.After-point Inv-loop μ-loop) →
     let a = c .before .before .before .before .args in
     (c .point .result .now ≡ pointAt (a .d) (a .points .now) (getD (a .list .now) 0 0)) × (length (c .point .result .now) ≡ a .d)

@@ -14,7 +14,7 @@ use Rattle.geometry.proofs.Hulls.{one-more, joins-far, joins-near, add-
 use Rattle.geometry.proofs.hull.Hull.add.Statement.{statement}
 use Rattle.geometry.proofs.hull.Hull.add.Tie as tie
 
--- The length that the test is about.
+-- The test is about the length of what is left of p.
 length-is : (c : tie.After-norm) →
     let a = c .before .before .before .args in
     c .norm .result ≡ norm (rest (hullIn (length (a .p .now)) (a .self)) (a .p .now))

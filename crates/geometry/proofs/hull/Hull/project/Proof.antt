@@ -42,7 +42,7 @@ lent : (c : tie.In-loop Inv-loop μ-loop) →
     take (at + length (a .p .now) - at) (drop at (a .self .basis)) ≡ vectorAt (length (a .p .now)) (a .self .basis) (c .before .loop .k)
 lent c = part-is (length (c .before .before .before .before .before .before .args .p .now)) (c .before .loop .k * maxDimension) _
 
--- Which has d entries.
+-- That vector has d entries.
 wide : (c : tie.In-loop Inv-loop μ-loop) →
     let a = c .before .before .before .before .before .before .args in
     length (vectorAt (length (a .p .now)) (a .self .basis) (c .before .loop .k)) ≡ length (a .p .now)
