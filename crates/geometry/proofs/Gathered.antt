@@ -48,7 +48,7 @@ module _ (d : ℕ) (h g : Hull) (p : Vector) (e : hullIn d g ≡ add (hullIn d h
 
 -- ---- the points
 
--- The part of the slice for number i of the list lies within the slice, and is the point of that number.
+-- The part of the slice for number i of the list is the point of that number, and is d wide.
 pub part-is : (d n : ℕ) (points : List Float) (l : List ℕ) (i v : ℕ) (p : Vector) →
     ((j : ℕ) → j < n → (getD l j 0 + 1) * d ≤ length points) → i < n → v ≡ getD l i 0 → p ≡ pointAt d points v →
     (p ≡ pointAt d points (getD l i 0)) × (length p ≡ d)

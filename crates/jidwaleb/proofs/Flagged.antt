@@ -78,7 +78,7 @@ module _ (s : Solid) (v : Sound s) where
       (pigeons eqb numbers (subs s (suc r) e) (range 0 (size s r)) (rising-once (subs s (suc r) e) (v .rising (suc r) e))
       (λ x m. in-range 0 (size s r) x (omega arith) (omega (arith, v .below r e x m))))
 
-  -- One rank up, there are at most as many times more as the element has subs.
+  -- One rank up, an element has at most k flags for each of its subs.
   next : (r k : ℕ) → ((f : ℕ) → many r f ≤ k) → (e : ℕ) → many (suc r) e ≤ length (subs s (suc r) e) * k
   next r k h e = rw (many-sum r e) (sum-under (many r) k (subs s (suc r) e) (λ f m. h f))
 

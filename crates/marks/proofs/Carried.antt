@@ -1,4 +1,4 @@
--- A rank's elements, and the ranks one after another: what the cells hold says where elements go, as long as all are carried.
+-- For a rank's elements, and for the ranks one after another, what the cells hold says where elements go, as long as all are carried.
 -- Assumes nothing.
 use mathlib.Core.Path.{_≡_, refl, sym, _∙_, ap, ap₂}
 use mathlib.Core.Bool.{Bool, true, false}
@@ -63,7 +63,7 @@ module _ {sh : Shape} {w row : List ℕ} (a : Row sh w row) where
         let p : Proper s 1 = is-proper 1 (omega arith) (omega (arith, b .high)) in
         rw (q, z) (vertex-reached s (a .held .sound) (a .held .filled) cls row rows p (sets 1 p) e (rw q at in-solid))
 
-    -- cells of the rank below
+    -- The cells of the rank below hold elements of that rank.
     pub cells-low : 2 ≤ r → (f : ℕ) → f < sizeAt sh (r - 1) → getD cells (firstAt sh (r - 1) + f) 0 < sizeAt sh (r - 1)
     cells-low two f k = let i = b .below two f k in rw (i .0) (i .1)
 
@@ -134,7 +134,7 @@ module _ (sh : Shape) (w row : List ℕ) (cls : Classes) (r e x : ℕ) (a : Reac
 
 -- ---- a rank's elements
 
--- e elements of rank r are carried, and their cells are written
+-- The first e elements of rank r are carried, and their cells are written.
 pub record Turn (sh : Shape) (w row : List ℕ) (cls : Classes) (cells₀ : List ℕ) (r n base : ℕ) (cells : List ℕ) (e : ℕ) : Type 0 where
   pub base-is : base ≡ firstAt sh r
   pub bound : e ≤ n
@@ -160,7 +160,7 @@ module _ {sh : Shape} {w row : List ℕ} {cls : Classes} {cells₀ : List ℕ} {
   many-in : n ≡ size (absIn sh w) r
   many-in = t .many ∙ sym (size-is sh w r (omega (arith, t .rank .high)))
 
-  -- An element of the rank, by the code's number of them.
+  -- An element of the rank is below the code's number of them.
   pub turn-in : {x : ℕ} → x < size (absIn sh w) r → x < n
   turn-in h = omega (arith, many-in)
 

@@ -1,4 +1,4 @@
--- The mark's clauses, as the program asks for them.
+-- The mark's clauses are those that the program asks for.
 -- Assumes nothing.
 use mathlib.Core.Path.{_≡_, refl}
 use mathlib.Core.Bool.{Bool, true, false, _&&_}
@@ -23,7 +23,7 @@ module _ (s : Solid) (cls : Classes) (row : List ℕ) (full : length row ≡ siz
       rw (eq-eqb (length row) (size s 1) full, ← full)
       (regroup (setsApart s) (every (λ v. ltb v (length row)) row) (noRepeats eqb row) (every (λ r. every (carriesElement s cls row r) (range 0 (size s r))) (properRanks s)))
 
-  -- 1 or 0
+  -- A test that passes counts as 1, and one that fails as 0.
   abbrev bit : Bool → ℕ
   bit b = elim b [ true ↦ 1 | false ↦ 0 ]
 

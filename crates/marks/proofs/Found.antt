@@ -1,4 +1,4 @@
--- Looking for the element whose subs are the images of an element's own, by the words.
+-- The element whose subs are the images of an element's own is looked for by the words.
 -- Assumes nothing.
 use mathlib.Core.Path.{_≡_, sym, _∙_, ap}
 use mathlib.Core.Bool.{Bool, true, false}
@@ -73,7 +73,7 @@ module _ (sh : Shape) (w : List ℕ) (h : Held sh w) (cells : List ℕ) (r e : �
   pub sub-cell : (f : ℕ) → In f (listAt w (subsWord (firstAt sh (suc r)) e)) → firstAt sh r + f < length cells
   sub-cell f m = omega (arith, number-in sh w h r f (omega arith) (sub-in sh w h r e f high (rw list-is at m)))
 
-  -- The first sub, and where it goes.
+  -- The first sub is f, and it goes to y.
   module _ (f y : ℕ) (f-is : f ≡ getD (listAt w (subsWord (firstAt sh (suc r)) e)) 0 0) (y-is : y ≡ getD cells (firstAt sh r + f) 0) where
     sub-low : f < sizeAt sh r
     sub-low = sub-in sh w h r e f high (rw (f-is, list-is) (in-getD 0 (subs (absIn sh w) (suc r) e) 0 (rw list-is at some-sub)))

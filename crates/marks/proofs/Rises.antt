@@ -1,4 +1,4 @@
--- The mark's clause on elements, going up rank by rank: an element goes to the one whose subs are the images of its own, if there is one.
+-- The mark's clause on elements goes up rank by rank: an element goes to the one whose subs are the images of its own, if there is one.
 -- Assumes nothing.
 use mathlib.Core.Path.{_≡_, refl, sym, _∙_, ap, subst}
 use mathlib.Core.Logic.{inl, inr}
@@ -61,7 +61,7 @@ module _ (s : Solid) (ok : Sound s) (filled : (r e : ℕ) → e < size s (suc r)
   in-image r e v m =
       in-map (λ u. getD row u 0) v (vertices s r e) (of-order (size s 1) (map (λ u. getD row u 0) (vertices s r e)) v m .1)
 
-  -- e goes to g, whose subs are the images: whether it is carried is a matter of class
+  -- Where e goes to g, whose subs are the images, it is a matter of class whether it is carried.
   class-left : (r e g : ℕ) → g < size s (suc r) → goes s row (suc r) e ≡ g → subs s (suc r) g ≡ inOrder (size s r) (map (goes s row r) (subs s (suc r) e))
       → carriesElement s cls row (suc r) e ≡ eqb (cls (suc r) g) (cls (suc r) e)
   unfolding carriesElement
@@ -87,7 +87,7 @@ module _ (s : Solid) (ok : Sound s) (filled : (r e : ℕ) → e < size s (suc r)
       low : getD row v 0 < size s 1 → (x : ℕ) → In x (getD row v 0 ∷ []) → x < size s 1
       low k x (inl q) = omega arith
 
-  -- "A vertex has the least element as sub"
+  -- "A vertex has the least element as sub."
   least-only : (v : ℕ) → v < size s 1 → subs s 1 v ≡ 0 ∷ []
   least-only v h = go (subs s 1 v) (filled 0 v h) (ok .rising 1 v) (λ x m. let k = ok .below 0 v x m in let one : size s 0 ≡ 1 = ap length (ok .least) in omega arith)
     where
@@ -111,7 +111,7 @@ module _ (s : Solid) (ok : Sound s) (filled : (r e : ℕ) → e < size s (suc r)
   -- ---- one rank up
 
   module _ (q : ℕ) (p : Proper s (suc q)) (low : (f : ℕ) → f < size s (suc q) → goes s row (suc q) f < size s (suc q)) where
-    -- subs that are the images of e's: the vertices are the image of e's
+    -- Where the subs of g are the images of e's, its vertices are the image of e's.
     up : (e g : ℕ) → Same (subs s (suc (suc q)) g) (map (goes s row (suc q)) (subs s (suc (suc q)) e)) → vertices s (suc (suc q)) g ≡ image s row (suc (suc q)) e
     unfolding vertices image
     up e g h = sets-same (size s 1) (reach s (suc (suc q)) g) (map (λ v. getD row v 0) (vertices s (suc (suc q)) e)) (λ v. (to v, from v))

@@ -1,4 +1,4 @@
--- The loop that looks whether a row permutes the vertices: what is marked is what was met.
+-- In the loop that looks whether a row permutes the vertices, what is marked is what was met.
 -- Assumes nothing.
 use mathlib.Core.Path.{_≡_, refl, sym, _∙_, ap}
 use Prim.Native.Nat.{ℕ, zero, suc, _+_, _≤_, _<_}

@@ -1,4 +1,4 @@
--- Lists of numbers as sets: rising lists, lists that hold the same, and tests of them.
+-- Lists of numbers are taken as sets: this file has rising lists, lists that hold the same, and tests of them.
 -- Assumes nothing.
 use mathlib.Core.Path.{_≡_, refl, sym, _∙_, ap}
 use mathlib.Core.Logic.{inl, inr}

@@ -1,4 +1,4 @@
--- The row of a member beside the solid that stands in lent words, and the cells that say where each element goes.
+-- The row of a member stands beside the solid that lies in lent words, and cells say where each element goes.
 -- Assumes nothing.
 use mathlib.Core.Path.{_≡_}
 use Prim.Native.Nat.{ℕ, _+_, _-_, _≤_, _<_}
@@ -17,15 +17,15 @@ use Rattle.ranked.specs.declared.Shape.{Shape}
 use Rattle.ranked.specs.Words.{firstAt, sizeAt, total, absIn, Held}
 use Rattle.distances.specs.Solids.{solidOn, coordinates, proper}
 
--- Whether the row's entries are all vertices, of which there are as many as entries, and none is there twice.
+-- Tells whether the row's entries are all vertices, of which there are as many as entries, and none is there twice.
 unfoldable pub permutes : List ℕ → Bool
 permutes row = every (λ v. ltb v (length row)) row && noRepeats eqb row
 
--- The solid in the words w, with the coordinates that the floats start with.
+-- Gives the solid in the words w, with the coordinates that the floats start with.
 abbrev pub concrete : Shape → List ℕ → List Float → Concrete
 concrete sh w fs = solidOn sh w (take (coordinates sh w) fs) (sh .dimension)
 
--- The distance classes of that solid.
+-- Gives the distance classes of that solid.
 abbrev pub classesOn : Shape → List ℕ → List Float → Classes
 classesOn sh w fs = byTable (classTable (concrete sh w fs))
 

@@ -1,4 +1,4 @@
--- The product of two confirmed rows is confirmed: it takes an element where a takes what b takes it to.
+-- The product of two confirmed rows is confirmed, because it takes an element where a takes what b takes it to.
 -- Assumes nothing.
 use mathlib.Core.Path.{_≡_, refl, sym, _∙_, ap}
 use Prim.Native.Nat.{ℕ, zero, suc, pred, _<_}

@@ -1,4 +1,4 @@
--- The marks of the rows, one after another, each in the part after those that are written.
+-- The marks of the rows are written one after another, each in the part after those that are written.
 -- Assumes nothing.
 use mathlib.Core.Path.{_≡_, refl, ap, _∙_}
 use Prim.Native.Nat.{ℕ, _+_, _-_, _≤_, _<_}
@@ -14,14 +14,14 @@ use Rattle.float.proofs.Parts.{length-parts, parts-more}
 use Rattle.float.proofs.Tails.{part-written}
 use Rattle.products.specs.Marking.{markIn, rowAt}
 
--- One cell, written first.
+-- Setting the first cell writes a list of one.
 pub one-written : {A : Type 0} (x : A) (l : List A) → 0 < length l → set l 0 x ≡ written (x ∷ []) l
 unfolding written
 one-written x [] h = absurd (omega arith)
 one-written x (y ∷ l) h = refl
 
 module _ (c : Concrete) (v : ℕ) (rows : List ℕ) where
-  -- The marks of k rows.
+  -- These are the marks of k rows.
   abbrev pub marksTo : ℕ → List ℕ
   marksTo k = map (markIn c) (parts k v rows)
 
@@ -39,7 +39,7 @@ module _ (c : Concrete) (v : ℕ) (rows : List ℕ) where
   unfolding written
   marks-taken k old now e = ap (take k) e ∙ take-at (marksTo k) _ k (marks-long k)
 
-  -- The loop's invariant: the first k of n rows have their marks.
+  -- The loop's invariant is that the first k of n rows have their marks.
   abbrev pub MarkedTo : ℕ → List ℕ → List ℕ → List ℕ → List ℕ → ℕ → Type 0
   MarkedTo n goes₀ marks₀ goes marks k = (k ≤ n) × (length goes ≡ length goes₀) × (length marks ≡ length marks₀) × (marks ≡ written (marksTo k) marks₀)
 

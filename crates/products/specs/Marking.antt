@@ -1,4 +1,4 @@
--- The marks of a list of rows, and a row that is the product of two confirmed before it.
+-- This file has the marks of a list of rows, and a row that is the product of two confirmed before it.
 -- Assumes nothing.
 use mathlib.Core.Path.{_≡_}
 use Prim.Native.Nat.{ℕ, _*_, _≤_, _<_}
@@ -16,18 +16,18 @@ use Rattle.ranked.specs.Words.{total, absIn, Held}
 use Rattle.marks.specs.Rows.{ClassesIn}
 use Rattle.products.specs.Products.{composed}
 
--- The mark of a row in the solid c: "confirmed, 1, .. Otherwise 0".
+-- Gives the mark of a row in the solid c: "confirmed, 1, .. Otherwise 0".
 unfoldable pub markIn : Concrete → List ℕ → ℕ
 markIn c row = elim (marked (c .abs) (byTable (classTable c)) row) [ true ↦ 1 | false ↦ 0 ]
 
--- What the marks of a solid in the words w and floats fs need: its classes, whether its vertex sets are apart, and n cells for where elements go.
+-- The marks of a solid in the words w and floats fs need its classes, whether its vertex sets are apart, and n cells for where elements go.
 pub record Markable (sh : Shape) (w : List ℕ) (fs : List Float) (apart : Bool) (n : ℕ) : Type 0 where
   pub held : Held sh w
   pub classes : ClassesIn sh w fs
   pub apart-is : apart ≡ setsApart (absIn sh w)
   pub room : total sh ≤ n
 
--- Row k of rows that have v entries each.
+-- Gives row k of rows that have v entries each.
 abbrev pub rowAt : ℕ → List ℕ → ℕ → List ℕ
 rowAt v rows k = take v (drop (k * v) rows)
 

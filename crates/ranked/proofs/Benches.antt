@@ -1,4 +1,4 @@
--- What the bench gives to those that work on it: room, small numbers, and that it stays a bench while its first words stay.
+-- The bench gives room and small numbers to those that work on it, and stays a bench while its first words stay.
 -- Assumes nothing.
 use mathlib.Core.Path.{_≡_, refl, sym, _∙_, ap}
 use Prim.Native.Nat.{ℕ, zero, suc, _+_, _-_, _*_, _^_, _≤_, _<_}
@@ -28,7 +28,7 @@ module _ (sh : Shape) (w : List ℕ) (h : Held sh w) where
   abbrev s : Solid
   s = absIn sh w
 
-  -- How many elements lie below rank r.
+  -- The offset of rank r is the number of elements below it.
   below : (r : ℕ) → r ≤ suc (sh .rank) → firstAt sh r ≡ running 0 (λ q. size s q) r
   unfolding running
   below zero k = h .start
@@ -40,7 +40,7 @@ module _ (sh : Shape) (w : List ℕ) (h : Held sh w) where
   top-one : size s (sh .rank) ≡ 1
   top-one = rw (top-is sh w) at (h .sound .one)
 
-  -- E, the least, and the top
+  -- All elements are the E proper ones, the least, and the top.
   below-top : 0 < sh .rank → running 0 (λ q. size s q) (sh .rank) ≡ 1 + elements s
   unfolding elements properRanks running
   below-top k =
@@ -107,16 +107,16 @@ module _ {sh : Shape} {ws : List ℕ} {fs : List Float} (b : Bench sh ws fs) whe
   unfolding baseOf lowOf
   base-in = omega (arith, b .low-is)
 
-  -- All subs, and as many sups after them.
+  -- All subs stand there, and as many sups after them.
   pub base-pairs : base + length (pairs sh bench-solid) ≡ sh .low
   unfolding baseOf lowOf
   base-pairs = omega (arith, b .low-is, pairs-are sh (listsOf sh ws) (b .held .sound) (b .held .filled))
 
-  -- The coordinates.
+  -- The coordinates lie in the floats.
   pub points-in : size bench-solid 1 * sh .dimension ≤ length fs
   points-in = omega (arith, mul-le-mul-left (size bench-solid 1) (b .held .wide), vertices-few sh (listsOf sh ws) (b .held), b .floats)
 
-  -- Two words for each element, and one for each vertex, after the solid's own.
+  -- There are two words for each element, and one for each vertex, after the solid's own.
   pub rows-in : sh .low + 2 * total sh + size bench-solid 1 ≤ length ws
   unfolding lowOf
   rows-in =
@@ -138,7 +138,7 @@ module _ {sh : Shape} {ws : List ℕ} {fs : List Float} (b : Bench sh ws fs) whe
       let p : length (pairs sh bench-solid) < 2 ^ 30 = rw (b .subs-alone) at (b .stored .entries) in
       omega (arith, base-pairs, pairs-are sh (listsOf sh ws) (b .held .sound) (b .held .filled), elements-few)
 
--- Whatever else changes.
+-- The bench stays, whatever else changes.
 pub bench-kept : {sh : Shape} {ws vs : List ℕ} {fs gs : List Float} → Bench sh ws fs → listsOf sh vs ≡ listsOf sh ws → length vs ≡ length ws
     → length gs ≡ length fs → Bench sh vs gs
 bench-kept {sh} {ws} {vs} {fs} {gs} b e l m = record {
@@ -173,7 +173,7 @@ laid b = λ gs k. record {
   floats = k;
 }
 
--- A bench of just enough floats.
+-- There is a bench of just enough floats.
 pub some-bench : (sh : Shape) (ws : List ℕ) → Laid sh ws → Bench sh ws (replicate (8 * (elements (absIn sh (listsOf sh ws)) + 8)) zeroF)
 some-bench sh ws l =
     let n = 8 * (elements (absIn sh (listsOf sh ws)) + 8) in

@@ -1,4 +1,4 @@
--- The elements between g and h, seen from below: the sups of h that have g among their sups are the same list.
+-- Seen from below, the elements between g and h are the same list: the sups of h that have g among their sups.
 -- Assumes nothing.
 use mathlib.Core.Path.{_≡_, refl, sym, ap}
 use mathlib.Core.Logic.{inl, inr}
@@ -66,7 +66,7 @@ rising-same (x ∷ l) (y ∷ m) a b f g =
 
 -- ---- the elements between
 
--- e is among the sups of x exactly if x is among its subs
+-- Element e is among the sups of x exactly if x is among its subs.
 module _ (s : Solid) (r e x : ℕ) where
   pub sup-means : In e (sups s r x) → (e < size s (suc r)) × In x (subs s (suc r) e)
   unfolding sups
@@ -81,7 +81,7 @@ module _ (s : Solid) (r e x : ℕ) where
       keep-in (λ f. holds eqb x (subs s (suc r) f)) e (range 0 (size s (suc r)))
       (in-range 0 (size s (suc r)) e (omega arith) (omega arith)) (holds-in x (subs s (suc r) e) m)
 
--- The sups of h, one rank up, that have g among their sups.
+-- Lists the sups of h, one rank up, that have g among their sups.
 unfoldable pub upward : Solid → ℕ → ℕ → ℕ → List ℕ
 upward s r g h = keep (λ x. holds eqb g (sups s (suc r) x)) (sups s r h)
 

@@ -1,4 +1,4 @@
--- How many subs all elements of a solid have together: as many as the shape and the entries of its lists say.
+-- All elements of a solid together have as many subs as the shape and the entries of its lists say.
 -- Assumes nothing.
 use mathlib.Core.Path.{_≡_, refl, sym, _∙_, ap, fun-ext}
 use mathlib.Core.Logic.{inl, inr}
@@ -23,7 +23,7 @@ use Rattle.ranked.proofs.store.Whole.{sum-before}
 
 -- ---- lists
 
--- lists of one entry each
+-- Lists of one entry each have as many entries as there are lists.
 ones : (ls : List (List ℕ)) → ((e : ℕ) → e < length ls → length (getD ls e []) ≡ 1) → length (join ls) ≡ length ls
 unfolding join
 ones [] h = refl
@@ -42,7 +42,7 @@ one-sub (x ∷ y ∷ l) r b h = absurd (omega (arith, r .0, b y (inr (inl refl))
 
 -- ---- the solid
 
--- Where R is two or more.
+-- Where R is two or more, the entries are those of the vertices, of the lists and of the top.
 pub sub-entries-is : (sh : Shape) (I z : ℕ) → sh .rank ≡ suc (suc z) → subEntries sh I ≡ sizeAt sh 1 + I + sizeAt sh (suc z)
 unfolding subEntries
 sub-entries-is sh I z e = rw (e, subEntries)
@@ -51,7 +51,7 @@ module _ (sh : Shape) (w : List ℕ) (v : Sound (absIn sh w)) (full : (r e : ℕ
   abbrev s : Solid
   s = absIn sh w
 
-  -- The subs of a rank's elements.
+  -- Counts the subs of a rank's elements.
   abbrev count : ℕ → ℕ
   count r = length (join (getD s r []))
 

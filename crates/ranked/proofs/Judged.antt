@@ -1,4 +1,4 @@
--- Refusals 5 and 6 of the solid that the words hold, as the words say them.
+-- Refusals 5 and 6 of the solid that the words hold are as the words say them.
 -- Assumes nothing.
 use mathlib.Core.Path.{_≡_, refl, sym, _∙_, ap}
 use mathlib.Core.Logic.{inl, inr}
@@ -77,7 +77,7 @@ module _ (sh : Shape) (w : List ℕ) (h : Held sh w) where
     middle : 4 * at + 2 ≤ length w
     middle = omega (arith, sups-lie sh w h (suc q) 0 (omega arith) (omega (arith, h .some (suc q) (omega arith))) .head)
 
-    -- A rank's lists, from its first element's on.
+    -- A rank's lists stand from its first element's on.
     subs-word : (y : ℕ) → 4 * at + 4 * y ≡ subsWord at y
     subs-word y = omega arith
 
@@ -97,7 +97,7 @@ module _ (sh : Shape) (w : List ℕ) (h : Held sh w) where
       sub-g : (f : ℕ) → In f (listAt w (subsWord above g)) → f < sizeAt sh (suc q)
       sub-g f m = sub-in sh w h (suc q) g f (omega arith) (rw subs-g at m)
 
-      -- From above.
+      -- Going down from g, the elements between are met.
       pub down-is : (x : ℕ) → holding w (subsWord above g) (4 * at) x ≡ between s (suc q) g x
       unfolding holding between
       down-is x =
@@ -111,7 +111,7 @@ module _ (sh : Shape) (w : List ℕ) (h : Held sh w) where
         sup-x : (y : ℕ) → In y (listAt w (supsWord below x)) → y < sizeAt sh (suc q)
         sup-x y m = sup-in sh w h q x y (omega arith) (rw sups-x at m)
 
-        -- From below.
+        -- Going up from x, the elements between are met.
         up-is : holding w (supsWord below x) (4 * at + 2) g ≡ upward s q g x
         unfolding holding upward
         up-is =
@@ -174,7 +174,7 @@ module _ (sh : Shape) (w : List ℕ) (h : Held sh w) where
       go zero a b = absurd (omega arith)
       go (suc q) a b = mitre-is q b
 
-  -- The whole, and a part of it.
+  -- The tests from rank 0 on are the whole, and those of later ranks are a part of it.
   pub diamond-whole : twoFrom sh w 0 ≡ diamond s
   unfolding twoFrom
   diamond-whole = let q : sh .rank - 1 - 0 ≡ sh .rank - 1 = omega arith in rw q (sym diamond-is)

@@ -1,4 +1,4 @@
--- The coordinate slice holds the points one after another: the part of vertex v is point v.
+-- The coordinate slice holds the points one after another, and the part of vertex v is point v.
 -- Assumes nothing.
 use mathlib.Core.Path.{_≡_}
 use mathlib.Core.List.{List, [], _∷_, _++_}
@@ -21,7 +21,7 @@ module _ {A : Type 0} (d : ℕ) where
       let e : suc v * d ≡ d + v * d = omega (arith, suc-mul v d) in
       rw (e, ← drop-drop (v * d) d (p ++ join ps), drop-at p (join ps) d (h .0)) (part-is ps (h .1) v (omega arith))
 
-  -- And lies within the slice.
+  -- That part lies within the slice.
   pub part-in : (ps : List (List A)) → Wide d ps → (v : ℕ) → v < length ps → (v + 1) * d ≤ length (join ps)
   unfolding join
   part-in [] h v k = absurd (omega arith)
@@ -30,7 +30,7 @@ module _ {A : Type 0} (d : ℕ) where
       let e : (suc v + 1) * d ≡ d + (v + 1) * d = omega (arith, suc-mul (v + 1) d) in
       rw e (omega (arith, length-append p (join ps), h .0, part-in ps (h .1) v (omega arith)))
 
--- The coordinates of vertex v.
+-- The coordinates of vertex v are point v.
 pub point-is : (c : Concrete) → Wide (c .dimension) (c .points) → (v : ℕ) → v < length (c .points)
     → take (c .dimension) (drop (v * c .dimension) (join (c .points))) ≡ pointOf c v
 unfolding pointOf

@@ -1,4 +1,4 @@
--- From words to the solid that they hold: one law each for lists, subs, sups, sizes and the top.
+-- This file goes from words to the solid that they hold, with one law each for lists, subs, sups, sizes and the top.
 -- Assumes nothing.
 use mathlib.Core.Path.{_≡_, sym, _∙_, ap}
 use mathlib.Core.List.{List, [], map}
@@ -58,7 +58,7 @@ module _ (sh : Shape) (w : List ℕ) (h : Held sh w) where
   below-total zero r e = let q : suc r ≡ suc (sh .rank) = omega arith in rw q (omega arith)
   below-total (suc n) r e = omega (arith, below-total n (suc r) (omega arith), h .some (suc r) (omega arith))
 
-  -- An element's number over all ranks.
+  -- An element's number over all ranks is below the number of all elements.
   pub number-in : (r e : ℕ) → r ≤ sh .rank → e < sizeAt sh r → firstAt sh r + e < total sh
   number-in r e q k = omega (arith, below-total (sh .rank - r) r (omega arith))
 
@@ -75,7 +75,7 @@ module _ (sh : Shape) (w : List ℕ) (h : Held sh w) where
   pub sups-is : (r e : ℕ) → r ≤ sh .rank → e < sizeAt sh r → sups (absIn sh w) r e ≡ supsIn sh w r e
   sups-is r e q k = sym (h .derived r e q k)
 
-  -- The lists in the words.
+  -- The lists in the words are those of the solid.
   pub subs-listed : (r e : ℕ) → r ≤ sh .rank → e < sizeAt sh r → listAt w (subsWord (firstAt sh r) e) ≡ subs (absIn sh w) r e
   unfolding subsIn
   subs-listed r e q k = sym (subs-is sh w r e q k)
@@ -84,7 +84,7 @@ module _ (sh : Shape) (w : List ℕ) (h : Held sh w) where
   unfolding supsIn
   sups-listed r e q k = h .derived r e q k
 
-  -- "Subs of an element lie one rank below, sups one above"
+  -- "Subs of an element lie one rank below, sups one above."
   pub sub-in : (r e x : ℕ) → suc r ≤ sh .rank → In x (subs (absIn sh w) (suc r) e) → x < sizeAt sh r
   sub-in r e x q m = rw (size-is sh w r (omega arith)) at (h .sound .below r e x m)
 

@@ -1,4 +1,4 @@
--- Loops over a list that can be left early: what is left gives what the whole gives. And loops that count.
+-- In loops over a list that can be left early, what is left gives what the whole gives. Loops that count are here too.
 -- Assumes nothing.
 use mathlib.Core.Path.{_≡_, sym, _∙_, ap}
 use mathlib.Core.Bool.{Bool, true, false}
@@ -19,7 +19,7 @@ use Rattle.spec.proofs.Lists.{length-range, getD-range, in-getD}
 pub entry-in : (l : List ℕ) (k y : ℕ) → k < length l → y ≡ getD l k 0 → In y l
 entry-in l k y h e = rw e (in-getD 0 l k h)
 
--- A count that was read, held to 0.
+-- A count that was read is compared with 0.
 pub none-read : (n m : ℕ) → m ≡ n → m ≡ 0 → ltb 0 n ≡ false
 none-read n m e z = le-ltb 0 n (omega arith)
 
@@ -37,7 +37,7 @@ module _ {A : Type 0} (p : A → Bool) where
   unfolding every
   every-false x l e = rw (e, every)
 
-  -- k elements in, what is left gives what the whole gives
+  -- After k elements, what is left gives what the whole gives.
   abbrev pub Every : List A → ℕ → Type 0
   Every l k = every p (drop k l) ≡ every p l
 
@@ -51,7 +51,7 @@ module _ {A : Type 0} (p : A → Bool) where
   unfolding every
   every-end l k h inv = rw (drop-of-length-le l h) at inv
 
--- The same over a, a + 1, .., a + n - 1, k numbers in, at the number x.
+-- The same holds over a, a + 1, .., a + n - 1, after k numbers, at the number x.
 module _ (p : ℕ → Bool) (a n k x : ℕ) (at : x ≡ a + k) (more : k < n) (inv : Every p (range a n) k) where
   here : getD (range a n) k 0 ≡ x
   here = getD-range a n 0 k more ∙ sym at
@@ -100,7 +100,7 @@ module _ (p : ℕ → Bool) where
   unfolding keep
   keep-false x l e = rw (e, keep)
 
-  -- m were met, k elements in
+  -- After k elements, m were met.
   abbrev pub Met : List ℕ → ℕ → ℕ → Type 0
   Met l k m = m + length (keep p (drop k l)) ≡ length (keep p l)
 

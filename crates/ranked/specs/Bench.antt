@@ -1,5 +1,5 @@
--- The lent workspace, document 01's bench, once a sheet has passed preflight: a solid lies in it, and there is the room that refusal 7 asks for. Everything
--- above preflight asks this and nothing else of words and floats.
+-- The lent workspace is document 01's bench once a sheet has passed preflight: a solid lies in it, and there is the room that refusal 7 asks for.
+-- Everything above preflight asks this and nothing else of words and floats.
 -- Assumes nothing.
 use mathlib.Core.Path.{_≡_}
 use Prim.Native.Nat.{ℕ, _+_, _*_, _≤_}
@@ -36,6 +36,6 @@ pub record Bench (sh : Shape) (ws : List ℕ) (fs : List Float) : Type 0 where
   pub words : 16 * (elements (absIn sh (listsOf sh ws)) + entries (absIn sh (listsOf sh ws)) + 4) ≤ length ws
   pub floats : 8 * (elements (absIn sh (listsOf sh ws)) + 8) ≤ length fs
 
--- The words' part of a bench, which is a bench together with any floats that are enough.
+-- This is the words' part of a bench, which is a bench together with any floats that are enough.
 abbrev pub Laid : Shape → List ℕ → Type 0
 Laid sh ws = (fs : List Float) → 8 * (elements (absIn sh (listsOf sh ws)) + 8) ≤ length fs → Bench sh ws fs

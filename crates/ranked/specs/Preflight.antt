@@ -1,4 +1,4 @@
--- Refusals 1 to 7 of a sheet as one answer, and where the solid of a sheet that passes lies.
+-- This file has refusals 1 to 7 of a sheet as one answer, and says where the solid of a sheet that passes lies.
 -- Assumes nothing.
 use mathlib.Core.Path.{_≡_}
 use Prim.Native.Nat.{ℕ, _+_}
@@ -20,7 +20,7 @@ use Rattle.ranked.specs.declared.preflight.Ready.{Ready}
 use Rattle.ranked.specs.Store.{shapeOf, Kept}
 use Rattle.ranked.specs.Bench.{solidIn, Bench}
 
--- The verdict by itself.
+-- Gives the verdict by itself.
 unfoldable pub verdictOf : Judged Concrete → Verdict
 verdictOf (refused why) = Refused why
 verdictOf (passed c) = Accepted
@@ -29,7 +29,7 @@ verdictOf (passed c) = Accepted
 abbrev pub unreadyOf : Refusal → Ready
 unreadyOf why = record { verdict = Refused why; shape = record { rank = 0; dimension = 0; first = replicate (maxRank + 2) 0; low = 0 } }
 
--- The whole answer, which for a solid that passes gives its shape.
+-- Gives the whole answer, which for a solid that passes has its shape and how many words it takes.
 unfoldable pub readyOf : Judged Concrete → Ready
 readyOf (refused why) = unreadyOf why
 readyOf (passed c) = record { verdict = Accepted; shape = shapeOf c }
@@ -49,8 +49,8 @@ pub record Settled (p : Parsed) (r : Ready) (ws : List ℕ) (fs : List Float) : 
   pub verdict : r .verdict ≡ checksOf (solidOf p)
   pub kept : checksOf (solidOf p) ≡ Accepted → Kept p (r .shape) ws fs
 
--- What preflight gives for the sheet b in n words and m floats: the answer, and the solid's place where it passes. Everything else that the words and floats
--- hold is free, and they keep their lengths.
+-- For the sheet b in n words and m floats, preflight gives the answer, and the solid's place where it passes. Everything else that the words and
+-- floats hold is free, and they keep their lengths.
 pub record Preflighted (b : List ℕ) (n m : ℕ) (r : Ready) (ws : List ℕ) (fs : List Float) : Type 0 where
   pub answer : r ≡ readyOf (preflight b n m)
   pub verdict : r .verdict ≡ verdictOf (preflight b n m)

@@ -1,4 +1,4 @@
--- How lists in the words are read: what a reader needs of them, and what the tests of refusals 5 and 6 are in terms of the words.
+-- This file says how lists in the words are read: what a reader needs of them, and what the tests of refusals 5 and 6 are in terms of the words.
 -- Assumes nothing.
 use mathlib.Core.Path.{_≡_}
 use mathlib.Core.Bool.{Bool}
@@ -15,7 +15,7 @@ pub record Lies (w : List ℕ) (i : ℕ) : Type 0 where
   pub head : i + 1 < length w
   pub inside : Inside w i
 
--- The word that says where element e's subs are, and then the one for its sups, in a rank that starts at `first`.
+-- These are the word that says where element e's subs are, and then the one for its sups, in a rank that starts at `first`.
 abbrev pub subsWord : ℕ → ℕ → ℕ
 subsWord first e = 4 * (first + e)
 
@@ -24,7 +24,7 @@ supsWord first e = 4 * (first + e) + 2
 
 -- ---- refusal 5
 
--- Whether each of the n elements of a rank that starts at `first` has a sup.
+-- Tells whether each of the n elements of a rank that starts at `first` has a sup.
 unfoldable pub boundIn : List ℕ → ℕ → ℕ → Bool
 boundIn w first n = every (λ e. ltb 0 (length (listAt w (supsWord first e)))) (range 0 n)
 
@@ -34,12 +34,12 @@ boundIn w first n = every (λ e. ltb 0 (length (listAt w (supsWord first e)))) (
 abbrev pub Each : List ℕ → ℕ → ℕ → Type 0
 Each w i base = (y : ℕ) → In y (listAt w i) → Lies w (base + 4 * y)
 
--- The entries y of the list at word i whose list at word base + 4 * y holds x.
+-- Lists the entries y of the list at word i whose list at word base + 4 * y holds x.
 unfoldable pub holding : List ℕ → ℕ → ℕ → ℕ → List ℕ
 holding w i base x = keep (λ y. holds eqb x (listAt w (base + 4 * y))) (listAt w i)
 
--- An element g whose subs are at word i, and an element h two ranks below whose sups are at word j. The subs of the rank between start at word base, and its
--- sups two words further on. Going down from g and going up from h, the same elements of that rank are met.
+-- The subs of an element g are at word i, and the sups of an element h two ranks below are at word j. The subs of the rank between start at word
+-- base, and its sups two words further on. Going down from g and going up from h, the same elements of that rank are met.
 pub record Fork (w : List ℕ) (i j base g h : ℕ) : Type 0 where
   pub up : Lies w i
   pub down : Lies w j
@@ -48,16 +48,16 @@ pub record Fork (w : List ℕ) (i j base g h : ℕ) : Type 0 where
   pub fits : base + 2 ≤ length w
   pub same : holding w i base h ≡ holding w j (base + 2) g
 
--- Whether there are exactly two elements between the element whose subs are at word i and each entry of the list at word j.
+-- Tells whether there are exactly two elements between the element whose subs are at word i and each entry of the list at word j.
 unfoldable pub twoUnder : List ℕ → ℕ → ℕ → ℕ → Bool
 twoUnder w i j base = every (λ h. eqb (length (holding w i base h)) 2) (listAt w j)
 
--- Whether there are exactly two elements between g and every sub of its subs, where the rank of the subs starts at `at` and the rank of g, one above, at
--- `above`.
+-- Tells whether there are exactly two elements between g and every sub of its subs, where the rank of the subs starts at `at` and the rank of g, one
+-- above, at `above`.
 unfoldable pub twoAt : List ℕ → ℕ → ℕ → ℕ → Bool
 twoAt w at above g = every (λ f. twoUnder w (subsWord above g) (subsWord at f) (4 * at)) (listAt w (subsWord above g))
 
--- What a look at g needs of three ranks that follow each other and start at `below`, `at` and `above`.
+-- A look at g needs this of three ranks that follow each other and start at `below`, `at` and `above`.
 pub record Tier (w : List ℕ) (below at above g : ℕ) : Type 0 where
   pub up : Lies w (subsWord above g)
   pub fits : 4 * at + 2 ≤ length w
@@ -65,10 +65,10 @@ pub record Tier (w : List ℕ) (below at above g : ℕ) : Type 0 where
   pub forks : (f h : ℕ) → In f (listAt w (subsWord above g)) → In h (listAt w (subsWord at f))
       → Fork w (subsWord above g) (supsWord below h) (4 * at) g h
 
--- Whether this holds for each of the n elements of the rank above.
+-- Tells whether this holds for each of the n elements of the rank above.
 unfoldable pub twoRank : List ℕ → ℕ → ℕ → ℕ → Bool
 twoRank w at above n = every (twoAt w at above) (range 0 n)
 
--- Whether it holds for each rank from k + 1 to R - 1, taken with the rank above it.
+-- Tells whether it holds for each rank from k + 1 to R - 1, taken with the rank above it.
 unfoldable pub twoFrom : Shape → List ℕ → ℕ → Bool
 twoFrom sh w k = every (λ r. twoRank w (firstAt sh r) (firstAt sh (suc r)) (sizeAt sh (suc r))) (range (suc k) (sh .rank - 1 - k))

@@ -1,4 +1,4 @@
--- Storing a sheet: what its bits say, field by field, and how the subs of a solid come to stand in the words.
+-- This file is about storing a sheet: what its bits say, field by field, and how the subs of a solid come to stand in the words.
 -- Assumes nothing.
 use mathlib.Core.Path.{_≡_}
 use Prim.Native.Nat.{ℕ, zero, suc, _+_, _-_, _*_, _≤_, _<_}
@@ -20,25 +20,25 @@ use Rattle.ranked.specs.Derive.{running, Stored}
 
 -- ---- fields
 
--- The n numbers of w bits each that stand from bit i on.
+-- Lists the n numbers of w bits each that stand from bit i on.
 unfoldable pub fieldsAt : List ℕ → ℕ → ℕ → ℕ → List ℕ
 fieldsAt b i w zero = []
 fieldsAt b i w (suc n) = field b i w ∷ fieldsAt b (i + w) w n
 
--- The n coordinates that stand from bit i on, "64 bits each (binary64)".
+-- Lists the n coordinates that stand from bit i on, "64 bits each (binary64)".
 unfoldable pub floatsAt : List ℕ → ℕ → ℕ → List Float
 floatsAt b i n = map (ofBits binary64) (fieldsAt b i 64 n)
 
 -- ---- the lists of a sheet
 
--- The list that stands at bit i, and then the bit after the list: "each element's list: length, 12 bits; subs, 11 each".
+-- These are the list that stands at bit i, and then the bit after the list: "each element's list: length, 12 bits; subs, 11 each".
 unfoldable pub rawList : List ℕ → ℕ → List ℕ
 rawList b i = fieldsAt b (i + 12) 11 (field b i 12)
 
 unfoldable pub bitPast : List ℕ → ℕ → ℕ
 bitPast b i = i + 12 + 11 * field b i 12
 
--- The bit after the n lists that stand from bit i on, and then those lists.
+-- These are the bit after the n lists that stand from bit i on, and then those lists.
 unfoldable pub bitAfter : List ℕ → ℕ → ℕ → ℕ
 bitAfter b i zero = i
 bitAfter b i (suc n) = bitPast b (bitAfter b i n)
@@ -47,8 +47,8 @@ unfoldable pub rawLists : List ℕ → ℕ → ℕ → List (List ℕ)
 rawLists b i zero = []
 rawLists b i (suc n) = rawLists b i n ++ (rawList b (bitAfter b i n) ∷ [])
 
--- The bit after the lists of n ranks that stand from bit i on, one rank after another, and then those lists. The function c says how many elements each rank
--- has.
+-- These are the bit after the lists of n ranks that stand from bit i on, one rank after another, and then those lists. The function c says how many
+-- elements each rank has.
 unfoldable pub bitRanks : List ℕ → ℕ → (ℕ → ℕ) → ℕ → ℕ
 bitRanks b i c zero = i
 bitRanks b i c (suc n) = bitAfter b (bitRanks b i c n) (c n)
@@ -71,7 +71,7 @@ pub record Adds (g end : ℕ) (ls : List (List ℕ)) (ws ws′ : List ℕ) : Typ
 
 -- ---- the subs of a solid
 
--- A shape as section 2 allows it.
+-- The shape is as section 2 allows it.
 pub record Shaped (sh : Shape) : Type 0 where
   pub tall : sh .rank ≤ maxRank
   pub start : firstAt sh 0 ≡ 0
@@ -80,23 +80,23 @@ pub record Shaped (sh : Shape) : Type 0 where
   -- There are at most the least element, the top and four proper ranks.
   pub small : total sh ≤ 4 * maxCount + 2
 
--- How many elements the ranks 2, 3, .. have.
+-- Counts the elements of the ranks 2, 3, .. that have lists.
 abbrev pub listSizes : Shape → ℕ → ℕ
 listSizes sh k = sizeAt sh (suc (suc k))
 
--- The lists that stand from bit i on, and "the top has all of rank R−1", where R is two or more.
+-- Gives the lists that stand from bit i on, and "the top has all of rank R−1", where R is two or more.
 unfoldable pub upperLists : List ℕ → ℕ → Shape → ℕ → List (List ℕ)
 upperLists b i sh zero = []
 upperLists b i sh (suc k) = rawRanks b i (listSizes sh) k ++ (range 0 (sizeAt sh (suc k)) ∷ [])
 
--- The subs of all elements: none for the least, "A vertex has the least element as sub", and those above. Where R = 0 the least element is the top, and where
--- R = 1 the vertex is.
+-- Gives the subs of all elements: none for the least, "A vertex has the least element as sub", and those above. Where R = 0 the least element is the
+-- top, and where R = 1 the vertex is.
 unfoldable pub subLists : List ℕ → ℕ → Shape → List (List ℕ)
 subLists b i sh = elim (sh .rank) [ zero ↦ [] ∷ [] | suc q ↦ [] ∷ (replicate (sizeAt sh 1) (0 ∷ []) ++ upperLists b i sh q) ]
 
 -- ---- the shape
 
--- How many elements rank r has: one in ranks 0 and R, and in the proper ranks as many as the sheet counts.
+-- Counts the elements of rank r: one in ranks 0 and R, and in the proper ranks as many as the sheet counts.
 unfoldable pub sizeIn : ℕ → List ℕ → ℕ → ℕ
 sizeIn R counts zero = 1
 sizeIn R counts (suc k) = elim (ltb (suc k) R) [ true ↦ getD counts k 0 | false ↦ 1 ]
@@ -106,7 +106,7 @@ unfoldable pub verticesIn : ℕ → List ℕ → ℕ
 verticesIn zero counts = 0
 verticesIn (suc q) counts = sizeIn (suc q) counts 1
 
--- The bit at which the coordinates start: "R, 3 bits; dimension D, 3; for each proper rank its count, 12".
+-- Gives the bit at which the coordinates start: "R, 3 bits; dimension D, 3; for each proper rank its count, 12".
 abbrev pub pointsBit : ℕ → ℕ
 pointsBit R = 6 + 12 * (R - 1)
 
@@ -118,19 +118,19 @@ pub record Counted (R D : ℕ) (counts : List ℕ) (sh : Shape) : Type 0 where
   pub firsts : (r : ℕ) → r ≤ suc R → firstAt sh r ≡ running 0 (sizeIn R counts) r
   pub rest : (r : ℕ) → suc R < r → firstAt sh r ≡ 0
 
--- How many elements of s lie in the ranks below r, up to the rank above the top. The starts after that one are 0.
+-- Counts the elements of s in the ranks below r, up to the rank above the top. The starts after that one are 0.
 unfoldable pub startIn : Solid → ℕ → ℕ
 startIn s r = elim (leb r (suc (top s))) [ true ↦ running 0 (λ q. size s q) r | false ↦ 0 ]
 
--- How many subs all elements have together, where the sheet's lists have I entries: each vertex has one, and the top has the rank below it.
+-- Counts the subs that all elements have together, where the sheet's lists have I entries: each vertex has one, and the top has the rank below it.
 unfoldable pub subEntries : Shape → ℕ → ℕ
 subEntries sh I = elim (sh .rank) [ zero ↦ 0 | suc q ↦ elim q [ zero ↦ 1 | suc z ↦ sizeAt sh 1 + I + sizeAt sh (suc z) ] ]
 
--- How many words the solid takes: four for each element, and one for each entry of its subs and of its sups, of which there are as many.
+-- Counts the words that the solid takes: four for each element, and one for each entry of its subs and of its sups, of which there are as many.
 unfoldable pub lowOf : Shape → ℕ → ℕ
 lowOf sh I = 4 * total sh + 2 * subEntries sh I
 
--- The word where the sups' entries start, which is after the starts and lengths, and after the subs' entries.
+-- Gives the word where the sups' entries start, which is after the starts and lengths, and after the subs' entries.
 unfoldable pub baseOf : Shape → ℕ → ℕ
 baseOf sh I = 4 * total sh + subEntries sh I
 
@@ -138,7 +138,7 @@ baseOf sh I = 4 * total sh + subEntries sh I
 unfoldable pub sized : Shape → ℕ → Shape
 sized sh I = record { rank = sh .rank; dimension = sh .dimension; first = sh .first; low = lowOf sh I }
 
--- The shape of a solid.
+-- Gives the shape of a solid.
 unfoldable pub shapeOf : Concrete → Shape
 shapeOf c =
     let first = map (startIn (c .abs)) (range 0 (maxRank + 2)) in
@@ -146,11 +146,11 @@ shapeOf c =
 
 -- ---- a whole sheet
 
--- What a sheet says, if it was read, and otherwise the record of an empty one.
+-- Gives what a sheet says, if it was read, and otherwise the record of an empty one.
 unfoldable pub parsedOf : List ℕ → Parsed
 parsedOf b = elim (readSheet b) [ refused why ↦ record { rank = 0; dimension = 0; counts = []; points = []; lists = [] } | passed p ↦ p ]
 
--- The solid that a sheet says.
+-- Gives the solid that a sheet says.
 abbrev pub said : Parsed → Concrete
 said p = record { dimension = p .dimension; points = p .points; abs = solidOf p }
 

@@ -1,5 +1,5 @@
--- Section 2's solid as it stands in lent words: how the words are read, stated once, over their frozen low part w. "`Vec<Vec<_>>` and index newtypes: lists
--- at offsets in lent words."
+-- Section 2's solid stands in lent words. How the words are read is stated once, over their frozen low part w: "`Vec<Vec<_>>` and index newtypes:
+-- lists at offsets in lent words."
 -- Assumes nothing.
 use mathlib.Core.Path.{_≡_}
 use Prim.Native.Nat.{ℕ, suc, _+_, _-_, _*_, _≤_, _<_}
@@ -11,7 +11,7 @@ use Rattle.spec.specs.Types.{Solid, size, subs, sups}
 use Rattle.spec.specs.Demand.{Sound}
 use Rattle.ranked.specs.declared.Shape.{Shape}
 
--- How many elements lie below rank r; then how many rank r has; and then how many there are in all.
+-- These count the elements below rank r, those of rank r, and all elements.
 abbrev pub firstAt : Shape → ℕ → ℕ
 firstAt sh r = getD (sh .first) r 0
 
@@ -25,18 +25,18 @@ total sh = firstAt sh (suc (sh .rank))
 abbrev pub listsOf : Shape → List ℕ → List ℕ
 listsOf sh ws = take (sh .low) ws
 
--- The list whose start stands at word i and whose length stands at the word after.
+-- Gives the list whose start stands at word i and whose length stands at the word after.
 unfoldable pub listAt : List ℕ → ℕ → List ℕ
 listAt w i = take (getD w (suc i) 0) (drop (getD w i 0) w)
 
--- The subs of an element, and then its sups.
+-- These are the subs of an element, and then its sups.
 unfoldable pub subsIn : Shape → List ℕ → ℕ → ℕ → List ℕ
 subsIn sh w r e = listAt w (4 * (firstAt sh r + e))
 
 unfoldable pub supsIn : Shape → List ℕ → ℕ → ℕ → List ℕ
 supsIn sh w r e = listAt w (4 * (firstAt sh r + e) + 2)
 
--- The solid that the words hold.
+-- Gives the solid that the words hold.
 unfoldable pub absIn : Shape → List ℕ → Solid
 absIn sh w = map (λ r. map (subsIn sh w r) (range 0 (sizeAt sh r))) (range 0 (suc (sh .rank)))
 
@@ -60,5 +60,5 @@ pub record Held (sh : Shape) (w : List ℕ) : Type 0 where
   pub sound : Sound (absIn sh w)
   -- Every element but the least has a sub.
   pub filled : (r e : ℕ) → e < size (absIn sh w) (suc r) → 0 < length (subs (absIn sh w) (suc r) e)
-  -- "Sups are derived, rising".
+  -- "Sups are derived, rising."
   pub derived : (r e : ℕ) → r ≤ sh .rank → e < sizeAt sh r → supsIn sh w r e ≡ sups (absIn sh w) r e

@@ -1,4 +1,4 @@
--- The workspace from one step of the search to the next.
+-- The workspace goes from one step of the search to the next.
 -- Assumes nothing.
 use mathlib.Core.Path.{_≡_, refl, sym, ap, subst, _∙_}
 use Prim.Native.Nat.{ℕ, suc, _+_, _-_, _≤_, _<_}
@@ -30,7 +30,7 @@ use Rattle.search.proofs.Tested.{facets-are, solid-kept}
 
 -- ---- the exchange
 
--- back again
+-- Exchanging the facets back gives the solid that was read.
 pub exchanged-back : (sh : Shape) (low : ℕ) (ws : List ℕ) (fs : List Float) (f : ℕ) → 2 ≤ sh .rank → f < sizeAt sh (sh .rank - 1)
     → exchanged (exchanged (solidAt sh low ws fs) f) f ≡ solidAt sh low ws fs
 unfolding exchanged
@@ -88,7 +88,7 @@ module _ {sh : Shape} {low : ℕ} {ws : List ℕ} {fs : List Float} (b : Bench s
   pub classed-bench : Bench sh low ws gs
   classed-bench = bench-kept b refl refl (c .long)
 
-  -- What the marks need, once the prints of the same solid are written and its sets compared.
+  -- The marks have what they need, once the prints of the same solid are written and its sets compared.
   pub markable : (vs : List ℕ) → take low vs ≡ take low ws → (apart : Bool)
       → apart ≡ setsApart (absIn sh (take low vs)) → (m : ℕ) → 8194 ≤ m → Markable sh (take low vs) gs apart m
   markable vs e apart q m h = record {
@@ -101,6 +101,6 @@ module _ {sh : Shape} {low : ℕ} {ws : List ℕ} {fs : List Float} (b : Bench s
   pub classed-solid : (vs : List ℕ) → take low vs ≡ take low ws → solidAt sh low vs gs ≡ solidAt sh low ws fs
   classed-solid vs e = solid-kept sh low ws vs fs gs e (c .same)
 
--- Where the prints stand, as the program counts.
+-- The prints stand behind the types, as the program counts.
 pub after-types : (sh : Shape) (low : ℕ) → low + firstAt sh (sh .rank + 1) ≡ low + total sh
 after-types sh low = ap (λ (k : ℕ). low + firstAt sh k) (add-one (sh .rank))

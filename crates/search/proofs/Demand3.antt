@@ -1,4 +1,4 @@
--- Demand 3, from the theorem about the calls' definitions.
+-- Demand 3 follows from the theorem about the calls' definitions.
 -- Assumes nothing.
 use mathlib.Core.Path.{_≡_, sym, subst}
 use mathlib.Core.Bool.{Bool, true, false}
@@ -28,7 +28,7 @@ module _ (b : List ℕ) (c : Concrete) (S z : State) where
   either d false words floats old new r p = answered searchCall (d .searches) words floats old (r, new) p
   either d true words floats old new r p = answered rotationsCall (d .rotations) words floats old (r, new) p
 
--- Both promises of a call, from its equation.
+-- Both promises of a call follow from its equation.
 pub told : (rot : Bool) (b : List ℕ) (words floats : ℕ) (old new : SearchOut) (r : Answer) → (r, new) ≡ callOf rot b words floats old
     → ((r, new) ≡ callOf rot b words floats old) × Demand3Told b (answerCount r) (new .rows) (new .marks)
 told rot b words floats old new r e = (

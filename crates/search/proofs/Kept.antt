@@ -1,4 +1,4 @@
--- The members that are listed, and their marks: from what the flags' loop leaves to the call's outputs.
+-- The members that are listed, and their marks, go from what the flags' loop leaves to the call's outputs.
 -- Assumes nothing.
 use mathlib.Core.Path.{_≡_, refl, sym, ap, _∙_}
 use Prim.Native.Nat.{ℕ, _+_, _-_, _*_, _≤_, _<_}
@@ -33,7 +33,7 @@ use Rattle.search.proofs.Tested.{solid-kept}
 use Rattle.search.proofs.Benched.{state-kept, lists-kept}
 use Rattle.search.proofs.Steps.{end-none, marks-in, end-some}
 
--- ws before the prints are written, and vs after
+-- The words are ws before the prints are written, and vs after.
 module _ {sh : Shape} {low : ℕ} {ws : List ℕ} {fs : List Float} (b : Bench sh low ws fs) (f : ℕ) (asked : (2 ≤ sh .rank) × (f < sizeAt sh (sh .rank - 1))) (k : Countable sh low ws)
     (at : ℕ) (a : at ≡ low + total sh) (vs : List ℕ) (long : length vs ≡ length ws) (e : take at vs ≡ take at ws) (p : Printed sh (take low ws) at vs) where
   abbrev solid : Concrete
@@ -58,7 +58,7 @@ module _ {sh : Shape} {low : ℕ} {ws : List ℕ} {fs : List Float} (b : Bench s
         → (x, outOf ms rs (old .marks)) ≡ ends rot (exchanged solid f) (passed (settingOf (exchanged solid f) solid (stateIn sh low ws) i)) old
     none-listed n = end-none solid f (stateIn sh low ws) i rot old r ms rs listed x q n
 
-    -- us with the facets in their places again
+    -- The words us have the facets in their places again.
     module _ (us : List ℕ) (s : absIn sh (take low us) ≡ exchangedIn (absIn sh (take low vs)) f) where
       pub marks-bench : Laid sh low us → Bench sh low us fs
       marks-bench u = bench-exchanged searched-bench f asked us s u

@@ -1,4 +1,4 @@
--- The marks of the rows that a search wrote, one after another.
+-- The marks of the rows that a search wrote are written one after another.
 -- Assumes nothing.
 use mathlib.Core.Path.{_≡_, refl, sym, ap, ap₂, _∙_, subst}
 use mathlib.Core.Logic.{inl, inr}
@@ -24,7 +24,7 @@ use Rattle.symmetry.specs.Tails.{wantedOf}
 use Rattle.symmetry.specs.Listing.{given, rowCells, keptIn}
 use Rattle.products.specs.Marking.{markIn}
 
--- rows of v cells each, one after another, are cut where they were joined
+-- Rows of v cells each, one after another, are cut where they were joined.
 parts-join : {A : Type 0} (d : ℕ) (ls : List (List A)) (rest : List A) → ((x : List A) → In x ls → length x ≡ d) → parts (length ls) d (join ls ++ rest) ≡ ls
 unfolding parts join
 parts-join d [] rest h = refl
@@ -109,7 +109,7 @@ module _ (w : Setting) (rot : Bool) (m : Room) (Fs : List Flag) where
       let q : length (fitting m d v 0 l) + 0 ≡ length (fitting m d v 0 l) = omega arith in
       rw q at (fitting-room m d v 0 l (none-held m d v))
 
-  -- And their marks are those of the rows that are written.
+  -- Their marks are those of the rows that are written.
   pub kept-marks : (c : Concrete) (old : List ℕ) → ((row : List ℕ) → markIn c row ≡ markOf w row)
       → map (markIn c) (parts (length kept) v (written (rowCells kept) old)) ≡ map (λ x. x .mark) kept
   kept-marks c old e = marks-are w c v kept old e (λ x i.

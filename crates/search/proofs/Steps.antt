@@ -1,4 +1,4 @@
--- The search's judgements, as the program comes to them.
+-- The search's judgements are taken as the program comes to them.
 -- Assumes nothing.
 use mathlib.Core.Path.{_≡_, refl, sym, ap, subst, _∙_}
 use Prim.Native.Nat.{ℕ, _-_, _≤_, _<_}
@@ -233,7 +233,7 @@ module _ (d : Concrete) (f : ℕ) (z : State) (i : Matrix) (rot : Bool) (old : S
     unfolding settingOf exchanged outsOf
     ended ks q = rw (e, l .count, l .matrices, l .rows, q) (sym (ends-listed set rot as-read old (r .short) refl refl (l .short)))
 
-    -- None is listed.
+    -- No member is listed.
     pub end-none : r .count ≡ 0 → (a, outOf ms rs (old .marks)) ≡ ends rot as-read (passed set) old
     unfolding written
     end-none n = ended (old .marks) (none kept (sym (l .count) ∙ n))
@@ -247,7 +247,7 @@ module _ (d : Concrete) (f : ℕ) (z : State) (i : Matrix) (rot : Bool) (old : S
     unfolding settingOf
     marks-in = rw (l .count) (kept-room set rot (roomOf old) (flags (d .abs)))
 
-    -- The marks of the rows that are written.
+    -- The marks are those of the rows that are written.
     pub end-some : (ks : List ℕ) → ks ≡ written (map (markIn as-read) (parts (r .count) (length (d .points)) rs)) (old .marks) → (a, outOf ms rs ks) ≡ ends rot as-read (passed set) old
     unfolding settingOf markOf markIn
     end-some ks q = ended ks (q ∙ ap (λ (m : List ℕ). written m (old .marks)) (rw (l .count, l .rows) (kept-marks set rot (roomOf old) (flags (d .abs)) as-read (old .rows) (λ row. refl))))
@@ -264,7 +264,7 @@ unfolding verdictOf
 verdict-accepted (refused other) e = absurd (let z : _≡_ {A = ℕ} 0 1 = cc in omega arith)
 verdict-accepted (passed c) e = (c, refl)
 
--- either call goes by preflight
+-- Either call goes by preflight.
 call-after : (rot : Bool) (b : List ℕ) (n m : ℕ) (old : SearchOut) → callOf rot b n m old ≡ after rot (preflight b n m) old
 call-after false b n m old = search-after b n m old
 call-after true b n m old = rotations-after b n m old

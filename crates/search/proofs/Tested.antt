@@ -1,4 +1,4 @@
--- The tests of 8, 10 and 11, beside the definitions.
+-- The tests of 8, 10 and 11 stand beside the definitions.
 -- Assumes nothing.
 use mathlib.Core.Path.{_≡_, sym, ap, _∙_}
 use mathlib.Core.Logic.{inl, inr}
@@ -39,12 +39,12 @@ pub solid-kept : (sh : Shape) (low : ℕ) (ws vs : List ℕ) (fs gs : List Float
     → take (coordinates sh (take low ws)) gs ≡ take (coordinates sh (take low ws)) fs → solidAt sh low vs gs ≡ solidAt sh low ws fs
 solid-kept sh low ws vs fs gs e p = rw (e, p)
 
--- 8
+-- The test behind refusal 8 reads rank and dimension from the shape.
 pub full-is : (sh : Shape) (low : ℕ) (ws : List ℕ) (fs : List Float) → full (solidAt sh low ws fs) ≡ leb 2 (sh .rank) && eqb (sh .dimension) (sh .rank - 1)
 unfolding full
 full-is sh low ws fs = rw (top-is sh (take low ws))
 
--- The facets.
+-- The facets are as many as the shape says.
 pub facets-are : (sh : Shape) (w : List ℕ) → 2 ≤ sh .rank → size (absIn sh w) (top (absIn sh w) - 1) ≡ sizeAt sh (sh .rank - 1)
 facets-are sh w h = rw (top-is sh w) (size-is sh w (sh .rank - 1) (omega arith))
 
@@ -62,7 +62,7 @@ module _ (c : Concrete) where
   unfolding firstFar
   far-past f fs e = rw (e, firstFar)
 
-  -- k facets in, those left give what all give
+  -- After k facets, those left give what all give.
   abbrev pub Left : ℕ → ℕ → Type 0
   Left n k = firstFar c (drop k (range 0 n)) ≡ firstFar c (range 0 n)
 
@@ -97,7 +97,7 @@ module _ (c : Concrete) where
   pub far-low : (n f : ℕ) → firstFar c (range 0 n) ≡ some f → f < n
   far-low n f e = omega (arith, of-range 0 n f (far-in (range 0 n) f e) .1)
 
--- The test, as the program makes it.
+-- The test is as the program makes it.
 pub test-is : (sh : Shape) (w : List ℕ) (fl : List Float) (f : ℕ) (x : Float) (b : Bool)
     → x ≡ distanceOf (solidOn sh w fl (sh .dimension)) (sh .rank - 1) f → lt eps x ≡ b → lt eps (distanceOf (solidOn sh w fl (sh .dimension)) (top (absIn sh w) - 1) f) ≡ b
 test-is sh w fl f x b e t = rw (top-is sh w, ← e) t

@@ -1,5 +1,5 @@
--- The whole of demand 3, as a search or rotations call promises it: of a sheet whose types the types call gives out, for any list of steps at proper
--- ranks and for whatever buffers were lent to either call. The claims about types are spec's theorem of the calls (Demand3Calls); the rows are those
+-- A search or rotations call promises the whole of demand 3, of a sheet whose types the types call gives out, for any list of steps at proper ranks
+-- and for whatever buffers were lent to either call. The claims about types are spec's theorem of the calls (Demand3Calls), and the rows are those
 -- that the call wrote.
 -- Assumes nothing.
 use mathlib.Core.Path.{_≡_}
@@ -13,8 +13,8 @@ use Rattle.spec.specs.Classes.{classTable, byTable}
 use Rattle.spec.specs.Calls.{TypesOut, typesCall}
 use Rattle.spec.specs.Demand3Calls.{rowAt, KeepsType, Demand3Call}
 
--- Demand 3 of a types call that gives out the n types of the sheet b, and of a search or rotations call that answers a count of m members, with its
--- rows and marks.
+-- Demand 3 holds of a types call that gives out the n types of the sheet b, and of a search or rotations call that answers a count of m members, with
+-- its rows and marks.
 pub record Demand3Rows (b : List ℕ) (words floats : ℕ) (old : TypesOut) (n m : ℕ) (rows marks : List ℕ) : Type 0 where
   -- What any list of steps parts, the result parts too. Where no step would part more, the numbers after the list are those of the result.
   pub types : Demand3Call b words floats old n
@@ -23,6 +23,6 @@ pub record Demand3Rows (b : List ℕ) (words floats : ℕ) (old : TypesOut) (n m
       → KeepsType (types .solid .abs) (play (types .solid .abs) (start (types .solid .abs) (byTable (classTable (types .solid)))) xs) (types .result)
       (rowAt (length (types .solid .points)) k rows) q e
 
--- The same, whatever was lent to the types call.
+-- The same holds, whatever was lent to the types call.
 abbrev pub Demand3Told : List ℕ → ℕ → List ℕ → List ℕ → Type 0
 Demand3Told b m rows marks = (words floats : ℕ) (old : TypesOut) (n : ℕ) → typesCall b words floats old .0 ≡ Done n → Demand3Rows b words floats old n m rows marks

@@ -1,4 +1,4 @@
--- The start of each rank in the words, one rank after another.
+-- The start of each rank stands in the words, one rank after another.
 -- Assumes nothing.
 use mathlib.Core.Path.{_≡_, refl, sym, _∙_, ap, ap₂}
 use mathlib.Core.Logic.{_≢_, _⊎_, inl, inr}
@@ -33,13 +33,13 @@ use Rattle.settling.specs.Start.{cellAt, Shares, Fitting, ByClass, Start
 -- ---- a rank's types
 
 module _ (sh : Shape) (low : ℕ) where
-  -- Those of a rank with one element.
+  -- A rank with one element has the one type that is written.
   type-one : (v : List ℕ) (q x : ℕ) → sizeAt sh q ≡ 1 → low + firstAt sh q < length v → getD v (low + firstAt sh q) 0 ≡ x → typesIn sh low v q ≡ x ∷ []
   unfolding typesIn
   type-one v q x one h e =
       ap (λ (n : ℕ). take n (drop (low + firstAt sh q) v)) one ∙ ap (take 1) (drop-cons v (low + firstAt sh q) 0 h) ∙ ap (λ (y : ℕ). y ∷ []) e
 
-  -- Those of a rank where no word changed.
+  -- A rank where no word changed keeps its types.
   types-kept : (w v : List ℕ) → length v ≡ length w → (q : ℕ) → ((i : ℕ) → low + firstAt sh q ≤ i → i < low + firstAt sh q + sizeAt sh q → getD v i 0 ≡ getD w i 0)
       → typesIn sh low v q ≡ typesIn sh low w q
   unfolding typesIn
@@ -173,7 +173,7 @@ module _ (sh : Shape) (low : ℕ) (w : List ℕ) (cells : List Float) (a : Start
     n-is : n ≡ sizeAt sh r
     n-is = ap (λ (j : ℕ). firstAt sh j - firstAt sh r) (add-one r)
 
-    -- The rank's offsets.
+    -- The rank's offsets are in order and lie within the shape.
     pub offsets : (firstAt sh 1 ≤ firstAt sh r) × (firstAt sh r < firstAt sh (r + 1)) × (firstAt sh (r + 1) ≤ firstAt sh (sh .rank)) × (low + firstAt sh (r + 1) ≤ length w) × (r + 1 < 7)
     offsets =
         let b = rank-in r (omega arith) in

@@ -1,4 +1,4 @@
--- What preflight leaves is room for the start and the sweeps; and the three parts together.
+-- What preflight leaves is room for the start and the sweeps, and the three parts go together.
 -- Assumes nothing.
 use mathlib.Core.Path.{_≡_, refl, sym, _∙_, ap}
 use mathlib.Core.List.{List}
@@ -50,7 +50,7 @@ module _ (sh : Shape) (w : List ℕ) (h : Held sh w) where
       let a = mul-le-mul-left (sizeAt sh 1) (h .wide) in
       omega (arith, h .few 1 (omega arith), proper-is sh w h, elements-few sh w h)
 
--- The floats from the classes on.
+-- The floats from the classes on reach to the end of the floats.
 pub rest-is : (gs : List Float) (cell k : ℕ) → cell ≡ k → take (length gs - cell) (drop cell gs) ≡ drop k gs
 rest-is gs cell k e = take-all (length gs - cell) (drop cell gs) (omega (arith, length-drop cell gs)) ∙ ap (λ (i : ℕ). drop i gs) e
 
@@ -118,7 +118,7 @@ module _ (sh : Shape) (low : ℕ) (w : List ℕ) (fs : List Float) (b : Bench sh
         };
       }
 
--- The sweeps, from the start.
+-- The sweeps go on from the start, and give the types.
 pub typed : (sh : Shape) (low : ℕ) (w v u : List ℕ) (fs gs : List Float) (ending : Ending) → AtStart sh low w v fs gs → length u ≡ length v → Settles sh low v u ending
     → Typed sh low w u fs gs ending
 unfolding typesOf

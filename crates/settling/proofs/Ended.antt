@@ -1,4 +1,4 @@
--- Sweeps one after another until the number of types stays: what is left gives what the whole gives.
+-- Sweeps follow one another until the number of types stays, and what is left gives what the whole gives.
 -- Assumes nothing.
 use mathlib.Core.Path.{_≡_, refl, sym, _∙_, ap}
 use mathlib.Core.Logic.{_≢_}
@@ -38,13 +38,13 @@ good-sweep s cls S g = good-play s cls S (sweepSteps s) (sweep-proper s) g
 
 -- ---- the words
 
--- w's types come of steps from the start by cls
+-- The types of w come of steps from the start by cls.
 pub record Swept (sh : Shape) (low : ℕ) (w : List ℕ) (cls : Classes) : Type 0 where
   pub sweepable : Sweepable sh low w
   pub room : low + total sh ≤ length w
   pub good : Good (absIn sh (take low w)) cls (stateIn sh low w)
 
--- v is swept from w and has `count` types, and what `left` more sweeps give of it, `all` give of w
+-- The words v are swept from w and have `count` types, and what `left` more sweeps give of v, `all` give of w.
 pub record Settling (sh : Shape) (low : ℕ) (w v : List ℕ) (count all left : ℕ) : Type 0 where
   pub long : length v ≡ length w
   pub lists : take low v ≡ take low w
@@ -69,7 +69,7 @@ module _ (sh : Shape) (low : ℕ) (w : List ℕ) (cls : Classes) (a : Swept sh l
   pub first-countable : Countable sh low w
   first-countable = countable w refl refl (a .good)
 
-  -- One more.
+  -- One sweep more is made.
   module _ (v : List ℕ) (count all left : ℕ) (i : Settling sh low w v count all left) where
     pub ready : Sweepable sh low v
     ready = sweepable-kept sh low w v (i .long) (i .lists) (a .sweepable)
@@ -117,7 +117,7 @@ module _ (sh : Shape) (low : ℕ) (w : List ℕ) (cls : Classes) (a : Swept sh l
 
 module _ (sh : Shape) (low : ℕ) (z : List ℕ) (a : Started sh low z) (w : List ℕ) (long : length w ≡ length z) (lists : take low w ≡ take low z)
     (state : stateIn sh low w ≡ sweep (absIn sh (take low z)) (stateIn sh low z)) where
-  -- The first sweep.
+  -- This is the first sweep.
   pub once : Swept sh low w (a .classes)
   once = record {
     sweepable = sweepable-kept sh low z w long lists (a .sweepable);
@@ -125,7 +125,7 @@ module _ (sh : Shape) (low : ℕ) (z : List ℕ) (a : Started sh low z) (w : Lis
     good = rw (lists, state, a .state) (good-sweep (absIn sh (take low z)) (a .classes) (start (absIn sh (take low z)) (a .classes)) (start-good (absIn sh (take low z)) (a .classes)));
   }
 
-  -- And those after it.
+  -- The other sweeps come after it.
   pub ended : (E : ℕ) → E ≡ proper sh → (v : List ℕ) (ending : Ending) → take low v ≡ take low w → Countable sh low v
       → settle (absIn sh (take low w)) (E + 1) (stateIn sh low w) ≡ endOf ending (stateIn sh low v) → Settles sh low z v ending
   unfolding result

@@ -1,4 +1,4 @@
--- Where a list first has what passes a test, for any test: found one element after another.
+-- Where a list first has what passes a test, for any test, is found one element after another.
 -- Assumes nothing.
 use mathlib.Core.Path.{_≡_, refl, sym, _∙_, ap}
 use mathlib.Core.Logic.{inl, inr}
@@ -44,7 +44,7 @@ module _ {A : Type 0} (same : A → A → Bool) (k : A) where
     unfolding place
     sought-end h = omega (arith, s, ap (place same k) (drop-of-length-le l {i = j} h))
 
--- Two tests that agree on what is compared.
+-- Two tests that agree on what is compared find the same place.
 pub place-alike : {A B C : Type 0} (p : A → A → Bool) (q : B → B → Bool) (f : C → A) (g : C → B) (x : A) (y : B) (l : List C)
     → ((c : C) → In c l → p (f c) x ≡ q (g c) y) → place p x (map f l) ≡ place q y (map g l)
 unfolding place

@@ -1,4 +1,4 @@
--- The elements of a rank numbered by their classes one after another: what holds when e are done.
+-- The elements of a rank are numbered by their classes one after another, and this file says what holds when e are done.
 -- Assumes nothing.
 use mathlib.Core.Path.{_≡_, refl, sym, _∙_, ap, ap₂}
 use mathlib.Core.Logic.{_≢_, _⊎_, inl, inr}
@@ -49,7 +49,7 @@ module _ (w : List ℕ) (reps m : ℕ) (cells : List Float) (from : ℕ) where
 
 -- ---- the loop
 
--- e numbers are those of cls, and the m elements from word `reps` have one of each
+-- The first e numbers are those of cls, and the m elements from word `reps` have one of each.
 pub record Met (v : List ℕ) (to reps : ℕ) (cls : ℕ → ℕ) (m e : ℕ) : Type 0 where
   pub types : take e (drop to v) ≡ renumber eqb (map cls (range 0 e))
   pub kinds : map (λ j. cls (getD v (reps + j) 0)) (range 0 m) ≡ distinct eqb (map cls (range 0 e))
@@ -79,7 +79,7 @@ module _ (w : List ℕ) (to reps n : ℕ) (cells : List Float) (from : ℕ) (f :
       let q : e ≡ n = omega (arith, s .bound) in
       record { long = s .long; others = rw q at (s .others); numbers = λ cls k. rw q at (s .met cls k .types) }
 
-  -- What finding the class asks, and what a turn writes.
+  -- This is what finding the class asks, and what a turn writes.
   module _ (v : List ℕ) (m e : ℕ) (s : Scan w v to reps n cells from m e) (h : e < n) where
     pub reps-in : (reps + m ≤ length v) × ((j : ℕ) → j < m → from + getD v (reps + j) 0 < length cells)
     reps-in = (omega (arith, s .long, s .few, f .room), λ j k. omega (arith, s .slots j k, f .inside))
@@ -113,7 +113,7 @@ module _ (w : List ℕ) (to reps n : ℕ) (cells : List Float) (from : ℕ) (f :
       more : map cls (range 0 (e + 1)) ≡ done ++ cls e ∷ []
       more = ap (λ (i : ℕ). map cls (range 0 i)) (add-one e) ∙ table-snoc cls 0 e e (omega arith)
 
-      -- Its place among what was met.
+      -- The number that is found is the class's place among what was met.
       place-is : p ≡ place eqb (cls e) (distinct eqb done)
       unfolding repCells
       place-is =

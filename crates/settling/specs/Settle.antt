@@ -1,4 +1,4 @@
--- Sweeps in lent words, from the start until one leaves the number of types unchanged.
+-- Sweeps are made in lent words, from the start until one leaves the number of types unchanged.
 -- Assumes nothing.
 use mathlib.Core.Path.{_≡_}
 use mathlib.Core.Option.{Option, none, some}
@@ -12,7 +12,7 @@ use Rattle.element_types.specs.State.{stateIn, Sweepable, Countable}
 use Rattle.settling.specs.declared.settled.Ending.{Ending}
 use Rattle.settling.specs.declared.settled.Ending.the-variants.{Settled, Changing}
 
--- What the definitions say of sweeps that ended with the state S: it is the result, or there is no result, which is refusal 15.
+-- Says what the definitions give for sweeps that ended with the state S: it is the result, or there is no result, which is refusal 15.
 unfoldable pub endOf : Ending → State → Option State
 endOf Settled S = some S
 endOf Changing S = none

@@ -1,4 +1,5 @@
--- "Start: elements of a proper rank share a type exactly when they share a distance class", as a program numbers them in lent words.
+-- A program numbers elements in lent words as section 4 says:
+-- "Start: elements of a proper rank share a type exactly when they share a distance class."
 -- Assumes nothing.
 use mathlib.Core.Path.{_≡_}
 use mathlib.Core.Logic.{_⊎_}
@@ -20,11 +21,11 @@ use Rattle.element_types.specs.State.{stateIn, Sweepable}
 
 -- ---- a rank
 
--- The class of element e. The classes of its rank stand from cell `from` on.
+-- Gives the class of element e. The classes of its rank stand from cell `from` on.
 abbrev pub cellAt : List Float → ℕ → ℕ → Float
 cellAt cells from e = getD cells (from + e) nan
 
--- The classes of the m elements whose numbers the words from `reps` on hold.
+-- Lists the classes of the m elements whose numbers the words from `reps` on hold.
 unfoldable pub repCells : List ℕ → ℕ → ℕ → List Float → ℕ → List Float
 repCells w reps m cells from = map (λ j. cellAt cells from (getD w (reps + j) 0)) (range 0 m)
 

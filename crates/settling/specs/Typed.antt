@@ -1,4 +1,4 @@
--- The start state and the types of a solid that lies in lent words and floats.
+-- This file has the start state and the types of a solid that lies in lent words and floats.
 -- Assumes nothing.
 use mathlib.Core.Path.{_≡_}
 use mathlib.Core.List.{List}
@@ -16,7 +16,7 @@ use Rattle.element_types.specs.State.{stateIn, Countable}
 use Rattle.settling.specs.declared.settled.Ending.{Ending}
 use Rattle.settling.specs.Settle.{Started, endOf}
 
--- The start state of the solid that lies in words w and floats fs, made in the words v and floats gs.
+-- The start state of the solid that lies in words w and floats fs is made in the words v and floats gs.
 pub record AtStart (sh : Shape) (low : ℕ) (w v : List ℕ) (fs gs : List Float) : Type 0 where
   pub lists : take low v ≡ take low w
   pub points : take (coordinates sh (take low w)) gs ≡ take (coordinates sh (take low w)) fs
@@ -27,7 +27,7 @@ pub record AtStart (sh : Shape) (low : ℕ) (w v : List ℕ) (fs gs : List Float
   -- Any step can be done from here, and so can the sweeps.
   pub started : Started sh low v
 
--- The types of the solid that lies in words w and floats fs, worked out into the words v and floats gs.
+-- The types of the solid that lies in words w and floats fs are worked out into the words v and floats gs.
 pub record Typed (sh : Shape) (low : ℕ) (w v : List ℕ) (fs gs : List Float) (ending : Ending) : Type 0 where
   pub lists : take low v ≡ take low w
   pub points : take (coordinates sh (take low w)) gs ≡ take (coordinates sh (take low w)) fs

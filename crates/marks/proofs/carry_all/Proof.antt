@@ -22,7 +22,7 @@ carry-all-spec =
     tie.close
     (tie.spec Inv μ
     (λ c. let s = c .before .before .before .before .before in let a = s .args in first-round (a .sh) (a .w .now) (a .row .now) (classesOn (a .sh) (a .w .now) (a .floats .now)) (a .goes .now) (s .pre .2))
-    -- n
+    -- These are the needs of `n`.
     (λ c. let s = c .before .before .before .before .before .before .before in omega (arith, c .loop-test .taken, s .pre .0 .held .tall))
     (λ c. let s = c .before .before .before .before .before .before .before in omega (arith, c .loop-test .taken, s .pre .0 .held .tall))
     (λ c. let s = c .before .before .before .before .before .before .before in omega (arith, c .loop-test .taken, s .pre .0 .held .tall))

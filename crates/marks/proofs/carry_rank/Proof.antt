@@ -19,14 +19,14 @@ Inv w sh floats row goes₀ r n base e₀ goes e = Turn sh w row (classesOn sh w
 abbrev μ : tie.MeasureT-loop
 μ w sh floats row goes₀ r n base e₀ goes e = n - e
 
--- The turn, and where the function starts.
+-- These are the turn, and the start of the function.
 abbrev turn : (c : tie.After-known-told Inv μ) → tie.In-loop Inv μ
 turn c = c .before .before .before .before .before
 
 abbrev start : (c : tie.In-loop Inv μ) → tie.Start Inv μ
 start c = c .before .before .before .before .before .before .before
 
--- The cell to write, and what is written.
+-- The cell to write lies in the cells, and what is written is where the element goes.
 lies : (c : tie.After-known-told Inv μ) → firstAt (start (turn c) .args .sh) (start (turn c) .args .r) + turn c .before .loop .e < length (turn c .before .loop .goes)
 lies c =
     let t = turn c in
@@ -48,10 +48,10 @@ pub carry-rank-spec : {M : Type 1} → statement M
 carry-rank-spec =
     tie.close
     (tie.spec Inv μ
-    -- base
+    -- These are the needs of `base`.
     (λ c. let s = c .before .before .before .before .before in omega (arith, s .pre .1 .0 .high, s .pre .0 .0 .held .tall))
     (λ c. let s = c .before .before .before .before .before in omega (arith, s .pre .1 .0 .high, s .pre .0 .0 .held .tall))
-    -- loop-holds, image-of-requires, enum-known-x, enum-told, same-length, returns
+    -- The needs are loop-holds, image-of-requires, enum-known-x, enum-told, same-length and returns.
     (λ c. let s = c .before .before .before .before .before in let a = s .args in first-turn (a .sh) (a .w .now) (a .row .now) (classesOn (a .sh) (a .w .now) (a .floats .now)) (a .goes .now) (a .r) (a .n) (s .pre .1 .0) (s .pre .1 .1))
     (λ c κs. let l = c .before .before in let s = l .before .before .before .before .before .before in (s .pre .0, (l .loop .inv .rank, omega (arith, c .before .loop-test .taken, l .loop .inv .many))))
     (λ c. search needs)

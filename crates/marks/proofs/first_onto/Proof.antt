@@ -40,7 +40,7 @@ first-onto-spec =
     -- The needs are loop-holds and entry-at-requires.
     (λ c. (search needs, c .count-at .ensures, refl))
     (λ c κs. (search needs, search needs))
-    -- mul-is-onto, add-is-onto, is-onto-requires
+    -- The needs are mul-is-onto, add-is-onto and is-onto-requires.
     (λ c. omega (arith, lies c .head))
     (λ c. omega (arith, lies c .head))
     (λ c κs. let s = c .before .before .before .before .before .before in ((s .pre .0 .0, lies c), s .pre .1))

@@ -12,11 +12,11 @@ use Rattle.marks.proofs.Carried.{class-cells, ranks-lie, class-in, lies
 use Rattle.marks.proofs.image_of.Statement.{statement}
 use Rattle.marks.proofs.image_of.Tie as tie
 
--- Where the function starts.
+-- This is the start of the function.
 abbrev start : (c : tie.After-known-told) → tie.Start
 start c = c .before .before .before .before .before .before .before .before
 
--- Where the element goes.
+-- The answer says where the element goes.
 gone : (c : tie.After-known-told) →
     (let a = start c .args in Reached (absIn (a .sh) (a .w .now)) (classesOn (a .sh) (a .w .now) (a .floats .now)) (a .row .now) (a .r) (a .e) (At (c .before .x .given .0 .0)))
 gone c =

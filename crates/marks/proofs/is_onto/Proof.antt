@@ -1,4 +1,4 @@
--- As many, and all of them land.
+-- There are as many, and all of them land.
 -- Assumes nothing.
 use borrow.Author.Needs.{needs}
 use mathlib.Core.Path.{sym, _∙_}

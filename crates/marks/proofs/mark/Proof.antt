@@ -1,4 +1,4 @@
--- The clauses one after another: the first that fails makes the mark 0.
+-- The clauses come one after another, and the first that fails makes the mark 0.
 -- Assumes nothing.
 use borrow.Author.Tests.{not-true, not-false}
 use native.Mathlib.Omega.{arith}
@@ -12,7 +12,7 @@ use Rattle.marks.proofs.Confirmed.{no-sets, no-row, all-else}
 use Rattle.marks.proofs.mark.Statement.{statement}
 use Rattle.marks.proofs.mark.Tie as tie
 
--- What the first two tests showed.
+-- The first two tests showed that no two vertex sets are the same, and that the row permutes the vertices.
 apart-is : (c : tie.Else1) → let s = c .before .before .before .before .before in setsApart (absIn (s .args .sh) (s .args .w .now)) ≡ true
 apart-is c = let s = c .before .before .before .before .before in sym (s .pre .1 .0) ∙ not-false _ (c .if1 .left)
 
@@ -23,7 +23,7 @@ pub mark-spec : {M : Type 1} → statement M
 mark-spec =
     tie.close
     (tie.spec
-    -- returns, is-permutation-requires, returns-2
+    -- The needs are returns, is-permutation-requires and returns-2.
     (λ c. let s = c .before .before .before .before .before in
     let a = s .args in
     no-sets _ (classesOn (a .sh) (a .w .now) (a .floats .now)) (a .row .now) (s .pre .1 .1 .0) (sym (s .pre .1 .0) ∙ not-true _ (c .if1 .taken)))

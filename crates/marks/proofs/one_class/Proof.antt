@@ -12,7 +12,7 @@ one-class-spec =
     -- The needs are class-cell-requires and class-cell-requires-2.
     (λ c κs. let s = c .before in (s .pre .0, omega (arith, s .pre .1 .1)))
     (λ c κs. let s = c .before .before in (s .pre .0, omega (arith, s .pre .1 .0)))
-    -- The two reads.
+    -- These are the needs of the two reads.
     (λ c. let s = c .before .before .before in omega (arith, c .before .class-cell .ensures, s .pre .1 .1))
     (λ c. let s = c .before .before .before .before in omega (arith, c .before .before .class-cell .ensures, s .pre .1 .1))
     (λ c. let s = c .before .before .before .before in omega (arith, c .before .class-cell2 .ensures, s .pre .1 .0))

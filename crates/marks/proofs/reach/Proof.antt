@@ -1,4 +1,4 @@
--- A vertex as the row says, any other element by its subs.
+-- A vertex goes where the row says, and any other element by its subs.
 -- Assumes nothing.
 use borrow.Author.Needs.{needs}
 use native.Mathlib.Omega.{arith}

@@ -1,4 +1,4 @@
--- The element's subs, its first sub's image, and the elements over that.
+-- The element's subs are read, its first sub's image, and the elements over that.
 -- Assumes nothing.
 use borrow.Author.Needs.{needs}
 use native.Mathlib.Omega.{arith}
@@ -18,7 +18,7 @@ use Rattle.marks.proofs.rise.Tie as tie
 word : (s : tie.Start) → subsWord (firstAt (s .args .sh) (s .args .r + 1)) (s .args .e) ≡ subsWord (firstAt (s .args .sh) (suc (s .args .r))) (s .args .e)
 word s = rw (add-one (s .args .r))
 
--- Its first sub, which has a cell.
+-- The element's first sub has a cell.
 first : (c : tie.After-entry-at) → let a = c .before .before .before .before .before .args in c .entry-at .result ≡ getD (listAt (a .w .now) (subsWord (firstAt (a .sh) (suc (a .r))) (a .e))) 0 0
 first c = rw (c .before .subs-at .ensures, word (c .before .before .before .before .before)) at (c .entry-at .ensures)
 
@@ -34,7 +34,7 @@ pub rise-spec : {M : Type 1} → statement M
 rise-spec =
     tie.close
     (tie.spec
-    -- base and up
+    -- These are the needs of `base` and `up`.
     (λ c. search needs)
     (λ c. search needs)
     (λ c. search needs)

@@ -1,4 +1,4 @@
--- The tests one after another; the factors lie before the row, and so within the rows.
+-- The tests come one after another. The factors lie before the row, and so within the rows.
 -- Assumes nothing.
 use borrow.Author.Needs.{needs}
 use mathlib.Core.Path.{sym, ap, ap₂, _∙_}

@@ -1,4 +1,4 @@
--- One row after another, each mark to the part of the marks after those written.
+-- The rows are taken one after another, and each mark goes to the part of the marks after those written.
 -- Assumes nothing.
 use borrow.Author.Needs.{needs}
 use native.Mathlib.Omega.{arith}

@@ -1,4 +1,4 @@
--- One row after another, each mark to the part of the marks after those written; the row then joins the table.
+-- The rows are taken one after another, and each mark goes to the part of the marks after those written. The row then joins the table.
 -- Assumes nothing.
 use borrow.Author.Needs.{needs}
 use native.Mathlib.Omega.{arith}

@@ -1,4 +1,4 @@
--- By a product, or element by element.
+-- A row is confirmed by a product, or element by element.
 -- Assumes nothing.
 use borrow.Author.Needs.{needs}
 use mathlib.Core.Path.{sym, ap, _∙_}

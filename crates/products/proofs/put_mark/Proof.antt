@@ -1,4 +1,4 @@
--- One cell.
+-- One cell is written.
 -- Assumes nothing.
 use borrow.Author.Needs.{needs}
 use Rattle.products.proofs.Marked.{one-written}

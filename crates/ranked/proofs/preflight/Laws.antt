@@ -1,4 +1,4 @@
--- The preflight step by step: what each refusal leaves of it, what the steps need of the header, and the whole answer.
+-- This file takes preflight step by step: what each refusal leaves of it, what the steps need of the header, and the whole answer.
 -- Assumes nothing.
 use mathlib.Core.Path.{_≡_, refl, sym, _∙_, ap}
 use mathlib.Core.Logic.{inl, inr}
@@ -59,7 +59,7 @@ module _ (s : Solid) where
 
 -- ---- the steps after the sheet is read
 
--- 7, 5 and 6 by their tests
+-- Refusals 7, 5 and 6 go by their tests.
 after : Concrete → Bool → Bool → Bool → Judged Concrete
 after c x y z = judge Bench x >> (judge Loose y >> (judge Mitre z >> passed c))
 
@@ -160,7 +160,7 @@ ready-is : (r : Ready) {v : Verdict} {h : Shape} → r .verdict ≡ v → r .sha
 ready-is r x y = rw (← x, ← y)
 
 module _ (b : List ℕ) (n m : ℕ) (r : Ready) (ws : List ℕ) (fs : List Float) (same-words : length ws ≡ n) (same-floats : length fs ≡ m) where
-  -- A refusal.
+  -- A refusal is the whole answer.
   refusal : (why : Refusal) → preflight b n m ≡ refused why → r ≡ unreadyOf why → Preflighted b n m r ws fs
   unfolding verdictOf readyOf
   refusal why e v = record {
@@ -170,7 +170,7 @@ module _ (b : List ℕ) (n m : ℕ) (r : Ready) (ws : List ℕ) (fs : List Float
     placed = λ c q. absurd (never why c (sym e ∙ q));
   }
 
-  -- 1 to 4
+  -- Refusals 1 to 4 come from reading the sheet.
   pub unread : {why : Refusal} → readSheet b ≡ refused why → r ≡ unreadyOf why → Preflighted b n m r ws fs
   unread {why} e v = refusal why (stopped b n m why e) v
 
@@ -179,11 +179,11 @@ module _ (b : List ℕ) (n m : ℕ) (r : Ready) (ws : List ℕ) (fs : List Float
     room : t ≡ roomy (solidOf p) n m
     room = et ∙ room-is b p e h eh n m
 
-    -- 7
+    -- Refusal 7 comes where there is too little room.
     pub cramped-in : t ≡ false → r ≡ unreadyOf Bench → Preflighted b n m r ws fs
     cramped-in q v = refusal Bench (cramped b n m p e (sym room ∙ q)) v
 
-    -- 5 and 6, or none
+    -- Refusals 5 and 6, or none, come from judging the stored solid.
     pub settled-in : t ≡ true → Settled (parsedOf b) r ws fs → Preflighted b n m r ws fs
     unfolding verdictOf readyOf
     settled-in q z = from (rw (← parsed-is b p e) at z)
@@ -233,7 +233,7 @@ module _ (b : List ℕ) (n m : ℕ) (r : Ready) (ws : List ℕ) (fs : List Float
                 let f = z .kept a .shape in
                 rw (← accepted b n m p e c k) (ready-is r (z .verdict ∙ a) f)
 
--- What storing asks.
+-- Storing asks for this.
 pub asked : (b : List ℕ) (n m : ℕ) (p : Parsed) (e : readSheet b ≡ passed p) (h : Header) (eh : h ≡ headerOf p) (t : Bool)
     → t ≡ (leb (16 * (h .elements + h .entries + 4)) n && leb (8 * (h .elements + 8)) m) → t ≡ true
     → (readSheet b ≡ passed (parsedOf b)) × ((h ≡ headerOf (parsedOf b)) × (roomy (solidOf (parsedOf b)) n m ≡ true))

@@ -1,4 +1,4 @@
--- The classes and the start, one after another.
+-- The classes come first, and then the start.
 -- Assumes nothing.
 use borrow.Author.Needs.{needs}
 use native.Mathlib.Omega.{arith}
@@ -11,7 +11,7 @@ use Rattle.settling.proofs.Benched.{cells-in, rest-is, startable, at-st
 use Rattle.settling.proofs.begin.Statement.{statement}
 use Rattle.settling.proofs.begin.Tie as tie
 
--- The words and floats as they were lent.
+-- These are the words and floats as they were lent.
 entry : (c : tie.After-all-classes) → tie.Start
 entry c = c .before .before .before .before .before
 

@@ -15,12 +15,12 @@ class-cells-spec =
     (tie.spec
     -- The need is returns.
     (λ c w h. none-proper _ w h (c .if1 .taken) .1)
-    -- Two reads, sub-result, mul-result.
+    -- The needs are two reads, sub-result and mul-result.
     (λ c. search needs)
     (λ c. search needs)
     (λ c. let p = c .before .before .pre in some-proper _ (p .0) (p .1) (omega (arith, c .before .if1 .left)) .1)
     (λ c. let p = c .before .before .pre in omega (arith, few-cells _ (p .0) (p .1) (omega (arith, c .before .if1 .left))))
-    -- mul-result-2, two reads, sub-result-2, add-result
+    -- The needs are mul-result-2, two reads, sub-result-2 and add-result.
     (λ c. let p = c .before .before .pre in omega (arith, p .1 .tall))
     (λ c. let p = c .before .before .pre in omega (arith, p .1 .tall))
     (λ c. search needs)

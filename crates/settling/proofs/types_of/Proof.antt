@@ -1,4 +1,4 @@
--- The start, and the sweeps.
+-- The start comes first, and then the sweeps.
 -- Assumes nothing.
 use borrow.Author.Needs.{needs}
 use Rattle.settling.proofs.Benched.{typed}

@@ -1,4 +1,4 @@
--- Either list has as many: they are the same.
+-- Either list has as many, since they are the same.
 -- Assumes nothing.
 use borrow.Author.Needs.{needs}
 use Rattle.ranked.proofs.check.between.Statement.{statement}

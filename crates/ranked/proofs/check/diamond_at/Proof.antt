@@ -18,7 +18,7 @@ use Rattle.ranked.proofs.check.diamond_at.Tie as tie
 abbrev p : List ℕ → ℕ → ℕ → ℕ → ℕ → Bool
 p w at above g f = twoUnder w (subsWord above g) (subsWord at f) (4 * at)
 
--- What stands in the locals.
+-- The locals hold what the turn knows of them.
 pub record Turn (w : List ℕ) (at above g i base n k : ℕ) : Type 0 where
   pub bound : k ≤ n
   pub i-is : i ≡ subsWord above g
@@ -40,7 +40,7 @@ entry c =
     let a = l .before .before .before .before .before .args in
     entry-in (listAt (a .w .now) (subsWord (a .above) (a .g))) (l .loop .k) _ (omega (arith, c .before .loop-test .taken, l .loop .inv .n-is)) (rw (l .loop .inv .i-is) at (c .entry-at .ensures))
 
--- What the call says of the entry f.
+-- The call says whether the entry f passes.
 said : (w : List ℕ) (at above g i base n k f j : ℕ) (b : Bool) → Turn w at above g i base n k → f ≡ getD (listAt w i) k 0 → j ≡ subsWord at f
     → b ≡ twoUnder w i j base → p w at above g (getD (listAt w (subsWord above g)) k 0) ≡ b
 said w at above g i base n k f j b t ef ej eb =

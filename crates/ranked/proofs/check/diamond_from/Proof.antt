@@ -26,7 +26,7 @@ Inv w from sh rank low₀ low = (from ≤ low) × (low ≤ rank) × Every (p sh 
 abbrev μ : tie.MeasureT-loop
 μ w from sh rank low₀ low = rank - low
 
--- ranks k to k + 2, as the code has them
+-- The ranks k to k + 2 are as the code has them.
 module _ (sh : Shape) (w : List ℕ) (k : ℕ) where
   two-is : k + 2 ≡ suc (suc k)
   two-is = omega arith
@@ -44,7 +44,7 @@ module _ (sh : Shape) (w : List ℕ) (k : ℕ) where
   said : (b : Bool) → b ≡ twoRank w (firstAt sh (k + 1)) (firstAt sh (k + 2)) (firstAt sh (k + 3) - firstAt sh (k + 2)) → p sh w (suc k) ≡ b
   said b e = sym (rw (two-is, three-is, add-one k) at e)
 
--- A turn on.
+-- The invariant goes on by one turn.
 turn-on : (p : ℕ → Bool) (l : List ℕ) (from low : ℕ) → from ≤ low → Every p l (low - from + 1) → Every p l (low + 1 - from)
 turn-on p l from low h e = let q : low + 1 - from ≡ low - from + 1 = omega arith in rw q e
 
@@ -56,7 +56,7 @@ diamond-from-spec =
     -- The needs are loop-holds and add-loop.
     (λ c. let q : c .before .args .from - c .before .args .from ≡ 0 = omega arith in (search needs, search needs, rw q refl))
     (λ c. search needs)
-    -- The shape's numbers: mul, element-copy-out; and add before them, three times.
+    -- The needs of the shape's numbers are mul and element-copy-out, and add before them, three times.
     (λ c. omega (arith, c .before .before .before .pre .0 .tall))
     (λ c. omega (arith, c .before .before .before .pre .0 .tall))
     (λ c. search needs)

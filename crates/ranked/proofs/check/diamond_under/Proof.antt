@@ -24,7 +24,7 @@ Inv w i j base below g n k₀ k = (k ≤ n) × (n ≡ length (listAt w j)) × Ev
 abbrev μ : tie.MeasureT-loop
 μ w i j base below g n k₀ k = n - k
 
--- What is known of the entry.
+-- The entry makes a fork with g.
 fork : (c : tie.After-entry-at Inv μ)
     → let a = c .before .before .before .before .before .args in Fork (a .w .now) (a .i) (supsWord (a .below) (c .entry-at .result)) (a .base) (a .g) (c .entry-at .result)
 fork c =

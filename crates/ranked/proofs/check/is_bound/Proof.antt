@@ -26,7 +26,7 @@ Inv w sh rank k₀ k = (k ≤ rank) × Every (p sh w) (range 1 (rank - 2)) k
 abbrev μ : tie.MeasureT-loop
 μ w sh rank k₀ k = rank - k
 
--- rank k + 1, as the code has it
+-- Rank k + 1 is as the code has it.
 module _ (sh : Shape) (w : List ℕ) (k : ℕ) where
   next-is : k + 2 ≡ suc (k + 1)
   next-is = omega arith
@@ -47,7 +47,7 @@ is-bound-spec =
     -- The needs are loop-holds and add-loop.
     (λ c. (search needs, refl))
     (λ c. search needs)
-    -- The shape's numbers: add, mul, element-copy-out, twice.
+    -- The needs of the shape's numbers are add, mul and element-copy-out, twice.
     (λ c. search needs)
     (λ c. omega (arith, c .before .before .before .pre .tall))
     (λ c. omega (arith, c .before .before .before .pre .tall))

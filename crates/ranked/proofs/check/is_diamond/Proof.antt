@@ -1,4 +1,4 @@
--- The ranks at the top are a part of all; then all are judged.
+-- The ranks at the top are judged first, as a part of all, and then all are.
 -- Assumes nothing.
 use borrow.Author.Needs.{needs}
 use borrow.Author.Tests.{not-true}

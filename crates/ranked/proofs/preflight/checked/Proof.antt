@@ -1,4 +1,4 @@
--- `ranked::preflight::checked` meets its contract: 5, and then 6. Assumes nothing.
+-- `ranked::preflight::checked` meets its contract: refusal 5 is tested, and then 6. Assumes nothing.
 use mathlib.Core.Path.{sym, _∙_}
 use borrow.Author.Needs.{needs}
 use borrow.Author.Tests.{not-true, not-false}
@@ -8,10 +8,10 @@ use Rattle.ranked.proofs.preflight.checked.Tie as tie
 
 pub checked-spec : {M : Type 1} → statement M
 checked-spec = tie.close (tie.spec
-    -- is-bound-requires, returns
+    -- The needs are is-bound-requires and returns.
     (λ c κs. c .before .pre)
     (λ c. loose _ (sym (c .before .is-bound .ensures) ∙ not-true _ (c .if1 .taken)))
-    -- is-diamond-requires, returns-2, returns-3
+    -- The needs are is-diamond-requires, returns-2 and returns-3.
     (λ c κs. c .before .before .before .pre)
     (λ c. let o = c .before .before in
     mitred _ (sym (o .before .is-bound .ensures) ∙ not-false _ (o .if1 .left)) (sym (c .before .is-diamond .ensures) ∙ not-true _ (c .if2 .taken)))

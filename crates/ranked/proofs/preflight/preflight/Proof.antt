@@ -10,14 +10,14 @@ use Rattle.ranked.proofs.preflight.Laws.{header-fits, unread, cramped-i
 use Rattle.ranked.proofs.preflight.preflight.Statement.{statement}
 use Rattle.ranked.proofs.preflight.preflight.Tie as tie
 
--- The sheet that was accepted.
+-- The sheet was accepted.
 read : (c : tie.After-enum-told) → let j = c .before .before .before in
     (p : Parsed) × (readSheet (j .before .before .before .before .args .sheet .now) ≡ passed p) × (j .judge .result .header ≡ headerOf p)
 read c = let j = c .before .before .before in accepted-is (j .before .before .before .before .args .sheet .now) (j .judge .result) (j .judge .ensures) (c .enum-told .given .1)
 
 pub preflight-spec : {M : Type 1} → statement M
 preflight-spec = tie.close (tie.spec
-    -- judge-requires, enum-known-verdict, unready-requires, enum-told, is-roomy-requires, unready-requires-2
+    -- The needs are judge-requires, enum-known-verdict, unready-requires, enum-told, is-roomy-requires and unready-requires-2.
     (λ c κs. search needs)
     (λ c. search needs)
     (λ c κs. search needs)

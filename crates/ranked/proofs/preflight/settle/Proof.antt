@@ -7,7 +7,7 @@ use Rattle.ranked.proofs.preflight.settle.Tie as tie
 
 pub settle-spec : {M : Type 1} → statement M
 settle-spec = tie.close (tie.spec
-    -- The need is store-requires.
+    -- The needs are store-requires and low-of-requires.
     (λ c κs. let s = c .before .before .before .before .before .before in
     (s .pre .0, (header-said (s .args .sheet .now) _ (s .pre .0) (s .args .header) (s .pre .1 .0), s .pre .1 .1)))
     -- The needs are slice-reshare-prefix-checked, slice-aggregate-checked and checked-requires.

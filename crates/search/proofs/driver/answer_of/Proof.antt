@@ -1,4 +1,4 @@
--- By whether one had no room, and by how many there are.
+-- The answer goes by whether one had no room, and by how many there are.
 -- Assumes nothing.
 use mathlib.Core.Path.{_≡_, refl}
 use mathlib.Core.Bool.{Bool, true, false}

@@ -1,4 +1,4 @@
--- 10, the exchange, and what is after it.
+-- The judgement behind refusal 10, the exchange, and what follows give the rest of the call.
 -- Assumes nothing.
 use borrow.Author.Needs.{needs}
 use native.Mathlib.Omega.{arith}
@@ -18,7 +18,7 @@ entry c = c .before .before .before .before .before .before .before .before
 far : (c : tie.After-far) → tie.After-first-far
 far c = c .before .before
 
--- The facet is one.
+-- The facet that is found is one of the solid's.
 low : (c : tie.After-far) → let s = entry (far c) in c .far .given .0 .0 < sizeAt (s .args .sh) (s .args .sh .rank - 1)
 unfolding entry far
 low c =

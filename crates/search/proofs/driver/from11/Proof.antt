@@ -1,4 +1,4 @@
--- By the judgement behind refusal 11, and what follows it.
+-- The judgement behind refusal 11 and what follows it give the rest of the call.
 -- Assumes nothing.
 use borrow.Author.Needs.{needs}
 use borrow.Author.Tests.{not-true, not-false}
@@ -19,7 +19,7 @@ unfolding entry
 from11-spec =
     tie.close
     (tie.spec
-    -- slice-reshare-prefix-first-inverse, slice-aggregate-first-inverse, first-inverse-requires, is-regular-requires
+    -- The needs are slice-reshare-prefix-first-inverse, slice-aggregate-first-inverse, first-inverse-requires and is-regular-requires.
     (λ c. let s = c .before .before .before .before .before in omega (arith, s .pre .0 .words-in))
     (λ c. let s = c .before .before .before .before .before .before in sym (length-take-le (s .args .low) (s .args .words .now) (s .pre .0 .words-in)))
     (λ c κs. let s = c .before .before .before .before .before .before .before .before in (s .pre .0 .held, (s .pre .0 .diamonds, (s .pre .1 .0 .0, points-in (s .pre .0)))))

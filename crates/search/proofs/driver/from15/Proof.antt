@@ -1,4 +1,4 @@
--- 15, and what is after it.
+-- The judgement behind refusal 15 and what follows it give the rest of the call.
 -- Assumes nothing.
 use borrow.Author.Needs.{needs}
 use Rattle.symmetry.specs.Tails.{outOf}
@@ -14,7 +14,7 @@ unfolding entry
 from15-spec =
     tie.close
     (tie.spec
-    -- types-of-requires, enum-told, from11-requires
+    -- The needs are types-of-requires, enum-told and from11-requires.
     (λ c κs. c .before .before .before .before .before .before .before .pre .0)
     (λ c. search needs)
     (λ c κs. let i = c .before .before .before .before .before in

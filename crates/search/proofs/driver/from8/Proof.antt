@@ -1,4 +1,4 @@
--- 8, and what is after it.
+-- The judgement behind refusal 8 and what follows it give the rest of the call.
 -- Assumes nothing.
 use borrow.Author.Needs.{needs}
 use Rattle.symmetry.specs.Tails.{outOf}
@@ -14,7 +14,7 @@ unfolding entry
 from8-spec =
     tie.close
     (tie.spec
-    -- is-full-requires, from9-requires
+    -- The needs are is-full-requires and from9-requires.
     (λ c κs. search needs)
     (λ c κs. let i = c .before .before .before .before .before in
     let f = i .before in

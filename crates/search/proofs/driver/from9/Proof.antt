@@ -1,4 +1,4 @@
--- 9, and what is after it.
+-- The judgement behind refusal 9 and what follows it give the rest of the call.
 -- Assumes nothing.
 use borrow.Author.Needs.{needs}
 use native.Mathlib.Omega.{arith}

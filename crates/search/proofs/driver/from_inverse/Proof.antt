@@ -1,4 +1,4 @@
--- The members, and their marks.
+-- The members are listed, and then marked.
 -- Assumes nothing.
 use borrow.Author.Needs.{needs}
 use native.Mathlib.Omega.{arith}
@@ -37,7 +37,7 @@ from-inverse-spec =
     (λ c κs. let p = c .before .before .before .before .before .before in
     let s = entry p in
     searching (s .pre .0) _ (after-types (s .args .t3) (s .args .low)) _ (p .write-prints .kept .0) (p .write-prints .ensures .0) (p .write-prints .ensures .1) (s .pre .1 .0 .0) (s .pre .1 .1 .0) (s .pre .1 .1 .1))
-    -- answer-of-requires, same-length to same-length-4, returns
+    -- The needs are answer-of-requires, same-length to same-length-4, and returns.
     (λ c κs. search needs)
     (λ c. search needs)
     (λ c. search needs)
@@ -74,7 +74,7 @@ from-inverse-spec =
           (corner (a .t3 .dimension) (a .inv)) (a .rotations) (outOf (a .matrices .now) (a .rows .now) (a .marks .now)) (l .list-members .result) _ _ (l .list-members .ensures)
           _ (refl {a = answerOf (r .short) (r .count)}) _ (x .exchange .ensures .0) _ refl (l .list-members .kept .1 .1 .1 .1 .1 .1 .1 .1 .1 .0),
     ))
-    -- answer-of-requires-2, same-length-5 to same-length-9, returns-2
+    -- The needs are answer-of-requires-2, same-length-5 to same-length-9, and returns-2.
     (λ c κs. search needs)
     (λ c. search needs)
     (λ c. search needs)

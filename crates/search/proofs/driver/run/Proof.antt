@@ -1,4 +1,4 @@
--- 1 to 7, and what is after them.
+-- Preflight's refusals, 1 to 7, come first, and then what is after them.
 -- Assumes nothing.
 use borrow.Author.Needs.{needs}
 use Rattle.symmetry.specs.Tails.{outOf}

@@ -22,7 +22,7 @@ Inv w sh points r n f₀ f = (f ≤ n) × Left (solidOn sh w points (sh .dimensi
 abbrev μ : tie.MeasureT-loop
 μ w sh points r n f₀ f = n - f
 
--- The facets, as the code counts them.
+-- The facets are as many as the code counts.
 module _ (sh : Shape) where
   facets : firstAt sh (sh .rank - 1 + 1) - firstAt sh (sh .rank - 1) ≡ sizeAt sh (sh .rank - 1)
   facets = ap (λ (k : ℕ). firstAt sh k - firstAt sh (sh .rank - 1)) (add-one (sh .rank - 1))

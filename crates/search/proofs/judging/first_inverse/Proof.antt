@@ -1,4 +1,4 @@
--- The first flag, its columns, and their inverse.
+-- The first flag is found, then its columns, and then their inverse.
 -- Assumes nothing.
 use borrow.Author.Needs.{needs}
 use native.Mathlib.Omega.{arith}
@@ -13,7 +13,7 @@ use Rattle.flag.specs.Reading.{flagIn}
 use Rattle.search.proofs.judging.first_inverse.Statement.{statement}
 use Rattle.search.proofs.judging.first_inverse.Tie as tie
 
--- The first flag is one.
+-- The first flag is a flag.
 is-flag : (c : tie.After-first) → let s = c .before .before .before in IsFlag (absIn (s .args .sh) (s .args .w .now)) (flagIn (s .args .sh .rank) (c .first .result))
 is-flag c = let s = c .before .before .before in rw (c .first .ensures) (every-first _ (s .pre .0 .sound) (s .pre .0 .filled) .0)
 

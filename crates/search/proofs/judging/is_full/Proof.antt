@@ -1,4 +1,4 @@
--- By the rank.
+-- The test goes by the rank and the dimension.
 -- Assumes nothing.
 use borrow.Author.Needs.{needs}
 use borrow.Author.Tests.{le-leb, lt-leb}

@@ -1,4 +1,4 @@
--- By whether an inverse was found.
+-- The test goes by whether an inverse was found.
 -- Assumes nothing.
 use borrow.Author.Needs.{needs}
 use Rattle.float.specs.Reading.{ifRegular}

@@ -1,4 +1,4 @@
--- The classes, the prints, whether the sets are apart, and the marks.
+-- The classes come first, then the prints, whether the sets are apart, and the marks.
 -- Assumes nothing.
 use borrow.Author.Needs.{needs}
 use native.Mathlib.Omega.{arith}
@@ -15,7 +15,7 @@ use Rattle.search.proofs.Benched.{after-types, prints-in, lists-kept, r
 use Rattle.search.proofs.marking.write_marks.Statement.{statement}
 use Rattle.search.proofs.marking.write_marks.Tie as tie
 
--- The words and floats as they were lent.
+-- These are the words and floats as they were lent.
 entry : (c : tie.After-at) → tie.Start
 entry c = c .before .before .before .before .before
 

@@ -1,4 +1,4 @@
--- One element after another, as `Scan` says.
+-- The elements are numbered one after another, as `Scan` says.
 -- Assumes nothing.
 use borrow.Author.Needs.{needs}
 use native.Mathlib.Omega.{arith}

@@ -15,11 +15,11 @@ Inv words₀ low sh count₀ left₀ words count left = Settling sh low words₀
 abbrev μ : tie.MeasureT-loop
 μ words₀ low sh count₀ left₀ words count left = left
 
--- After the first sweep.
+-- After the first sweep, the types come of steps from the start.
 swept : (u : tie.After-sweep Inv μ) → let s = u .before .before .before in Swept (s .args .sh) (s .args .low) (u .sweep .last .0) (s .pre .classes)
 swept u = once _ _ _ (u .before .before .before .pre) _ (u .sweep .kept .0) (u .sweep .ensures .0) (u .sweep .ensures .1)
 
--- before the loop
+-- This is the state before the loop.
 first : (l : tie.At-loop Inv μ) → tie.After-sweep Inv μ
 first l = l .before .before .before .before .before .before
 

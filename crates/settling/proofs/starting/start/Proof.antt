@@ -1,4 +1,4 @@
--- One rank after another, as `Begun` says.
+-- The ranks are started one after another, as `Begun` says.
 -- Assumes nothing.
 use borrow.Author.Needs.{needs}
 use native.Mathlib.Omega.{arith}
@@ -16,11 +16,11 @@ Inv words₀ low cells sh rank last out r₀ words r = Begun sh low words₀ wor
 abbrev μ : tie.MeasureT-loop
 μ words₀ low cells sh rank last out r₀ words r = sh .rank - r
 
--- The words as they were lent.
+-- These are the words as they were lent.
 entry : (c : tie.After-out Inv μ) → tie.Start Inv μ
 entry c = c .before .before .before .before
 
--- The offsets of a turn's rank.
+-- The offsets of a turn's rank are known.
 ranks : (c : tie.In-loop Inv μ)
     → let l = c .before in
     let a = l .before .before .before .before .before .args in
