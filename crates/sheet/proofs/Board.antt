@@ -1,4 +1,4 @@
--- Refusal 3 by the pattern: a value is finite and of magnitude at most 1,048,576 exactly when its pattern, without the sign, is at most that
+-- Refusal 3 goes by the pattern: a value is finite and of magnitude at most 1,048,576 exactly when its pattern, without the sign, is at most that
 -- number's. So no pattern of a NaN is ever read as a float.
 -- Assumes nothing.
 use mathlib.Core.Path.{_≡_, refl, sym, ap, _∙_, subst}
@@ -30,7 +30,7 @@ same-leb a b c d f g = go (leb a b) refl
     go true e = sym (le-leb c d (f (leb-true a b e)))
     go false e = sym (lt-leb c d (g (leb-false a b e)))
 
--- less or equal
+-- One number is less than or equal to another exactly if it is less, or equal.
 less-or-same : (a b : ℕ) → (ltb a b || (eqb a b && true)) ≡ leb a b
 less-or-same a b = go (leb a b) refl
   where
@@ -48,7 +48,7 @@ greatest : maxMagnitude ≡ fin false 1 (pos 20)
 unfolding evaluate
 greatest = refl
 
--- A / c of it, as the two sides of the comparison have it.
+-- The two sides of the comparison may be multiplied across.
 crossed : (x a d u g : ℕ) → 0 < d → 0 < u → x * u ≡ a * d → leb (x * 1) (1 * g * d) ≡ leb a (g * u)
 crossed x a d u g p q e =
     same-leb (x * 1) (1 * g * d) a (g * u)
@@ -76,7 +76,7 @@ low-fields s t h =
     ∙ le-leb (t * 2 ^ 0) (2 ^ 1094) (le-trans (le-of-eq (mul-one t)) (le-trans (le-of-lt h) (pow-mono {i = 52} {j = 1094} (lit≤ tt))))
     ∙ sym (le-leb (0 * 2 ^ 52 + t) most (omega arith))
 
--- With a leading digit.
+-- The test holds of a pattern with a leading digit.
 shifted : (k t : ℕ) → t < 2 ^ 52 → leb ((2 ^ 52 + t) * 2 ^ k) (2 ^ 1094) ≡ leb (suc k * 2 ^ 52 + t) most
 shifted k t h = go (compare k 1042) (cmp k 1042)
   where

@@ -33,7 +33,7 @@ module _ (b : List ℕ) (i : ℕ) where
   unfolding field
   next-fits w h = field-fits (suc w) h
 
--- As many whole bytes as the bits up to n need.
+-- A position is whole by as many bytes as the bits up to n need.
 pub by-bytes : (n l : ℕ) → leb ((n + 7) / 8) l ≡ leb n (8 * l)
 by-bytes n l = go (leb n (8 * l)) refl
   where
@@ -55,12 +55,12 @@ module _ (b : List ℕ) (i : ℕ) where
       go true = refl
       go false = refl
 
-  -- A byte follows.
+  -- A byte follows, so the end does not pass.
   pub end-follows : (i + 7) / 8 < length b → false ≡ passes (end b i)
   unfolding filling
   end-follows h = rw (le-ltb (8 * length b - i) 8 (omega arith)) at (sym end-is)
 
-  -- Nothing is left.
+  -- Nothing is left, so the end passes.
   pub end-here : 8 * length b ≤ i → true ≡ passes (end b i)
   unfolding filling field
   end-here h = let e : 8 * length b - i ≡ 0 = omega arith in rw e at (sym end-is)

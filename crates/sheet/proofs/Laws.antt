@@ -1,4 +1,4 @@
--- What callers use of a judgement: of a sheet that passes, the header's E and I are those of its solid, and they are small.
+-- Callers use this of a judgement: of a sheet that passes, the header's E and I are those of its solid, and they are small.
 -- Assumes nothing.
 use mathlib.Core.Path.{_≡_, refl, sym, _∙_, ap, subst}
 use mathlib.Core.Logic.{inl, inr}
@@ -31,14 +31,14 @@ unfolding range
 map-range f a zero = refl
 map-range f a (suc n) = ap (λ l. f (suc a) ∷ l) (map-range f (suc a) n)
 
--- g of each of the ranks q, of which others may follow
+-- The sum of g over the ranks q does not go by what follows them.
 over : (g : List (List ℕ) → ℕ) (q t : Solid) → sum (map (λ r. g (getD (q ++ t) r [])) (range 0 (length q))) ≡ sum (map g q)
 unfolding range sum
 over g [] t = refl
 over g (x ∷ q) t =
     ap (λ z. g x + sum z) (map-range (λ r. g (getD (x ∷ (q ++ t)) r [])) 0 (length q)) ∙ ap (λ z. g x + z) (over g q t)
 
--- E and I of a solid by its proper ranks
+-- The proper ranks tell E and I of a solid.
 tall : (q t : Solid) → length t ≡ 1 → top (([] ∷ []) ∷ (q ++ t)) ≡ length q + 1
 tall q t e = let h = length-append q t in omega arith
 
@@ -94,7 +94,7 @@ ranks-read b (c ∷ d ∷ l) i y e =
     more : (a u n : ℕ) → 0 + a ≤ maxEntries → u ≤ maxEntries * suc n → a + u ≤ maxEntries * suc (suc n)
     more a u n h g = omega arith
 
--- Of a sheet that passes.
+-- A sheet that passes has these numbers and lists.
 record Said (p : Parsed) : Type 0 where
   low : p .rank ≤ maxRank
   flat : p .dimension ≤ maxDimension
@@ -129,7 +129,7 @@ said b p = go (sheet b 0) refl
 
 -- ---- the laws
 
--- The solid's ranks, by R and the counts.
+-- The solid's ranks are told by R and the counts.
 module _ (ls : List (List (List ℕ))) where
   solidBy : ℕ → List ℕ → Solid
   solidBy R counts = elim R as (λ z. Solid) [ zero ↦ ([] ∷ []) ∷ [] | suc r ↦ withTop (([] ∷ []) ∷ properLists counts ls) ]
@@ -155,7 +155,7 @@ module _ (ls : List (List (List ℕ))) where
   entries-by (suc r) [] h e = unfold entries range in (ap allEntries (sym (no-lists e)))
   entries-by (suc r) (c ∷ counts) h e = entries-of (replicate c (0 ∷ [])) ls _ refl
 
--- numbers of at most m add up to at most m times their count
+-- Numbers of at most m add up to at most m times their count.
 sum-small : (m : ℕ) (l : List ℕ) → ((n : ℕ) → In n l → n ≤ m) → sum l ≤ m * length l
 unfolding sum
 sum-small m [] h = omega arith
@@ -165,7 +165,7 @@ sum-small m (x ∷ l) h =
     let c : m * suc (length l) ≡ m * length l + m = mul-suc m (length l) in
     omega arith
 
--- A header's numbers within the limits, so that what a caller works out of them fits.
+-- A header's numbers are within the limits, so that what a caller works out of them fits.
 pub record Small (h : Header) : Type 0 where
   pub rank : h .rank ≤ maxRank
   pub dimension : h .dimension ≤ maxDimension
@@ -174,7 +174,7 @@ pub record Small (h : Header) : Type 0 where
   pub entries : h .entries ≤ maxEntries * proper
 
 module _ (b : List ℕ) (p : Parsed) (e : readSheet b ≡ passed p) where
-  -- E and I are the solid's
+  -- The header's E and I are the solid's.
   pub elements-is : elements (solidOf p) ≡ (headerOf p) .elements
   unfolding solidOf headerOf solidBy
   elements-is = let s = said b p e in elements-by (p .lists) (p .rank) (p .counts) (s .few) (s .ranks .sizes)

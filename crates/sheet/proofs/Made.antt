@@ -1,4 +1,4 @@
--- All that comes after R and D, and the whole sheet.
+-- This file has all that comes after R and D, and the whole sheet.
 -- Assumes nothing.
 use mathlib.Core.Path.{_≡_, refl, sym, _∙_, ap}
 use mathlib.Core.Logic.{inl, inr}
@@ -41,7 +41,7 @@ place-of (passed x) = refl
 pub uncounted : (why : Refusal) (o : Judged (List ℕ × ℕ)) (r : Counted) → r ≡ countedOf o → r .place ≡ place.Refused why → o ≡ refused why
 uncounted why o r e f = place-refused why o (sym f ∙ ap (λ (z : Counted). z .place) e ∙ place-of o)
 
--- The counts that were read, and what the array and the sum say of them.
+-- The counts that were read are a list, and the array and the sum are told by it.
 pub record Counts (b : List ℕ) (n i p : ℕ) (r : Counted) : Type 0 where
   pub list : List ℕ
   pub read : times n (count b) i ≡ passed (list, p)
@@ -107,7 +107,7 @@ module _ (b : List ℕ) (R D : ℕ) (l : List ℕ) where
   made : Judged (List (List (List ℕ)) × ℕ) → Judgement
   made o = judgedWith R D (padded l) (sum l) (listedOf allEntries 0 o)
 
-  -- The end, the lists and the coordinates, from the last to the first.
+  -- The end, the lists and the coordinates are taken from the last to the first.
   end-made : (points : List (List Float)) (ls : List (List (List ℕ))) (i : ℕ) → made ((end b >> done ls) i) ≡ judgementAt ((end b >> done (parsed points ls)) i)
   unfolding made parsed judgedWith listedOf judgementAt judgementOf headerOf _>>_ done
   end-made points ls i = go (end b i)
@@ -156,7 +156,7 @@ module _ (b : List ℕ) (R D i : ℕ) where
   unfolding restAt after-counts parsed made
   rest-made {l} {p} e = body-made b R D l p ∙ sym (ap judgementAt (on (times (R - 1) (count b)) i after-counts e))
 
--- The same, by the array and the sum.
+-- The same holds by the array and the sum.
 pub rest-told : (b : List ℕ) (R D i p : ℕ) (r : Counted) (x : Counts b (R - 1) i p r) → R ≤ maxRank → (u : Listed)
     → u ≡ listedOf allEntries 0 (bodyAt b (vertexCount R (take (R - 1) (r .counts))) D (take (R - 1) (r .counts)) p)
     → judgedWith R D (r .counts) (r .elements) u ≡ judgementAt (restAt b R D i)

@@ -1,4 +1,4 @@
--- The parts of a sheet, put together.
+-- The parts of a sheet are put together.
 -- Assumes nothing.
 use mathlib.Core.Path.{_≡_, refl, sym, _∙_, ap}
 use Prim.Native.Nat.{ℕ, zero, suc, _+_, _-_, _*_, _≤_, _<_, zero-le}
@@ -56,7 +56,7 @@ end-passed b i = go (ltb (8 * length b - i) 8 && eqb (field b i (8 * length b - 
 
 -- ---- the coordinates, one after another
 
--- One reading, then a place that goes by where it ends.
+-- One reading comes first, and then a place that goes by where it ends.
 thenPlace : {A : Type 0} → Judged (A × ℕ) → (ℕ → Place) → Place
 thenPlace (refused why) f = place.Refused why
 thenPlace (passed x) f = f (x .1)
@@ -67,7 +67,7 @@ module _ {A : Type 0} (m : Reader A) where
   then-after a (refused why) f = refl
   then-after a (passed x) f = refl
 
-  -- n readings after d are d + n
+  -- After d readings, n more make d + n.
   times-add : (n d i : ℕ) → placeOf (times (d + n) m i) ≡ thenPlace (times d m i) (λ j. placeOf (times n m j))
   unfolding thenPlace times done placeOf
   times-add n zero i = rw zero-add
@@ -80,7 +80,7 @@ module _ {A : Type 0} (m : Reader A) where
           ap placeOf (times-on m (d + n) i e) ∙ place-after (x .0) (times (d + n) m (x .1)) ∙ f (x .1)
           ∙ sym (ap (λ z. thenPlace z (λ j. placeOf (times n m j))) (times-on m d i e) ∙ then-after (x .0) (times d m (x .1)) (λ j. placeOf (times n m j)))
 
-  -- n times d readings are n * d
+  -- Reading d at a time, n times, makes n * d readings.
   pub flat : (n d i : ℕ) → placeOf (times n (times d m) i) ≡ placeOf (times (n * d) m i)
   unfolding thenPlace times done placeOf
   flat zero d i = rw zero-mul
@@ -96,7 +96,7 @@ module _ {A : Type 0} (m : Reader A) where
 -- ---- the coordinates, the lists and the end
 
 module _ (b : List ℕ) (n D : ℕ) (counts : List ℕ) (i : ℕ) where
-  -- Once the coordinates are read.
+  -- This is what is read after the coordinates.
   tail : Reader (List (List (List ℕ)))
   tail = lists b counts >>= λ ls. end b >> done ls
 

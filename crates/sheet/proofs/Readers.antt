@@ -1,4 +1,4 @@
--- How the readers of section 2 go, one field at a time.
+-- The readers of section 2 go one field at a time.
 -- Assumes nothing.
 use mathlib.Core.Path.{_≡_, refl, sym, _∙_, ap, subst}
 use Prim.Native.Nat.{ℕ, zero, suc, _+_, _*_, _≤_, _<_}
@@ -33,7 +33,7 @@ module _ {A B : Type 0} (m : Reader A) (i : ℕ) where
   unfolding _>>=_
   on k e = rw (e, _>>=_)
 
-  -- Where the value does not matter.
+  -- The value that was read does not matter here.
   pub stop-too : (k : Reader B) {why : Refusal} → m i ≡ refused why → (m >> k) i ≡ refused why
   unfolding _>>_
   stop-too k e = rw (e, _>>_)
@@ -42,7 +42,7 @@ module _ {A B : Type 0} (m : Reader A) (i : ℕ) where
   unfolding _>>_
   on-too k e = rw (e, _>>_)
 
--- What was read before a list.
+-- What was read before a list joins it.
 unfoldable pub after : {A : Type 0} → A → Judged (List A × ℕ) → Judged (List A × ℕ)
 after a (refused why) = refused why
 after a (passed x) = passed (a ∷ x .0, x .1)
@@ -66,7 +66,7 @@ module _ (b : List ℕ) (w i : ℕ) where
   unfolding bits
   bits-whole e = rw (e, bits)
 
-  -- judged, and what comes after it
+  -- A field is judged, and something comes after it.
   module _ {B : Type 0} (why : Refusal) (t : ℕ → Bool) (k : ℕ → Reader B) where
     pub cut-field : leb (i + w) (8 * length b) ≡ false → (bits b w >>= λ n. judge why (t n) >> k n) i ≡ refused CutSheet
     cut-field e = stop (bits b w) i _ (bits-cut e)
@@ -79,7 +79,7 @@ module _ (b : List ℕ) (w i : ℕ) where
     unfolding judge _>>_
     good-field e f = on (bits b w) i _ (bits-whole e) ∙ rw f
 
--- A test, and what comes after it.
+-- A test is made, and something comes after it.
 module _ {B : Type 0} (why : Refusal) (k : Reader B) (i : ℕ) where
   judge-bad : (t : Bool) → t ≡ false → (judge why t >> k) i ≡ refused why
   unfolding judge _>>_
@@ -193,7 +193,7 @@ unfolding judge
 judge-size why true i x e = ap (λ z. z .1) (sym (same (tt, i) x e))
 judge-size why false i x e = absurd (never why x e)
 
--- As many subs as were asked for, 11 bits each.
+-- There are as many subs as were asked for, 11 bits each.
 pub sub-size : (b : List ℕ) (c n low i : ℕ) (y : List ℕ × ℕ) → subList b c n low i ≡ passed y → (length (y .0) ≡ n) × (y .1 ≡ i + 11 * n)
 unfolding subList done
 sub-size b c zero low i y e = subst (λ (z : List ℕ × ℕ). (length (z .0) ≡ 0) × (z .1 ≡ i + 11 * 0)) (same ([], i) y e) (refl, omega arith)
@@ -210,7 +210,7 @@ sub-size b c (suc n) low i y e =
     far : (i j k l n : ℕ) → j ≡ i + 11 → k ≡ j → l ≡ k + 11 * n → l ≡ i + 11 * suc n
     far i j k l n p q r = omega arith
 
--- A list's length and its subs; the rank's entries stay within the limit.
+-- A list has its length and its subs, and the rank's entries stay within the limit.
 pub list-size : (b : List ℕ) (c used i : ℕ) (y : List ℕ × ℕ) → list b c used i ≡ passed y → (used + length (y .0) ≤ maxEntries) × (y .1 ≡ i + 12 + 11 * length (y .0))
 unfolding list
 list-size b c used i y e =

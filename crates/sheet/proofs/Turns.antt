@@ -1,4 +1,4 @@
--- The turns of the loops. Each keeps "what is left gives what the whole gives", w: a turn that reads on keeps it, one that refuses ends with it,
+-- Each turn of the loops keeps "what is left gives what the whole gives", which is w: a turn that reads on keeps it, one that refuses ends with it,
 -- and so does the loop's end.
 -- Assumes nothing.
 use mathlib.Core.Path.{_≡_, refl, sym, _∙_, ap}
@@ -40,7 +40,7 @@ unfolding placeOf after
 place-after a (refused why) = refl
 place-after a (passed x) = refl
 
--- What a place says of its reading.
+-- A place tells this of its reading.
 module _ {A : Type 0} where
   pub place-refused : (why : Refusal) (o : Judged (A × ℕ)) → place.Refused why ≡ placeOf o → o ≡ refused why
   unfolding placeOf
@@ -119,7 +119,7 @@ module _ (m : Reader ℕ) (n k i e : ℕ) (a : List ℕ) {w : Counted} (left : c
   unfolding countsFrom times done sum
   counts-end h = sym (ap (λ z. countsFrom a e k (times z m i)) (none n k h) ∙ rw add-zero) ∙ left
 
--- As the loop begins: zeros, and no more than they have room for.
+-- The loop begins with zeros, and with no more counts than they have room for.
 drop-replicate : {A : Type 0} (n k : ℕ) (a : A) → drop k (replicate n a) ≡ replicate (n - k) a
 drop-replicate n zero a = rw sub-zero
 drop-replicate zero (suc k) a = rw zero-sub
@@ -136,7 +136,7 @@ counts-begin (passed x) f = rw (zero-add (sum (x .0)), filled (x .0) (f x refl))
 
 -- ---- lists
 
--- What a place is with the entries beside it.
+-- Puts the entries beside a place.
 unfoldable pub withEntries : ℕ → Place → Listed
 withEntries u (place.Refused why) = listed.Refused why
 withEntries u (place.At i) = listed.At i u
@@ -146,7 +146,7 @@ unfolding withEntries placeOf listedOf
 with-entries f used n (refused why) h = refl
 with-entries f used n (passed y) h = rw (h y refl)
 
--- One more list, or rank.
+-- One list more is read, or one rank.
 listed-after : {A : Type 0} (f : List A → ℕ) (g : A → ℕ) → ((a : A) (l : List A) → f (a ∷ l) ≡ g a + f l) → (used : ℕ) (a : A) (o : Judged (List A × ℕ)) → listedOf f used (after a o) ≡ listedOf f (used + g a) o
 unfolding listedOf after
 listed-after f g h used a (refused why) = refl
@@ -171,7 +171,7 @@ module _ {A : Type 0} (f : A → ℕ) (used : ℕ) where
   listed-at p u (refused y) e = absurd (let z : _≡_ {A = ℕ} 0 1 = cc in omega arith)
   listed-at p u (passed y) e = let q : y .1 ≡ p = cc in (y .0, ap (λ z. passed (y .0, z)) q, cc)
 
--- The lists of a rank.
+-- This is the loop over the lists of a rank.
 module _ (b : List ℕ) (c n k used i : ℕ) {w : Listed} (left : listedOf rankEntries used (listsAt b c (n - k) used i) ≡ w) where
   pub rank-refuses : k < n → {why : Refusal} → listed.Refused why ≡ listedOf length used (list b c used i) → listed.Refused why ≡ w
   unfolding listedOf
@@ -207,7 +207,7 @@ rank-fits b c n i p u e =
     far : (l : ℕ) → p ≡ i + 12 * n + 11 * l → u ≡ 0 + l → p ≡ i + 12 * n + 11 * u
     far l q r = omega arith
 
--- The lists of all ranks.
+-- This is the loop over the lists of all ranks.
 module _ (b : List ℕ) (c d e i : ℕ) (l : List ℕ) {w : Listed} (left : listedOf allEntries e (lists b (c ∷ d ∷ l) i) ≡ w) where
   pub ranks-refuse : {why : Refusal} → listed.Refused why ≡ listedOf rankEntries 0 (listsAt b c d 0 i) → listed.Refused why ≡ w
   unfolding listedOf
@@ -223,7 +223,7 @@ pub ranks-end : (b : List ℕ) (c e i : ℕ) {w : Listed} → listedOf allEntrie
 unfolding listedOf lists done allEntries sum
 ranks-end b c e i q = rw add-zero at q
 
--- The counts that are left, by the array that holds them.
+-- The counts that are left are those that the array holds.
 pub first-rank : (b l : List ℕ) (n i : ℕ) → lists b (getD l 0 0 ∷ drop 1 (take n l)) i ≡ lists b (take n l) i
 unfolding lists
 first-rank b l zero i = refl

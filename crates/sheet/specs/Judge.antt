@@ -1,4 +1,5 @@
--- What judging a sheet answers: the verdict of the preflight answers 1 to 4 and, for a sheet that passes, what it says apart from its coordinates and lists.
+-- Judging a sheet answers with the verdict of the preflight answers 1 to 4 and, for a sheet that passes, with what it says apart from its coordinates
+-- and lists.
 -- Assumes nothing.
 use Prim.Native.Nat.{ℕ, _-_}
 use mathlib.Core.List.{List, map, _++_}
@@ -11,22 +12,22 @@ use Rattle.sheet.specs.declared.Header.{Header}
 use Rattle.sheet.specs.declared.Verdict.the-variants as verdict
 use Rattle.sheet.specs.declared.Judgement.{Judgement}
 
--- How many proper ranks a sheet of the greatest R has.
+-- Counts the proper ranks of a sheet of the greatest R.
 abbrev pub proper : ℕ
 proper = maxRank - 1
 
--- The counts, filled up with zeros to the number of proper ranks of the greatest R.
+-- Fills the counts up with zeros to the number of proper ranks of the greatest R.
 unfoldable pub padded : List ℕ → List ℕ
 padded counts = counts ++ replicate (proper - length counts) 0
 
--- How many entries the lists of one rank have, and then how many those of all ranks have.
+-- These count the entries that the lists of one rank have, and then those that the lists of all ranks have.
 unfoldable pub rankEntries : List (List ℕ) → ℕ
 rankEntries ls = sum (map length ls)
 
 unfoldable pub allEntries : List (List (List ℕ)) → ℕ
 allEntries lists = sum (map rankEntries lists)
 
--- R, D and the counts, and the two numbers that refusal 7 uses: "E counts proper elements, I stored list entries".
+-- Gives R, D and the counts, and the two numbers that refusal 7 uses: "E counts proper elements, I stored list entries".
 unfoldable pub headerOf : Parsed → Header
 headerOf p = record {
   rank = p .rank;

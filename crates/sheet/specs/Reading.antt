@@ -1,4 +1,4 @@
--- What the pass over a sheet keeps of each reading of section 2: the bit where it ends, the counts, and the number of list entries.
+-- This file says what the pass over a sheet keeps of each reading of section 2: the bit where it ends, the counts, and the number of list entries.
 -- Assumes nothing.
 use Prim.Native.Nat.{ℕ, _+_, _-_}
 use mathlib.Core.Bool.{Bool, true, false}
@@ -14,22 +14,22 @@ use Rattle.sheet.specs.declared.Listed.the-variants as listed
 use Rattle.sheet.specs.declared.Judgement.{Judgement}
 use Rattle.sheet.specs.Judge.{padded, judgementOf}
 
--- What is kept of any reading: the bit after it.
+-- Of any reading, the bit after it is kept.
 unfoldable pub placeOf : {A : Type 0} → Judged (A × ℕ) → Place
 placeOf (refused why) = place.Refused why
 placeOf (passed x) = place.At (x .1)
 
--- What is kept of the counts: the bit after them, the counts and their sum.
+-- Of the counts, the bit after them, the counts and their sum are kept.
 unfoldable pub countedOf : Judged (List ℕ × ℕ) → Counted
 countedOf (refused why) = record { place = place.Refused why; counts = padded []; elements = 0 }
 countedOf (passed x) = record { place = place.At (x .1); counts = padded (x .0); elements = sum (x .0) }
 
--- What is kept of one list, of the lists of a rank, or of all lists: the bit after them, and the number of entries together with the `used` ones before.
+-- Of one list, of the lists of a rank, or of all lists, the bit after them is kept, and the number of entries together with the `used` ones before.
 unfoldable pub listedOf : {A : Type 0} → (A → ℕ) → ℕ → Judged (A × ℕ) → Listed
 listedOf n used (refused why) = listed.Refused why
 listedOf n used (passed x) = listed.At (x .1) (used + n (x .0))
 
--- What is kept of the end: whether it passes.
+-- Of the end, it is kept whether it passes.
 unfoldable pub passes : {A : Type 0} → Judged A → Bool
 passes (refused why) = false
 passes (passed x) = true
@@ -37,7 +37,7 @@ passes (passed x) = true
 -- ---- parts of the sheet's own reader
 
 module _ (b : List ℕ) where
-  -- The coordinates, the lists and the end, without the coordinates' values.
+  -- Reads the coordinates, the lists and the end, without the coordinates' values.
   unfoldable pub bodyAt : ℕ → ℕ → List ℕ → Reader (List (List (List ℕ)))
   bodyAt n D counts = do
     times n (times D (coordinate b))
@@ -45,7 +45,7 @@ module _ (b : List ℕ) where
     end b
     done ls
 
-  -- All that comes after R and D.
+  -- Reads all that comes after R and D.
   unfoldable pub restAt : ℕ → ℕ → Reader Parsed
   restAt R D = do
     counts ← times (R - 1) (count b)
@@ -54,7 +54,7 @@ module _ (b : List ℕ) where
     end b
     done (record { rank = R; dimension = D; counts = counts; points = points; lists = ls })
 
--- What is kept of a whole sheet.
+-- Gives what is kept of a whole sheet.
 unfoldable pub judgementAt : Judged (Parsed × ℕ) → Judgement
 judgementAt (refused why) = judgementOf (refused why)
 judgementAt (passed x) = judgementOf (passed (x .0))

@@ -1,4 +1,4 @@
--- What stands within the bounds while flags are tried: the vertices' coordinates lie in the floats, and are the searched solid's points.
+-- While flags are tried, the vertices' coordinates lie in the floats, and are the searched solid's points.
 -- Assumes nothing.
 use mathlib.Core.Path.{_≡_, sym, ap, subst, _∙_}
 use mathlib.Core.List.{List, map}
@@ -29,7 +29,7 @@ vertices-proper s h = go (top s - 1) (omega arith)
     go (suc n) k = omega arith
 
 module _ {sh : Shape} {low : ℕ} {ws : List ℕ} {fs : List Float} {at : ℕ} (h : Searching sh low ws fs at) where
-  -- There is a vertex after the least, and how many there are.
+  -- There is a vertex after the least, and the vertices are counted.
   pub rising : firstAt sh 1 ≤ firstAt sh 2
   rising = omega (arith, h .bench .held .some 1 (omega (arith, h .tall)))
 
@@ -52,7 +52,7 @@ module _ {sh : Shape} {low : ℕ} {ws : List ℕ} {fs : List Float} {at : ℕ} (
   points-many = length-parts (size (absIn sh (take low ws)) 1) (sh .dimension) (take (size (absIn sh (take low ws)) 1 * sh .dimension) fs) ∙ vertices-are
 
   module _ (v : ℕ) (many : v ≡ sizeAt sh 1) where
-    -- The points, v of them as the code reads them.
+    -- The points are v in number, as the code reads them.
     pub points-read : solidAt sh low ws fs .points ≡ parts v (sh .dimension) fs
     points-read = points-are ∙ ap (λ n. parts n (sh .dimension) fs) (vertices-are ∙ sym many)
 

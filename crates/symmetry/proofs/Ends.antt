@@ -1,4 +1,4 @@
--- The members are listed: after the last flag, and at the first member that has no room.
+-- The members are listed, after the last flag, or at the first member that has no room.
 -- Assumes nothing.
 use mathlib.Core.Path.{_≡_, sym, ap, ap₂, _∙_}
 use mathlib.Core.Bool.{Bool, true, false}
@@ -19,7 +19,7 @@ use Rattle.symmetry.proofs.Running.{running-end}
 use Rattle.symmetry.proofs.Going.{Going}
 
 module _ (w : Setting) (rot : Bool) (m : Room) (d v : ℕ) (shape : Fit d v w) (Fs : List Flag) (ms ms′ : List Float) (rs rs′ : List ℕ) (n : ℕ) where
-  -- `done` is what fits
+  -- The members `done` are those that fit.
   ended : (done : List Member) → fitting m d v 0 (given w rot Fs) ≡ done → n ≡ length done → (b : Bool) → b ≡ ltb n (length (given w rot Fs))
       → ms′ ≡ written (matrixCells done) ms → rs′ ≡ written (rowCells done) rs → Listed w rot m Fs (record { count = n; short = b }) ms ms′ rs rs′
   unfolding keptIn

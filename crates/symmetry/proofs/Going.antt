@@ -1,4 +1,4 @@
--- The outputs while flags are tried: the members listed so far stand in them, and the next one goes to the part after those.
+-- While flags are tried, the members listed so far stand in the outputs, and the next one goes to the part after those.
 -- Assumes nothing.
 use mathlib.Core.Path.{_≡_, refl, sym, ap, ap₂, _∙_, subst}
 use Prim.Native.Nat.{ℕ, suc, _+_, _-_, _*_, _≤_}
@@ -29,7 +29,7 @@ use Rattle.symmetry.proofs.Running.{matrix-one, row-one, running-first,
 
 -- ---- the loop
 
--- ms and rs are the outputs as they were lent, ms′ and rs′ as they are; the flags `left` are to come, and n members are listed
+-- The outputs ms and rs are as they were lent, ms′ and rs′ as they are; the flags `left` are to come, and n members are listed.
 pub record Going (w : Setting) (rot : Bool) (m : Room) (d v : ℕ) (Fs left : List Flag) (ms ms′ : List Float) (rs rs′ : List ℕ) (n : ℕ) : Type 0 where
   pub done : List Member
   pub running : Running w rot m d v Fs left done
@@ -63,7 +63,7 @@ room-left m d v n h =
 module _ (w : Setting) (rot : Bool) (m : Room) (d v : ℕ) (shape : Fit d v w) (Fs : List Flag) (F : Flag) (left : List Flag)
     (ms ms′ : List Float) (rs rs′ : List ℕ) (n : ℕ) (es : m .floats ≡ length ms) (er : m .entries ≡ length rs)
     (g : Going w rot m d v Fs (F ∷ left) ms ms′ rs rs′ n) where
-  -- The parts after the finished members.
+  -- These are the parts after the finished members.
   abbrev pub matrixPart : List Float
   matrixPart = midOf (n * (d * d)) (length ms′ - n * (d * d)) ms′
 
@@ -85,7 +85,7 @@ module _ (w : Setting) (rot : Bool) (m : Room) (d v : ℕ) (shape : Fit d v w) (
   unfolding long
   entries-in = rw (long, ← er) (g .room .rows)
 
-  -- What trying the flag came to.
+  -- Trying the flag came to t.
   module _ (t : Tried) (p : List Float) (q : List ℕ)
       (e : _≡_ {A = Tried × List Float × List ℕ} (t, p, q) (tried (gives w rot F) (fits d v (length matrixPart) (length rowPart) (m .marks - n)) matrixPart rowPart)) where
     abbrev pub matricesThen : List Float
@@ -94,7 +94,7 @@ module _ (w : Setting) (rot : Bool) (m : Room) (d v : ℕ) (shape : Fit d v w) (
     abbrev pub rowsThen : List ℕ
     rowsThen = putMid (n * v) (length rs′ - n * v) rs′ q
 
-    -- What stands then.
+    -- This is what stands then.
     unfoldable pub Then : Tried → Type 0
     Then Skipped = Going w rot m d v Fs left ms matricesThen rs rowsThen n
     Then Added = Going w rot m d v Fs left ms matricesThen rs rowsThen (suc n)
@@ -127,7 +127,7 @@ module _ (w : Setting) (rot : Bool) (m : Room) (d v : ℕ) (shape : Fit d v w) (
         go true h = passing (tested w (candidate w F)) refl h
         go false h = absurd (Option·none-ne-some x h)
 
-    -- The three cases, of a member and of the room.
+    -- There are three cases, of a member and of the room.
     module _ (k : _≡_ {A = Tried × List Float × List ℕ} (t, p, q) (tried none true matrixPart rowPart)) (o : gives w rot F ≡ none) where
       skipped : Going w rot m d v Fs left ms matricesThen rs rowsThen n
       unfolding tried same-matrices same-rows

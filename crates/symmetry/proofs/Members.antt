@@ -1,4 +1,4 @@
--- The loop over the flags: what stands before each flag, and what trying it makes of that.
+-- In the loop over the flags, this is what stands before each flag, and what trying it makes of that.
 -- Assumes nothing.
 use mathlib.Core.Path.{_≡_, refl, sym, subst, _∙_}
 use mathlib.Core.Bool.{Bool, true, false}
@@ -28,7 +28,7 @@ use Rattle.symmetry.proofs.Bounds.{points-many}
 use Rattle.symmetry.proofs.Going.{Going, going-first, floats-in, entries-in, Then, after}
 use Rattle.symmetry.proofs.Ends.{all-listed, short-listed}
 
--- The setting, whatever solid was read; and the room that is lent.
+-- These are the setting, whatever solid was read, and the room that is lent.
 abbrev pub settingAt : Shape → ℕ → List ℕ → List Float → List (List Float) → Concrete → Setting
 settingAt sh low ws fs inv c = settingOf c (solidAt sh low ws fs) (stateIn sh low ws) (corner (sh .dimension) inv)
 

@@ -1,4 +1,4 @@
--- A candidate's test, from the row that is found and the examples that go under it.
+-- A candidate's test goes by the row that is found and the examples that go under it.
 -- Assumes nothing.
 use mathlib.Core.Path.{_≡_, sym, ap, ap₂, _∙_}
 use mathlib.Core.Bool.{Bool, true, false, _&&_}

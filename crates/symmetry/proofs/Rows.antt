@@ -1,4 +1,4 @@
--- The rows of a matrix, one after another.
+-- The rows of a matrix stand one after another.
 -- Assumes nothing.
 use mathlib.Core.Path.{_≡_, sym, ap}
 use mathlib.Core.List.{List, [], _∷_, _++_, map, map-append, append-nil}
@@ -11,7 +11,7 @@ use Rattle.spec.specs.Lists.{join}
 use Rattle.float.specs.Reading.{leading}
 use Rattle.ranked.proofs.store.Listing.{join-append}
 
--- One row more.
+-- One row more joins those before it.
 pub rows-next : (d i : ℕ) (m : List (List Float)) → i < length m → join (leading i d m) ++ take d (getD m i []) ≡ join (leading (i + 1) d m)
 unfolding leading join
 rows-next d i m h =

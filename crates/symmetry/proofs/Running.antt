@@ -1,4 +1,4 @@
--- The members listed, one flag after another: what each flag adds, and what stands at the end.
+-- The members are listed one flag after another, and this file says what each flag adds, and what stands at the end.
 -- Assumes nothing.
 use mathlib.Core.Path.{_≡_, refl, sym, ap, _∙_}
 use Prim.Native.Nat.{ℕ, zero, suc, _+_, _*_, _≤_}
@@ -23,12 +23,12 @@ use Rattle.spec.specs.Calls.{Room, haveRoom, fitting, Outcome, keptOf, outcome,
 use Rattle.symmetry.specs.Tails.{wantedOf, listed, ends}
 use Rattle.symmetry.specs.Listing.{listedIf, gives, given, matrixCells, rowCells, Running, keptIn, answerOf, outsOf}
 
--- A member, where there is one, before the others.
+-- Puts a member, where there is one, before the others.
 unfoldable pub before : Option Member → List Member → List Member
 before none ms = ms
 before (some x) ms = x ∷ ms
 
--- One flag more.
+-- One flag more gives its member, where it gives one.
 pub given-next : (w : Setting) (rot : Bool) (F : Flag) (Fs : List Flag) → given w rot (F ∷ Fs) ≡ before (gives w rot F) (given w rot Fs)
 unfolding given gives membersOf rotationsOf wantedOf listedIf before
 given-next w rot F Fs = go rot (sameTypes w F) (tested w (candidate w F))
@@ -46,7 +46,7 @@ given-next w rot F Fs = go rot (sameTypes w F) (tested w (candidate w F))
     go false true (some x) = refl
     go true true (some x) = rotates (isRotation x) x
 
--- The cells of one member more.
+-- The cells of one member more stand behind those before.
 cells-one : {A : Type 0} (f : Member → List A) (done : List Member) (x : Member) → join (map f (done ++ x ∷ [])) ≡ join (map f done) ++ f x
 unfolding join
 cells-one f done x = rw (map-append f done (x ∷ [])) (join-append (map f done) (f x ∷ []) ∙ ap (λ l. join (map f done) ++ l) (append-nil (f x)))
@@ -68,13 +68,13 @@ unfolding fitting
 fitting-no m d v n x l e = ap (λ b. elim b as (λ z. List Member) [ true ↦ x ∷ fitting m d v (suc n) l | false ↦ [] ]) e
 
 module _ (w : Setting) (rot : Bool) (m : Room) (d v : ℕ) (Fs : List Flag) where
-  -- at the first flag nothing is listed
+  -- At the first flag nothing is listed.
   pub running-first : Running w rot m d v Fs Fs []
   unfolding matrixCells rowCells join
   running-first = record { kept = refl; all = omega arith; floats = sym (zero-mul (d * d)); entries = sym (zero-mul v) }
 
   module _ (F : Flag) (rest : List Flag) (done : List Member) (i : Running w rot m d v Fs (F ∷ rest) done) where
-    -- A flag that gives none.
+    -- The flag gives no member.
     pub running-none : gives w rot F ≡ none → Running w rot m d v Fs rest done
     unfolding before
     running-none e =
@@ -86,7 +86,7 @@ module _ (w : Setting) (rot : Bool) (m : Room) (d v : ℕ) (Fs : List Flag) wher
       unfolding before
       coming = given-next w rot F rest ∙ ap (λ o. before o (given w rot rest)) e
 
-      -- One that gives a member for which there is room.
+      -- The flag gives a member for which there is room.
       pub running-next : haveRoom m d v (suc (length done)) ≡ true → length (join (x .matrix)) ≡ d * d → length (x .row) ≡ v → Running w rot m d v Fs rest (done ++ x ∷ [])
       unfolding coming
       running-next h a b =
@@ -100,7 +100,7 @@ module _ (w : Setting) (rot : Bool) (m : Room) (d v : ℕ) (Fs : List Flag) wher
             entries = rw (row-one done x, n, length-append (rowCells done) (x .row), i .entries, b) (omega arith);
           }
 
-      -- One for which there is none: 13.
+      -- The flag gives a member for which there is no room, which is refusal 13.
       pub running-short : haveRoom m d v (suc (length done)) ≡ false
           → (fitting m d v 0 (given w rot Fs) ≡ done) × (ltb (length done) (length (given w rot Fs)) ≡ true)
       unfolding coming
@@ -109,7 +109,7 @@ module _ (w : Setting) (rot : Bool) (m : Room) (d v : ℕ) (Fs : List Flag) wher
         lt-ltb (length done) (length (given w rot Fs)) (let l = rw coming at (i .all) in omega (arith, l)),
       )
 
-  -- After the last flag.
+  -- After the last flag, all members are listed.
   pub running-end : (done : List Member) → Running w rot m d v Fs [] done
       → (fitting m d v 0 (given w rot Fs) ≡ done) × (length (given w rot Fs) ≡ length done)
   unfolding given membersOf wantedOf rotationsOf fitting
@@ -134,7 +134,7 @@ fitting-few m d v n (x ∷ l) = go (haveRoom m d v (suc n)) (fitting-few m d v (
     go true h = omega (arith, h)
     go false h = omega arith
 
--- "then 12 or 13" of members of which some fit
+-- The answer is "then 12 or 13" for members of which some fit.
 written-kept : (old : SearchOut) (ms kept : List Member) (short : Bool) → length kept ≤ length ms → short ≡ ltb (length kept) (length ms)
     → searchWritten (keptOf ms kept) old ≡ (answerOf short (length kept), outsOf kept old)
 unfolding keptOf searchWritten answerOf outsOf matrixCells rowCells
@@ -149,7 +149,7 @@ written-kept old (x ∷ ms) kept short h e = rw e (go (length kept) (ltb (length
     go zero false q t = let z = ltb-false 0 (suc (length ms)) t in absurd (omega (arith, z))
     go (suc n) false q t = rw q refl
 
--- What a call gives once its members are listed.
+-- This is what a call gives once its members are listed.
 pub ends-listed : (w : Setting) (rot : Bool) (c : Concrete) (old : SearchOut) (short : Bool) → c .dimension ≡ w .searched .dimension → c .points ≡ w .searched .points
     → short ≡ ltb (length (keptIn w rot (roomOf old) (flags (w .searched .abs)))) (length (given w rot (flags (w .searched .abs))))
     → ends rot c (passed w) old ≡ (answerOf short (length (keptIn w rot (roomOf old) (flags (w .searched .abs)))), outsOf (keptIn w rot (roomOf old) (flags (w .searched .abs))) old)

@@ -1,4 +1,4 @@
--- The search's judgements one at a time: where a tail goes on, and what a call gives where it stops.
+-- The search's judgements are taken one at a time: where a tail goes on, and what a call gives where it stops.
 -- Assumes nothing.
 use mathlib.Core.Path.{_≡_, refl, ap}
 use Prim.Native.Nat.{ℕ}
@@ -33,7 +33,7 @@ pub wanted-yes : {A B : Type 0} (why : Refusal) (o : Option A) (k : A → Judged
 unfolding wanted _>>=_
 wanted-yes why o k a e = rw e refl
 
--- "8", and then 9
+-- The judgement behind refusal 8 comes first, and then 9.
 pub from8 : (c : Concrete) → setting c ≡ judge NotFull (full c) >> from9 c
 unfolding setting from9 from10 from15 from11 settingOf _>>=_
 from8 c = refl
@@ -43,12 +43,12 @@ pub refusal-ends : (rot : Bool) (c : Concrete) (why : Refusal) (old : SearchOut)
 unfolding ends listed outcome searchWritten written join _>>=_
 refusal-ends rot c why old = refl
 
--- What either call gives, by what preflight says of the sheet.
+-- Gives the answer and the outputs of either call, by what preflight says of the sheet.
 unfoldable pub after : Bool → Judged Concrete → SearchOut → Answer × SearchOut
 after rot (refused why) old = (Refused why 0, old)
 after rot (passed c) old = ends rot c (setting c) old
 
--- The members of a solid, by the setting that its search has.
+-- The members of a solid go by the setting that its search has.
 from-setting : (c : Concrete) (j : Judged Setting) → setting c ≡ j → (search c >>= (λ ms. passed (c, ms))) ≡ listed false c (setting c)
 unfolding search listed wantedOf _>>=_
 from-setting c (refused why) e = rw e refl

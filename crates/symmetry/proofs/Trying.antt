@@ -1,4 +1,4 @@
--- What trying a candidate comes to, and what trying a flag does.
+-- This file says what trying a candidate comes to, and what trying a flag does.
 -- Assumes nothing.
 use mathlib.Core.Path.{_≡_, refl, sym, ap, subst, _∙_}
 use mathlib.Core.Logic.{_⊎_, inl, inr}
@@ -46,7 +46,7 @@ module _ (d v k : ℕ) (o : Option Member) (ms : List Float) (rs : List ℕ) whe
     unfolding tried
     came-added h ms′ rs′ a b = rw (e, h, a, b) refl
 
--- What `fits` says.
+-- Where `fits` holds, there is room for the matrix and for the row.
 pub fits-means : (d v floats entries k : ℕ) → fits d v floats entries k ≡ true → (d * d ≤ floats) × (v ≤ entries)
 unfolding fits
 fits-means d v floats entries k e =
@@ -64,12 +64,12 @@ module _ (D : Concrete) (z : State) (m : Matrix) (rot : Bool) (d v k : ℕ) (ms 
   unfolding tested passing settingOf
   tested-is b e = ap (λ t. elim t as (λ u. Option Member) [ true ↦ some member | false ↦ none ]) (sym e)
 
-  -- It does not pass.
+  -- The candidate does not pass.
   pub candidate-not : false ≡ passing D z m → Came d v k (listedIf rot (tested (settingOf c D z i) m)) Skipped ms ms rs rs
   unfolding listedIf
   candidate-not e = came-none d v k _ ms rs (ap (listedIf rot) (tested-is false e))
 
-  -- It is no rotation, and only rotations are wanted.
+  -- The candidate is no rotation, and only rotations are wanted.
   pub candidate-turned : rot ≡ true → lt zeroF (determinant m) ≡ false → Came d v k (listedIf rot (tested (settingOf c D z i) m)) Skipped ms ms rs rs
   unfolding listedIf isRotation
   candidate-turned r e = came-none d v k _ ms rs (go (passing D z m) refl)
@@ -107,7 +107,7 @@ first-is {sh} {low} {ws} h e = subst (IsFlag (absIn sh (take low ws))) (sym e) (
 
 module _ {sh : Shape} {low : ℕ} {ws : List ℕ} {fs : List Float} {at : ℕ} (h : Searching sh low ws fs at) (z : State) (F G : Flag) (first : G ≡ firstFlag (absIn sh (take low ws)))
     (rot : Bool) (d v k : ℕ) (ms : List Float) (rs : List ℕ) (c : Concrete) (i : Matrix) where
-  -- The solid searched, whose points are read from all floats.
+  -- This is the solid searched, whose points are read from all floats.
   abbrev untaken : Concrete
   untaken = record { dimension = sh .dimension; points = parts (size (absIn sh (take low ws)) 1) (sh .dimension) fs; abs = absIn sh (take low ws) }
 
@@ -126,7 +126,7 @@ module _ {sh : Shape} {low : ℕ} {ws : List ℕ} {fs : List Float} {at : ℕ} (
   unfolding gives
   flag-not e = came-none d v k _ ms rs (ap (by (candidate (settingOf c (solidAt sh low ws fs) z i) F)) (types-are ∙ sym e))
 
-  -- It goes as its candidate m does.
+  -- The flag goes as its candidate m does.
   pub flag-is : true ≡ typesAgree z (sh .rank) F G → (m : Matrix) → m ≡ mulMat (flagColumns untaken F) i
       → (t : Tried) (ms′ : List Float) (rs′ : List ℕ) → Came d v k (listedIf rot (tested (settingOf c (solidAt sh low ws fs) z i) m)) t ms ms′ rs rs′
       → Came d v k (gives (settingOf c (solidAt sh low ws fs) z i) rot F) t ms ms′ rs rs′

@@ -1,4 +1,4 @@
--- A loop over the flags: what stands of the flags that are to come, and how many they are.
+-- A loop over the flags knows what stands of the flags that are to come, and how many they are.
 -- Assumes nothing.
 use mathlib.Core.Path.{_≡_, refl, sym, ap, subst, _∙_}
 use mathlib.Core.Bool.{Bool, true, false}
@@ -17,7 +17,7 @@ use Rattle.ranked.specs.Words.{absIn, Held}
 use Rattle.flag.specs.Reading.{Follows, Nth}
 use Rattle.flag.proofs.Numbered.{nth-next, nth-last}
 
--- F is flag number `from`, and P holds of the flags from it on
+-- Flag number `from` is F, and P holds of the flags from it on.
 pub record Turn (s : Solid) (F : Flag) (P : List Flag → Type 0) : Type 0 where
   pub from : ℕ
   pub flag : Nth s F from
@@ -26,11 +26,11 @@ pub record Turn (s : Solid) (F : Flag) (P : List Flag → Type 0) : Type 0 where
 pub turn-first : (s : Solid) (P : List Flag → Type 0) (F : Flag) → Nth s F 0 → P (flags s) → Turn s F P
 turn-first s P F n p = record { from = 0; flag = n; stands = p }
 
--- The measure: how many flags are to come.
+-- The measure is how many flags are to come.
 unfoldable pub toCome : Solid → Flag → ℕ
 toCome s F = length (flags s) - place eqList F (flags s)
 
--- x stands at i and nowhere before
+-- Where x stands at i and nowhere before, its place is i.
 place-first : (x : List ℕ) (l : List (List ℕ)) (i : ℕ) → i < length l → x ≡ getD l i [] → ((j : ℕ) → j < i → x ≡ getD l j [] → ⊥) → place eqList x l ≡ i
 unfolding place
 place-first x [] i h e f = absurd (omega arith)
@@ -48,7 +48,7 @@ module _ (sh : Shape) (w : List ℕ) (h : Held sh w) (P : List Flag → Type 0) 
   abbrev s : Solid
   s = absIn sh w
 
-  -- The flags after F.
+  -- These are the flags after F.
   abbrev pub later : List Flag
   later = drop (suc (t .from)) (flags s)
 
@@ -72,6 +72,6 @@ module _ (sh : Shape) (w : List ℕ) (h : Held sh w) (P : List Flag → Type 0) 
         let m = nth-next sh w h F more G f (t .from) n e in
         omega (arith, place-is F (t .from) n, place-is G (suc (t .from)) m, m .low)
 
-    -- F is the last flag
+    -- The last flag is F.
     pub turn-end : more ≡ false → (Q : List Flag → Type 0) → Q later → Q []
     turn-end e Q q = subst Q (drop-of-length-le (flags s) {i = suc (t .from)} (omega (arith, nth-last sh w h F more G f (t .from) (t .flag) e))) q

@@ -1,4 +1,4 @@
--- The members that a search writes out, one flag after another.
+-- A search writes out members, one flag after another.
 -- Assumes nothing.
 use mathlib.Core.Path.{_≡_}
 use Prim.Native.Nat.{ℕ, zero, suc, _+_, _*_}
@@ -21,20 +21,20 @@ use Rattle.symmetry.specs.declared.listing.Tried.the-variants.{Skipped, 
 use Rattle.symmetry.specs.declared.listing.Listing.{Listing}
 use Rattle.symmetry.specs.Tails.{wantedOf}
 
--- The member, if the call lists it: a search lists any member, and a rotations call only a rotation.
+-- Gives the member, if the call lists it: a search lists any member, and a rotations call only a rotation.
 unfoldable pub listedIf : Bool → Option Member → Option Member
 listedIf rot none = none
 listedIf rot (some x) = elim (not rot || isRotation x) [ true ↦ some x | false ↦ none ]
 
--- The member that a flag gives, if it is listed.
+-- Gives the member that a flag gives, if it is listed.
 unfoldable pub gives : Setting → Bool → Flag → Option Member
 gives w rot F = elim (sameTypes w F) [ true ↦ listedIf rot (tested w (candidate w F)) | false ↦ none ]
 
--- The listed members that some flags give.
+-- Lists the listed members that some flags give.
 unfoldable pub given : Setting → Bool → List Flag → List Member
 given w rot Fs = wantedOf rot (membersOf w Fs)
 
--- The cells that some members take: those of their matrices, and then those of their rows.
+-- These are the cells that some members take: those of their matrices, and then those of their rows.
 unfoldable pub matrixCells : List Member → List Float
 matrixCells ms = join (map (λ x. join (x .matrix)) ms)
 
@@ -50,13 +50,13 @@ pub record Running (w : Setting) (rot : Bool) (m : Room) (d v : ℕ) (Fs rest : 
 
 -- ---- one flag
 
--- What trying a flag comes to: it gives no listed member, its member is written, or there is no room for its member.
+-- Says what trying a flag comes to: it gives no listed member, its member is written, or there is no room for its member.
 unfoldable pub tried : Option Member → Bool → List Float → List ℕ → Tried × List Float × List ℕ
 tried none room ms rs = (Skipped, ms, rs)
 tried (some x) true ms rs = (Added, written (join (x .matrix)) ms, written (x .row) rs)
 tried (some x) false ms rs = (Short, ms, rs)
 
--- Whether a member of d * d floats and v row entries fits into what is left of the outputs, with k marks left.
+-- Tells whether a member of d * d floats and v row entries fits into what is left of the outputs, with k marks left.
 unfoldable pub fits : ℕ → ℕ → ℕ → ℕ → ℕ → Bool
 fits d v floats entries k = leb (d * d) floats && leb v entries && ltb 0 k
 
@@ -67,7 +67,7 @@ Came d v k o t ms ms′ rs rs′ = _≡_ {A = Tried × List Float × List ℕ} (
 
 -- ---- all flags
 
--- The members that fit, and so are written out.
+-- Lists the members that fit, and so are written out.
 unfoldable pub keptIn : Setting → Bool → Room → List Flag → List Member
 keptIn w rot m Fs = fitting m (w .searched .dimension) (length (w .searched .points)) 0 (given w rot Fs)
 
@@ -84,7 +84,7 @@ answerOf true n = Refused ShortSheet n
 answerOf false zero = Refused Blank 0
 answerOf false (suc n) = Done (suc n)
 
--- The outputs with some members written to them.
+-- Gives the outputs with some members written to them.
 unfoldable pub outsOf : List Member → SearchOut → SearchOut
 outsOf ms old = record {
   matrices = written (matrixCells ms) (old .matrices);

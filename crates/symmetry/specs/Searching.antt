@@ -1,4 +1,4 @@
--- The workspace while flags are tried: the solid searched, its types, and the prints of its vertex sets.
+-- While flags are tried, the workspace holds the solid searched, its types, and the prints of its vertex sets.
 -- Assumes nothing.
 use mathlib.Core.Path.{_≡_}
 use Prim.Native.Nat.{ℕ, _≤_}
@@ -31,6 +31,7 @@ pub record Searching (sh : Shape) (low : ℕ) (ws : List ℕ) (fs : List Float) 
   pub prints : Ready sh low ws at
   pub parted : Parted (solidAt sh low ws fs)
 
--- Whether the candidate m passes in the solid d with the types z: every vertex's image is found, and the images of the examples are vertex sets.
+-- Tells whether the candidate m passes in the solid d with the types z: every vertex's image is found, and the images of the examples are vertex
+-- sets.
 unfoldable pub passing : Concrete → State → Matrix → Bool
 passing d z m = every (λ v. ltb v (length (d .points))) (rowOf (d .points) m) && examplesGo (d .abs) z (rowOf (d .points) m)

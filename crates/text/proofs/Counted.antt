@@ -1,4 +1,4 @@
--- Sums of a list's first cells, and how many members there are of a kind.
+-- This file has sums of a list's first cells, and counts of the members of a kind.
 -- Assumes nothing.
 use mathlib.Core.Path.{_≡_, refl, sym, ap, _∙_}
 use mathlib.Core.Bool.{Bool, true, false}
@@ -37,7 +37,7 @@ count-no : (m : Matrix) (ms : List Matrix) → lt zeroF (determinant m) ≡ fals
 unfolding rotationCount
 count-no m ms e = rw (e, rotationCount)
 
--- One matrix.
+-- A matrix counts as one where its determinant is above 0, and as none otherwise.
 pub count-one : (m : Matrix) → lt zeroF (determinant m) ≡ true → 1 ≡ rotationCount (m ∷ [])
 unfolding rotationCount
 count-one m e = sym (count-yes m [] e)
@@ -65,7 +65,7 @@ count-most (m ∷ ms) = go (lt zeroF (determinant m)) refl (count-most ms)
     go true e ih = omega (arith, count-yes m ms e)
     go false e ih = omega (arith, count-no m ms e)
 
--- The matrices that a slice begins with, one more at a time.
+-- The matrices that a slice begins with are counted one more at a time.
 module _ (l : List Float) (d : ℕ) where
   abbrev pub counted : ℕ → ℕ
   counted n = rotationCount (map (parts d d) (parts n (d * d) l))
@@ -86,7 +86,7 @@ kept-no : (m : Member) (ms : List Member) → isRotation m ≡ false → rotatio
 unfolding rotationsOf
 kept-no m ms e = rw (e, rotationsOf)
 
--- Of members, whose matrices these are.
+-- The count of members' matrices is the count of the members.
 pub count-rotations : (ms : List Member) → rotationCount (map (λ x. x .matrix) ms) ≡ length (rotationsOf ms)
 unfolding rotationCount rotationsOf isRotation
 count-rotations [] = refl

@@ -1,4 +1,4 @@
--- The decimal digits of a number, a tenth's first; and how many there are.
+-- A number's decimal digits are a tenth's digits and one more, and there is a bound on how many there are.
 -- Assumes nothing.
 use mathlib.Core.Path.{_≡_, refl, sym, ap, _∙_}
 use mathlib.Core.Bool.{Bool, true, false}
@@ -60,7 +60,7 @@ decimal-long (suc k) n h = go (ltb n 10) refl (decimal-long k (n / 10))
         let q = ih (div-lt-iff-lt-mul {k = 10} {x = n} {y = 10 ^ suc k} (omega arith) .1 (rw (pow-suc 10 (suc k)) at h)) in
         omega (arith, ap length (decimal-more n t), length-append (decimal (n / 10)) ((48 + n % 10) ∷ []))
 
--- A word has at most 20 digits, a cell of 16 bits at most 5.
+-- A word has at most 20 digits, and a cell of 16 bits at most 5.
 pub decimal-word : (n : ℕ) → n < 2 ^ 64 → length (decimal n) ≤ 20
 decimal-word n h = decimal-long 19 n (omega arith)
 

@@ -1,4 +1,4 @@
--- A text grows: nothing, a byte, and one text after another.
+-- A text grows by nothing, by a byte, and by one text after another.
 -- Assumes nothing.
 use mathlib.Core.Path.{_≡_, refl, sym, ap, ap₂, _∙_}
 use mathlib.Core.List.{List, [], _∷_, _++_, append-assoc, append-nil}
@@ -17,7 +17,7 @@ pub puts-byte : (at x : ℕ) (old : List ℕ) → at < length old → Puts at (x
 puts-byte at x old h = record { room = omega arith; bytes = rw add-one (set-split old at x h ∙ sym (append-assoc (take at old) (x ∷ []) (drop (suc at) old))); stop = omega arith }
 
 module _ {at end : ℕ} {l old new : List ℕ} (p : Puts at l old new end) where
-  -- The buffer up to the text's end.
+  -- The buffer up to the text's end is what stood there, and the text.
   front : length (take at old ++ l) ≡ end
   front = length-append (take at old) l ∙ ap (λ (k : ℕ). k + length l) (length-take-le at old (omega (arith, p .room))) ∙ sym (p .stop)
 
@@ -63,6 +63,6 @@ puts-all at i s old new h g p = puts-is p (take-all i s g)
 
 -- ---- the whole text
 
--- up to its end the buffer holds what stood there and l
+-- Up to its end the buffer holds what stood there and l.
 pub puts-text : {at end : ℕ} {l old new : List ℕ} → Puts at l old new end → take end new ≡ take at old ++ l
 puts-text {at} {end} {l} {old} p = ap (take end) (split p) ∙ take-at (take at old ++ l) (drop end old) end (front p)

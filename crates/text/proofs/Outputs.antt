@@ -1,4 +1,4 @@
--- What the calls wrote is what is printed: the laws by which the lines from cells and numbers are those of document 01's results.
+-- What the calls wrote is what is printed: by these laws, the lines from cells and numbers are those of document 01's results.
 -- Assumes nothing.
 use mathlib.Core.Path.{_≡_, refl, sym, ap, ap₂, _∙_}
 use mathlib.Core.Logic.{inl, inr}
@@ -21,20 +21,20 @@ use Rattle.text.specs.Members.{membersText, rotationCount}
 use Rattle.text.proofs.Tables.{types-back}
 use Rattle.text.proofs.Counted.{counted, count-rotations, members-line}
 
--- What stands where l was written.
+-- Where l was written, l stands.
 take-written : {A : Type 0} (l old : List A) (n : ℕ) → length l ≡ n → take n (written l old) ≡ l
 unfolding written
 take-written l old n h = take-at l _ n h
 
--- The types of a types call.
+-- The types of a types call are read back from its cells.
 pub types-out : (ks : List ElementType) (old : List ℕ) → typesFrom (take (4 * length ks) (written (join (map typeCells ks)) old)) ≡ ks
 types-out ks old = ap typesFrom (take-written (join (map typeCells ks)) old (4 * length ks) (type-cells ks)) ∙ types-back ks
 
--- The marks of a search.
+-- The marks of a search add up as the members' marks do.
 pub marks-out : (ms : List Member) (old : List ℕ) → sum (take (length ms) (written (map (λ x. x .mark) ms) old)) ≡ sum (map (λ x. x .mark) ms)
 marks-out ms old = ap sum (take-written (map (λ x. x .mark) ms) old (length ms) (length-map ms (λ x. x .mark)))
 
--- lists of d cells each, one after another, are cut where they were joined
+-- Lists of d cells each, one after another, are cut where they were joined.
 parts-join : {A : Type 0} (d : ℕ) (ls : List (List A)) (rest : List A) → ((x : List A) → In x ls → length x ≡ d) → parts (length ls) d (join ls ++ rest) ≡ ls
 unfolding parts join
 parts-join d [] rest h = refl
@@ -43,12 +43,12 @@ parts-join {A} d (x ∷ ls) rest h =
     (ap₂ (λ (y : List A) (z : List (List A)). y ∷ z) (take-at x (join ls ++ rest) d (h x (inl refl)))
     (ap (parts (length ls) d) (drop-at x (join ls ++ rest) d (h x (inl refl))) ∙ parts-join d ls rest (λ y i. h y (inr i))))
 
--- The rows of a square matrix.
+-- The rows of a square matrix are cut where they were joined.
 square-back : (d : ℕ) (m : Matrix) → Square d m → parts d d (join m) ≡ m
 square-back d m s =
     ap₂ (λ (k : ℕ) (l : List Float). parts k d l) (sym (s .0)) (sym (append-nil (join m))) ∙ parts-join d m [] (s .1)
 
--- The matrices of a search.
+-- The matrices of a search are counted as its members are.
 pub rotations-out : (d : ℕ) (ms : List Member) (old : List Float) → ((x : Member) → In x ms → Square d (x .matrix))
     → rotationCount (map (parts d d) (parts (length ms) (d * d) (written (join (map (λ x. join (x .matrix)) ms)) old))) ≡ length (rotationsOf ms)
 unfolding written
@@ -61,7 +61,7 @@ rotations-out d ms old s =
     ∙ ap rotationCount (map-map f (parts d d) ms ∙ map-same (λ x. parts d d (f x)) (λ x. x .matrix) ms (λ x i. square-back d (x .matrix) (s x i)))
     ∙ count-rotations ms
 
--- So the line from what a search wrote is the line of its members.
+-- The line from what a search wrote is so the line of its members.
 pub members-out : (d : ℕ) (ms : List Member) (marks : List ℕ) (matrices : List Float) → ((x : Member) → In x ms → Square d (x .matrix))
     → membersText (length ms) (sum (take (length ms) (written (map (λ x. x .mark) ms) marks)))
     (rotationCount (map (parts d d) (parts (length ms) (d * d) (written (join (map (λ x. join (x .matrix)) ms)) matrices))))

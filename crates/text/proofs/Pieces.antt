@@ -1,4 +1,4 @@
--- The lines as the pieces that are put one after another, and room for each where there is room for the line.
+-- The lines are pieces that are put one after another, and there is room for each where there is room for the line.
 -- Assumes nothing.
 use mathlib.Core.Path.{_≡_, refl, sym, ap, ap₂, _∙_}
 use mathlib.Core.List.{List, [], _∷_, _++_, append-assoc}
@@ -13,7 +13,7 @@ use Rattle.spec.specs.KitText.{decimal, refusedLine, typeLine}
 use Rattle.text.specs.Members.{membersText}
 use Rattle.text.proofs.Decimals.{decimal-long, decimal-word}
 
--- A number behind its label.
+-- This is a number behind its label.
 abbrev pub part : List ℕ → ℕ → List ℕ
 part label n = label ++ decimal n
 

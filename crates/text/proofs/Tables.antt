@@ -1,4 +1,4 @@
--- The types of a table of four cells each, one more at a time; and how long their lines are.
+-- The types of a table of four cells each are read one more at a time, and their lines have bounded lengths.
 -- Assumes nothing.
 use mathlib.Core.Path.{_≡_, refl, sym, ap, ap₂, _∙_}
 use mathlib.Core.List.{List, [], _∷_, _++_, map, map-append, append-assoc, append-nil}
@@ -23,7 +23,7 @@ unfolding typesFrom join typeCells
 types-back [] = refl
 types-back (k ∷ ks) = ap (λ (l : List ElementType). k ∷ l) (types-back ks)
 
--- The type whose cells a list begins with.
+-- Gives the type whose cells a list begins with.
 abbrev pub typeOf : List ℕ → ElementType
 typeOf l = record { rank = getD l 0 0; number = getD l 1 0; example = getD l 2 0; count = getD l 3 0 }
 
@@ -55,7 +55,7 @@ lines-next t i h =
     ∙ ap join (map-append typeLine (typesFrom (take (4 * i) t)) (typeOf (drop (4 * i) t) ∷ []))
     ∙ join-snoc (map typeLine (typesFrom (take (4 * i) t))) (typeLine (typeOf (drop (4 * i) t)))
 
--- The cells that the code reads.
+-- The cells that the code reads are those of the type.
 pub type-read : (t : List ℕ) (p r n e c : ℕ) → r ≡ getD t p 0 → n ≡ getD t (p + 1) 0 → e ≡ getD t (p + 2) 0 → c ≡ getD t (p + 3) 0
     → typeLine (typeOf (drop p t)) ≡ typeLine (record { rank = r; number = n; example = e; count = c })
 type-read t p r n e c hr hn he hc =
@@ -115,7 +115,7 @@ module _ (t : List ℕ) (small : (i : ℕ) → getD t i 0 < 2 ^ 16) where
       cell : (j : ℕ) → getD (drop (4 * n) t) j 0 < 2 ^ 16
       cell j = rw (getD-drop (4 * n) t j 0) (small (4 * n + j))
 
-  -- 16-bit cells, and a number of types that is a word
+  -- The cells have 16 bits, and the number of types is a word.
   pub types-long : (n : ℕ) → 4 * n ≤ length t → n < 2 ^ 64 → length (typesLines (typesFrom (take (4 * n) t))) ≤ 27 + 24 * n
   unfolding ascii
   types-long n h w = rw (types-pieces t n h) (simp length-append (omega (arith, decimal-word n w, lines-long n h)))

@@ -1,4 +1,4 @@
--- The text of the members' line from its numbers alone, and how the rotations that it tells are counted.
+-- This file has the text of the members' line from its numbers alone, and says how the rotations that it tells are counted.
 -- Assumes nothing.
 use mathlib.Core.Bool.{true, false}
 use mathlib.Core.List.{List, [], _∷_, _++_}
@@ -9,12 +9,12 @@ use Rattle.spec.specs.Float.{zeroF}
 use Rattle.spec.specs.Matrix.{Matrix, determinant}
 use Rattle.spec.specs.KitText.{decimal}
 
--- The line of n members, of which c are confirmed and k are rotations.
+-- Gives the line of n members, of which c are confirmed and k are rotations.
 unfoldable pub membersText : ℕ → ℕ → ℕ → List ℕ
 membersText n c k =
     ascii "members " ++ decimal n ++ ascii " confirmed " ++ decimal c ++ ascii " rotations " ++ decimal k ++ ascii "\n"
 
--- How many matrices are "of determinant above 0".
+-- Counts the matrices that are "of determinant above 0".
 unfoldable pub rotationCount : List Matrix → ℕ
 rotationCount [] = 0
 rotationCount (m ∷ ms) = elim (lt zeroF (determinant m)) [ true ↦ suc (rotationCount ms) | false ↦ rotationCount ms ]

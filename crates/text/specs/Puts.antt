@@ -1,4 +1,4 @@
--- A text that grows in a lent buffer.
+-- A text grows in a lent buffer.
 -- Assumes nothing.
 use mathlib.Core.Path.{_≡_}
 use mathlib.Core.List.{List, _++_}

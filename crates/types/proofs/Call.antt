@@ -1,4 +1,4 @@
--- The call by its outcomes.
+-- The call goes by its outcomes.
 -- Assumes nothing.
 use mathlib.Core.Path.{_≡_, refl, sym, ap, _∙_}
 use mathlib.Core.Bool.{Bool, true, false, _&&_}
@@ -96,7 +96,7 @@ module _ (sh : Shape) (low : ℕ) (w : List ℕ) (a : Countable sh low w) (old :
   abbrev z : State
   z = stateIn sh low w
 
-  -- No more types than elements.
+  -- There are no more types than elements.
   pub types-few : typeCount s z ≤ length w
   unfolding typeCount elements
   types-few =

@@ -1,4 +1,4 @@
--- How many types a call can count.
+-- A call can count only so many types.
 -- Assumes nothing.
 use mathlib.Core.Path.{_≡_, refl, ap}
 use mathlib.Core.Option.{some}
@@ -23,7 +23,7 @@ use Rattle.element_types.proofs.Room.{sum-under}
 use Rattle.types.proofs.Rows.{many-few}
 use Rattle.types.proofs.Call.{types-counted}
 
--- at most 2,048 at each of four ranks
+-- There are at most 2,048 at each of four ranks.
 types-at-most : (b : List ℕ) (words floats : ℕ) (c : Concrete) (z : State) → preflight b words floats ≡ passed c → typesOf c ≡ some z → length (elementTypes (c .abs) z) ≤ 4 * maxCount
 unfolding typeCount properRanks
 types-at-most b words floats c z p e =

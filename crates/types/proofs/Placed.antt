@@ -1,4 +1,4 @@
--- The call, from what preflight and the sweeps leave in the workspace.
+-- The call starts from what preflight and the sweeps leave in the workspace.
 -- Assumes nothing.
 use mathlib.Core.Path.{_≡_, refl, sym, ap, _∙_}
 use mathlib.Core.List.{List}

@@ -1,4 +1,4 @@
--- What is given out of all proper ranks, one after another.
+-- The types are given out of all proper ranks, one after another.
 -- Assumes nothing.
 use mathlib.Core.Path.{_≡_, refl, sym, ap, ap₂, _∙_}
 use mathlib.Core.Logic.{_⊎_, inl, inr}
@@ -38,7 +38,7 @@ of-join {A} g x (r ∷ l) h = go (in-either x (g r) (join (map g l)) h) (λ (m :
     go (inl m) ih = (r, inl refl, m)
     go (inr m) ih = let z = ih m in (z .0, inr (z .1), z .2)
 
--- k of the n types that stand from word `from` are written
+-- Of the n types that stand from word `from`, k are written.
 pub record Copied (w : List ℕ) (from n : ℕ) (old of : List ℕ) (k : ℕ) : Type 0 where
   pub bound : k ≤ n
   pub cells : of ≡ sets old 0 (take k (take n (drop from w)))
@@ -53,7 +53,7 @@ module _ (sh : Shape) (low : ℕ) (w : List ℕ) where
   unfoldable pub cellsBelow : ℕ → List ℕ
   cellsBelow r = join (map cellsAt (range 1 (r - 1)))
 
-  -- m types, those of the ranks below r, are written
+  -- The m types of the ranks below r are written.
   pub record Tabled (old table : List ℕ) (m r : ℕ) : Type 0 where
     pub tally : Tally sh low w m r
     pub bound : r - 1 ≤ sh .rank - 1
@@ -84,7 +84,7 @@ module _ (sh : Shape) (low : ℕ) (w : List ℕ) (a : Countable sh low w) where
 
   -- ---- the type of each proper element
 
-  -- ranks that stand one after another
+  -- The types of ranks that stand one after another are one run of words.
   runs : (q n : ℕ) → q + n ≤ sh .rank → join (map (typesIn sh low w) (range q n)) ≡ take (firstAt sh (q + n) - firstAt sh q) (drop (low + firstAt sh q) w)
   unfolding join range typesIn
   runs q zero h = let e : firstAt sh (q + 0) - firstAt sh q ≡ 0 = rw add-zero (omega arith) in rw e refl
@@ -117,7 +117,7 @@ module _ (sh : Shape) (low : ℕ) (w : List ℕ) (a : Countable sh low w) where
           let p : 1 + (sh .rank - 1) ≡ sh .rank = omega arith in
           runs 1 (sh .rank - 1) (omega arith) ∙ ap (λ (k : ℕ). take (firstAt sh k - firstAt sh 1) (drop (low + firstAt sh 1) w)) p
 
-  -- They stand in the words.
+  -- The types stand in the words.
   pub types-in : low + firstAt sh 1 + proper sh ≤ length w
   types-in =
       let u = in-order sh (take low w) (a .held) 1 (suc (sh .rank)) (omega arith) (omega arith) in

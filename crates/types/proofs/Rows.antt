@@ -1,4 +1,4 @@
--- The types of a rank, four cells each, as a pass over its elements writes them: an element whose type is the next new number opens its record, any
+-- A pass over a rank's elements writes the rank's types, four cells each: an element whose type is the next new number opens its record, and any
 -- other adds 1 to its type's count.
 -- Assumes nothing.
 use mathlib.Core.Path.{_≡_, refl, sym, ap, ap₂, subst, _∙_}
@@ -125,7 +125,7 @@ module _ (o : ElementType) where
   count-cell (k ∷ ks) zero h = refl
   count-cell (k ∷ ks) (suc i) h = let e : 4 * suc i + 3 ≡ suc (suc (suc (suc (4 * i + 3)))) = omega arith in rw e (count-cell ks i (omega arith))
 
-  -- With another count.
+  -- Gives the record with another count.
   abbrev recount : ElementType → ℕ → ElementType
   recount k x = record { rank = k .rank; number = k .number; example = k .example; count = x }
 
@@ -215,7 +215,7 @@ cells-all r l o = ap (λ (d : List ℕ). cellsIn (map (describe r l) d)) (sym o)
 
 -- ---- the pass
 
--- Of the n elements e were passed, which have the types below k.
+-- Of the n elements, e were passed, and they have the types below k.
 pub record Rows (w : List ℕ) (from n r m : ℕ) (old table : List ℕ) (k e : ℕ) : Type 0 where
   pub bound : e ≤ n
   pub met : k ≡ length (distinct eqb (take e (take n (drop from w))))

@@ -1,4 +1,4 @@
--- Lists one after another, and cells that are written one after another.
+-- This file has lists one after another, and cells that are written one after another.
 -- Assumes nothing.
 use mathlib.Core.Path.{_≡_, refl, sym, ap, _∙_}
 use mathlib.Core.List.{List, [], _∷_, _++_, append-assoc}
@@ -16,7 +16,7 @@ module _ {A : Type 0} where
   join-append [] b = refl
   join-append (l ∷ a) b = ap (λ (x : List A). l ++ x) (join-append a b) ∙ sym (append-assoc l (join a) (join b))
 
-  -- More cells behind them.
+  -- More cells are written behind them.
   pub sets-append : (l : List A) (i : ℕ) (a b : List A) → sets l i (a ++ b) ≡ sets (sets l i a) (i + length a) b
   sets-append l i [] b = rw add-zero refl
   sets-append l i (x ∷ a) b =
@@ -28,7 +28,7 @@ module _ {A : Type 0} where
   set-below l k (v ∷ vs) i x h =
       set-below (set l k v) (suc k) vs i x (omega arith) ∙ ap (λ (z : List A). sets z (suc k) vs) (set-comm l k i v x (λ (e : k ≡ i). omega arith))
 
-  -- One of them anew.
+  -- One of the cells is written anew.
   pub set-sets : (l : List A) (i : ℕ) (a : List A) (j : ℕ) (x : A) → j < length a → set (sets l i a) (i + j) x ≡ sets l i (set a j x)
   set-sets l i [] j x h = absurd (omega arith)
   set-sets l i (y ∷ a) zero x h =
@@ -46,7 +46,7 @@ module _ {A : Type 0} where
       ∙ ap (λ (z : ℕ). getD (take i l ++ a) z d) (sym e)
       ∙ getD-append-add (take i l) a j d
 
-  -- From the first cell on.
+  -- Cells set from the first on are written over the list.
   pub sets-written : (l a : List A) → length a ≤ length l → sets l 0 a ≡ written a l
   unfolding written
   sets-written l a h =

@@ -1,4 +1,4 @@
--- What remains of the types call once preflight has passed, in the steps in which the program takes it.
+-- This file has what remains of the types call once preflight has passed, in the steps in which the program takes it.
 -- Assumes nothing.
 use mathlib.Core.Bool.{true, false, _&&_}
 use mathlib.Core.Option.{none, some}
@@ -16,7 +16,7 @@ use Rattle.spec.specs.Solid.{Concrete}
 use Rattle.spec.specs.Classes.{typesOf}
 use Rattle.spec.specs.Calls.{typeCells, TypesOut}
 
--- Refusal 13, or what is given out, where the sweeps ended in the state z.
+-- Gives refusal 13, or what is given out, where the sweeps ended in the state z.
 unfoldable pub handedOut : Solid → State → TypesOut → Answer × TypesOut
 handedOut s z old = elim (leb (length (given s z)) (length (old .elements)) && leb (4 * length (elementTypes s z)) (length (old .types))) [
   | false ↦ (Refused ShortSheet 0, old)
@@ -26,6 +26,6 @@ handedOut s z old = elim (leb (length (given s z)) (length (old .elements)) && l
   )
 ]
 
--- The answer for a solid c that has passed preflight: "the types call goes on with 15, 13".
+-- Gives the answer for a solid c that has passed preflight: "the types call goes on with 15, 13".
 unfoldable pub answered : Concrete → TypesOut → Answer × TypesOut
 answered c old = elim (typesOf c) [ none ↦ (Refused Unsettled 0, old) | some z ↦ handedOut (c .abs) z old ]

@@ -1,4 +1,4 @@
--- The cells of a rank's types, from the types of its elements.
+-- The cells of a rank's types come from the types of its elements.
 -- Assumes nothing.
 use mathlib.Core.Path.{_≡_}
 use mathlib.Core.List.{List, map}
@@ -10,11 +10,11 @@ use Rattle.spec.specs.Lists.{distinct, place, count, range, join}
 use Rattle.spec.specs.Types.{ElementType}
 use Rattle.spec.specs.Calls.{typeCells}
 
--- Type t of rank r, where the rank's elements have the types l.
+-- Gives type t of rank r, where the rank's elements have the types l.
 abbrev pub describe : ℕ → List ℕ → ℕ → ElementType
 describe r l t = record { rank = r; number = t; example = place eqb t l; count = count eqb t l }
 
--- The cells of all the types of rank r, where the rank's elements have the types l.
+-- Gives the cells of all the types of rank r, where the rank's elements have the types l.
 unfoldable pub cellsOf : ℕ → List ℕ → List ℕ
 cellsOf r l = join (map typeCells (map (describe r l) (distinct eqb l)))
 

@@ -1,4 +1,4 @@
--- Demand 3's claims about states, said of the cells that a types call leaves, so that a caller can rely on them.
+-- Demand 3's claims about states are said here of the cells that a types call leaves, so that a caller can rely on them.
 -- Assumes nothing.
 use mathlib.Core.Path.{_≡_}
 use mathlib.Core.Logic.{_≢_}
@@ -16,7 +16,7 @@ use Rattle.spec.specs.Classes.{classTable, byTable}
 use Rattle.spec.specs.Calls.{TypesOut, typesCall}
 use Rattle.distances.specs.Solids.{beforeIn}
 
--- The cell that holds the type of element e of rank r. The elements have their cells "by rising rank and index".
+-- Gives the cell that holds the type of element e of rank r. The elements have their cells "by rising rank and index".
 abbrev pub typeCell : Solid → List ℕ → ℕ → ℕ → ℕ
 typeCell s cells r e = getD cells (beforeIn s r + e) 0
 
@@ -26,7 +26,7 @@ pub record KeepsCell (s : Solid) (S : State) (cells row : List ℕ) (r e : ℕ) 
   pub after : typeOf S r (goes s row r e) ≡ typeOf S r e
   pub cell : typeCell s cells r (goes s row r e) ≡ typeCell s cells r e
 
--- What holds of a state S after a list of steps, and of the cells of the proper elements. The ranks of the least element and of the top have one
+-- This holds of a state S after a list of steps, and of the cells of the proper elements. The ranks of the least element and of the top have one
 -- element each, and no cell.
 pub record CellsAgree (s : Solid) (cls : Classes) (S : State) (cells : List ℕ) : Type 0 where
   -- Elements that S tells apart are told apart by the cells too.
@@ -36,7 +36,7 @@ pub record CellsAgree (s : Solid) (cls : Classes) (S : State) (cells : List ℕ)
   -- A row that the mark's rule confirms takes every proper element to one of its own rank and type, whose cell holds the same number.
   pub confirmed : (row : List ℕ) → marked s cls row ≡ true → (r e : ℕ) → Proper s r → e < size s r → KeepsCell s S cells row r e
 
--- Demand 3 of the sheet b, whose types stand in the cells.
+-- Demand 3 holds of the sheet b, whose types stand in the cells.
 pub record Demand3Cells (b : List ℕ) (words floats : ℕ) (cells : List ℕ) : Type 0 where
   pub solid : Concrete
   pub read : preflight b words floats ≡ passed solid
@@ -45,7 +45,7 @@ pub record Demand3Cells (b : List ℕ) (words floats : ℕ) (cells : List ℕ) :
       let cls = byTable (classTable solid) in
       CellsAgree (solid .abs) cls (play (solid .abs) (start (solid .abs) cls) xs) cells
 
--- Demand 3 of any call that is done. The equation is what the call's contract says.
+-- Demand 3 holds of any call that is done. The equation is what the call's contract says.
 abbrev pub Demand3Outputs : Type 0
 Demand3Outputs =
     (b : List ℕ) (words floats : ℕ) (old new : TypesOut) (n : ℕ) → (Done n, new) ≡ typesCall b words floats old → Demand3Cells b words floats (new .elements)

@@ -1,4 +1,4 @@
--- What a look at an element's vertices, or at its print, needs of the words.
+-- A look at an element's vertices, or at its print, needs this of the words.
 -- Assumes nothing.
 use mathlib.Core.Path.{_≡_, sym, ap, _∙_}
 use mathlib.Core.Logic.{_≢_}
@@ -38,11 +38,11 @@ module _ {sh : Shape} {w : List ℕ} (h : Held sh w) where
   pub many-is : (r : ℕ) → r < sh .rank → firstAt sh (r + 1) - firstAt sh r ≡ size (absIn sh w) r
   many-is r k = rw (add-one r) (sym (size-is sh w r (omega arith)))
 
-  -- No rank has more than 2,048.
+  -- No rank has more than 2,048 elements.
   pub few-here : (r e : ℕ) → r < sh .rank → e < firstAt sh (r + 1) - firstAt sh r → e < 2048
   few-here r e k i = let j : e < sizeAt sh r = rw (add-one r) at i in omega (arith, h .few r (omega arith))
 
--- An element as a loop over a rank comes to it.
+-- An element is one that a loop over a rank comes to.
 pub element : (sh : Shape) (r e : ℕ) → 1 ≤ r → r < sh .rank → e < firstAt sh (r + 1) - firstAt sh r → Element sh r e
 element sh r e l k i = record { low = l; high = k; inside = rw (add-one r) at i }
 
@@ -64,7 +64,7 @@ module _ {sh : Shape} {low : ℕ} {words : List ℕ} {at : ℕ} (a : Ready sh lo
   pub front-long : low ≡ length (take low words)
   front-long = sym (length-take-le low words low-in)
 
-  -- The word of an element's print.
+  -- The word of an element's print lies within the words.
   pub print-in : (r e : ℕ) → Element sh r e → at + firstAt sh r + e < length words
   print-in r e m = omega (arith, number-in sh (take low words) (a .held) r e (omega (arith, m .high)) (m .inside), a .printed .room)
 
@@ -88,14 +88,14 @@ module _ {sh : Shape} {low : ℕ} {words : List ℕ} {at : ℕ} (a : Ready sh lo
 
 -- ---- words that are ready
 
--- As they stand when the prints are written.
+-- The words are ready when the prints are written.
 pub ready-written : (sh : Shape) (low at : ℕ) (old new : List ℕ) → Held sh (take low old) → low ≤ at → take at new ≡ take at old → Printed sh (take low old) at new
     → Ready sh low new at
 ready-written sh low at old new h b k p =
     let e : take low new ≡ take low old = take-kept new old at low k b in
     record { held = rw e h; behind = b; printed = rw e p }
 
--- And as long as nothing up to the prints' end changes.
+-- They stay ready as long as nothing up to the prints' end changes.
 pub ready-kept : (sh : Shape) (low at : ℕ) (old new : List ℕ) → Ready sh low old at → at + total sh ≤ length new → take (at + total sh) new ≡ take (at + total sh) old
     → Ready sh low new at
 ready-kept sh low at old new a room k =

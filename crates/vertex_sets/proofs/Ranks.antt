@@ -1,4 +1,4 @@
--- Loops over the ranks from a on that can be left early.
+-- Loops over the ranks from a on can be left early.
 -- Assumes nothing.
 use mathlib.Core.Path.{_≡_, refl}
 use mathlib.Core.Bool.{Bool, true, false}

@@ -1,4 +1,4 @@
--- The loops that write prints: those of a rank's elements, and those of the proper ranks.
+-- This file has the loops that write prints: those of a rank's elements, and those of the proper ranks.
 -- Assumes nothing.
 use mathlib.Core.Path.{_≡_, refl, sym, ap, _∙_}
 use mathlib.Core.List.{List}
@@ -22,7 +22,7 @@ Stands sh w at words r e = getD words (at + firstAt sh r + e) 0 ≡ printOf (ver
 
 -- ---- a rank's elements
 
--- Those of the first e stand.
+-- The prints of the first e elements stand.
 pub record Row (sh : Shape) (low at r first many : ℕ) (old new : List ℕ) (e : ℕ) : Type 0 where
   pub first-is : first ≡ firstAt sh r
   pub many-is : many ≡ sizeAt sh r
@@ -66,7 +66,7 @@ module _ {sh : Shape} {low at r first many : ℕ} {old new : List ℕ} {e : ℕ}
 
 -- ---- the proper ranks
 
--- Those below rank r stand.
+-- The prints below rank r stand.
 pub record Round (sh : Shape) (low at : ℕ) (old new : List ℕ) (r : ℕ) : Type 0 where
   pub proper : 1 ≤ r
   pub long : length new ≡ length old

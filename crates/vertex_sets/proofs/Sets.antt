@@ -1,4 +1,4 @@
--- Vertex sets: what a list of an element's vertices is, and the scans of a rank's sets.
+-- This file says what a list of an element's vertices is, and follows the scans of a rank's vertex sets.
 -- Assumes nothing.
 use mathlib.Core.Path.{_≡_, refl, sym, ap, ap₂, _∙_}
 use mathlib.Core.Logic.{_≢_, inl, inr}
@@ -38,7 +38,7 @@ pub vertices-few : (s : Solid) (r e : ℕ) → length (vertices s r e) ≤ size 
 unfolding vertices inOrder
 vertices-few s r e = omega (arith, length-keep (λ u. holds eqb u (reach s r e)) (range 0 (size s 1)), length-range 0 (size s 1))
 
--- As a buffer holds them.
+-- The vertices are as a buffer holds them.
 module _ (s : Solid) (r e n : ℕ) (old list : List ℕ) (f : Front (vertices s r e) old list n) where
   pub listed : take n list ≡ vertices s r e
   listed = ap (take n) (f .cells) ∙ take-at (vertices s r e) (drop n old) n (sym (f .many))
@@ -63,7 +63,7 @@ module _ (s : Solid) (r : ℕ) where
   pub sets-rest : (e : ℕ) → e < size s r → drop e (vertexSets s r) ≡ vertices s r e ∷ drop (suc e) (vertexSets s r)
   sets-rest e h = drop-cons (vertexSets s r) e [] (rw length-sets h) ∙ ap (λ (x : List ℕ). x ∷ drop (suc e) (vertexSets s r)) (set-at e h)
 
--- lists with different prints differ
+-- Lists with different prints differ.
 pub prints-part : (l m : List ℕ) → printOf l ≢ printOf m → false ≡ eqList l m
 prints-part l m h = go (split eqList lists l m)
   where

@@ -1,4 +1,4 @@
--- Sums of squares: the loop that makes one, and that an element's print fits a word.
+-- This file has sums of squares: the loop that makes one, and that an element's print fits a word.
 -- Assumes nothing.
 use mathlib.Core.Path.{_≡_, refl, sym, ap, _∙_}
 use mathlib.Core.Bool.{Bool, true, false}
@@ -17,7 +17,7 @@ use Rattle.vertex_sets.specs.Prints.{printOf}
 
 -- ---- the loop
 
--- p is the sum over the first k of the n entries
+-- The number p is the sum over the first k of the n entries.
 pub record Summed (l : List ℕ) (n p k : ℕ) : Type 0 where
   pub bound : k ≤ n
   pub few : p ≤ k * 4294967296
@@ -68,7 +68,7 @@ unfolding range printOf
 range-less a zero m = omega arith
 range-less a (suc n) m = let e : suc n + m ≡ suc (n + m) = omega arith in rw e (omega (arith, range-less (suc a) n m))
 
--- With 2,048 vertices.
+-- With 2,048 vertices, the sum is this.
 whole : printOf (range 0 2048) ≡ 2861214720
 unfolding range printOf
 whole = refl

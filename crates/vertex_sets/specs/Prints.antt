@@ -1,4 +1,4 @@
--- Prints: a number for each vertex set, by which most sets are told apart without listing them.
+-- A print is a number for each vertex set, by which most sets are told apart without listing them.
 -- Assumes nothing.
 use mathlib.Core.Path.{_≡_}
 use mathlib.Core.Bool.{Bool}
@@ -23,7 +23,7 @@ pub record Printed (sh : Shape) (w : List ℕ) (at : ℕ) (words : List ℕ) : T
   pub room : at + total sh ≤ length words
   pub prints : (r e : ℕ) → 1 ≤ r → r < sh .rank → e < sizeAt sh r → getD words (at + firstAt sh r + e) 0 ≡ printOf (vertices (absIn sh w) r e)
 
--- What a look at vertex sets needs: a solid in the first `low` words, and its prints behind them.
+-- A look at vertex sets needs a solid in the first `low` words, and its prints behind them.
 pub record Ready (sh : Shape) (low : ℕ) (words : List ℕ) (at : ℕ) : Type 0 where
   pub held : Held sh (take low words)
   pub behind : low ≤ at
@@ -35,10 +35,10 @@ pub record Element (sh : Shape) (r e : ℕ) : Type 0 where
   pub high : r < sh .rank
   pub inside : e < sizeAt sh r
 
--- Whether the images of e's vertices are the vertices of some element of its rank.
+-- Tells whether the images of e's vertices are the vertices of some element of its rank.
 unfoldable pub exampleGoes : Solid → List ℕ → ℕ → ℕ → Bool
 exampleGoes s row r e = holds eqList (sorted (map (λ v. getD row v 0) (vertices s r e))) (vertexSets s r)
 
--- Whether this is so for the example of each type of the rank.
+-- Tells whether this is so for the example of each type of the rank.
 unfoldable pub rankGoes : Solid → State → List ℕ → ℕ → Bool
 rankGoes s z row r = every (λ k. exampleGoes s row r (k .example)) (elementTypesAt z r)

@@ -1,4 +1,4 @@
--- Bit `at`: the shifted byte's lowest bit, as the definition has it.
+-- Bit `at` is the shifted byte's lowest bit, as the definition has it.
 -- Assumes nothing.
 use borrow.Author.Needs.{needs}
 use Rattle.spec.specs.Bits.{bit}

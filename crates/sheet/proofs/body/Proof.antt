@@ -1,4 +1,4 @@
--- The coordinates, the lists and the end, each from where the one before ended.
+-- The coordinates, the lists and the end are read, each from where the one before ended.
 -- Assumes nothing.
 use mathlib.Core.Path.{_≡_, sym, _∙_}
 use Prim.Native.Nat.{_*_, _^_, _≤_, _<_}
@@ -20,12 +20,12 @@ points : (c : tie.After-known-told2) → let r = c .before .before .before in le
     place.At (c .before .at .given .0 .0) ≡ placeOf (times (a .vertices * a .dimension) (coordinate (a .sheet .now)) (a .start))
 points c = sym (c .before .at .given .1) ∙ c .before .before .before .coordinates .ensures
 
--- And the lists.
+-- The lists are read, too.
 read : (c : tie.After-known-told4) → let r = c .before .before .before in let t = r .before in let a = t .before .before .before .before .before .args in
     listed.At (c .before .end .given .0 .0) (c .before .end .given .0 .1 .0) ≡ listedOf allEntries 0 (form.lists (a .sheet .now) (take (a .n) (a .counts)) (t .before .at .given .0 .0))
 read c = sym (c .before .end .given .1) ∙ c .before .before .before .lists .ensures
 
--- Where the coordinates end.
+-- The coordinates end within the limits.
 near : (c : tie.After-known-told2) → c .before .at .given .0 .0 < 2 ^ 20
 near c =
     let st = c .before .before .before .before .before in

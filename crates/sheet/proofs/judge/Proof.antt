@@ -1,4 +1,4 @@
--- R and D, each judged as it comes, and then the rest.
+-- R and D are each judged as they come, and then the rest is.
 -- Assumes nothing.
 use mathlib.Core.Path.{_≡_, sym, _∙_}
 use mathlib.Core.Bool.{true}

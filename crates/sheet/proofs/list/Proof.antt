@@ -1,4 +1,4 @@
--- The list's length, and its subs.
+-- The list's length is read, and then its subs.
 -- Assumes nothing.
 use mathlib.Core.Path.{_≡_, sym, _∙_, ap}
 use Prim.Native.Nat.{_+_, _*_}

@@ -23,7 +23,7 @@ Inv sheet start n counts entries₀ below₀ at₀ k₀ entries below at k =
 abbrev μ : tie.MeasureT-loop
 μ sheet start n counts entries₀ below₀ at₀ k₀ entries below at k = n - k
 
--- The counts that are left in a turn.
+-- In a turn, these counts are left.
 turn : (c : tie.In-loop Inv μ) → let l = c .before in let a = l .before .before .args in
     listedOf allEntries (l .loop .entries) (form.lists (a .sheet .now) (l .loop .below ∷ getD (a .t3) (l .loop .k) 0 ∷ drop (l .loop .k + 1) (take (a .n) (a .t3))) (l .loop .at))
     ≡ listedOf allEntries 0 (form.lists (a .sheet .now) (take (a .n) (a .t3)) (a .start))
@@ -33,7 +33,7 @@ turn c =
     let room : a .n ≤ length (a .t3) = omega arith in
     sym (ap (λ z. listedOf allEntries (l .loop .entries) (form.lists (a .sheet .now) (l .loop .below ∷ z) (l .loop .at))) (next-rank (a .t3) (a .n) (l .loop .k) (c .loop-test .taken) room)) ∙ l .loop .inv .3
 
--- What the rank's lists came to: their entries and their end are within the limits.
+-- The entries and the end of the rank's lists are within the limits.
 grown : (c : tie.After-known-told2 Inv μ) → let r = c .before .before .before in let l = r .before .before in let a = l .before .before .args in
     (c .before .p .given .0 .1 .0 ≤ maxEntries) × (c .before .p .given .0 .0 ≡ l .loop .at + 12 * getD (a .t3) (l .loop .k) 0 + 11 * c .before .p .given .0 .1 .0)
 grown c =

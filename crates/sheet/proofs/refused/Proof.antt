@@ -1,4 +1,4 @@
--- A refusal, and a header of zeros.
+-- The judgement is a refusal with a header of zeros.
 -- Assumes nothing.
 use borrow.Author.Needs.{needs}
 use Rattle.sheet.specs.Judge.{noHeader, judgementOf}

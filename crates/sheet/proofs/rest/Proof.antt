@@ -1,4 +1,4 @@
--- The counts, and what the body makes of them.
+-- The counts are read, and the body is read by them.
 -- Assumes nothing.
 use mathlib.Core.Path.{_≡_, sym, _∙_, ap}
 use Prim.Native.Nat.{_-_}
@@ -10,18 +10,18 @@ use Rattle.sheet.proofs.Made.{Counts, uncounted, counted, counts-near, 
 use Rattle.sheet.proofs.rest.Statement.{statement}
 use Rattle.sheet.proofs.rest.Tie as tie
 
--- What the counts came to.
+-- The counts came to what the definition gives.
 answer : (c : tie.After-counts) → let a = c .before .before .before .args in c .counts .result ≡ countedOf (times (a .rank - 1) (count (a .sheet .now)) 6)
 answer c = rw (c .before .proper-ranks .ensures) at (c .counts .ensures)
 
--- The counts that were read.
+-- The counts were read.
 read : (c : tie.After-known-told2) → let k = c .before .before .before .before in let a = k .before .before .before .args in Counts (a .sheet .now) (a .rank - 1) 6 (c .before .place2 .given .0 .0) (k .counts .result)
 read c =
     let k = c .before .before .before .before in
     let a = k .before .before .before .args in
     counted (a .sheet .now) (a .rank - 1) 6 (c .before .place2 .given .0 .0) (k .counts .result) (answer k) (c .before .place2 .given .1)
 
--- What the body makes of them.
+-- The body gives what the definition makes of the counts.
 told : (c : tie.After-body) → let k = c .before .before .before .before .before .before in let a = k .before .before .before .args in
     judgedWith (a .rank) (a .dimension) (k .counts .result .counts) (k .counts .result .elements) (c .body .result) ≡ judgementAt (restAt (a .sheet .now) (a .rank) (a .dimension) 6)
 told c =
@@ -55,7 +55,7 @@ rest-spec =
       omega (arith, n, st .pre .0),
       counts-small (a .sheet .now) (a .rank) 6 p r (read t) (st .pre .0),
     ))
-    -- The two arms of the body, and the three returns.
+    -- The needs are those of the two arms of the body, and the three returns.
     (λ c. search needs)
     (λ c κs. search needs)
     (λ c. search needs)

@@ -1,4 +1,4 @@
--- A refusal, and zeros.
+-- The answer is a refusal, with zeros.
 -- Assumes nothing.
 use borrow.Author.Needs.{needs}
 use Rattle.sheet.specs.Judge.{padded}

@@ -1,4 +1,4 @@
--- By the rank: there is no count where R is 0 or 1.
+-- The rank decides, since there is no count where R is 0 or 1.
 -- Assumes nothing.
 use borrow.Author.Needs.{needs}
 use native.Mathlib.Omega.{arith}

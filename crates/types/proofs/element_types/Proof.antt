@@ -1,4 +1,4 @@
--- By preflight's verdict.
+-- The call goes by preflight's verdict.
 -- Assumes nothing.
 use borrow.Author.Needs.{needs}
 use Rattle.spec.specs.Calls.{TypesOut}
@@ -7,7 +7,7 @@ use Rattle.types.proofs.Demand3.{told}
 use Rattle.types.proofs.element_types.Statement.{statement}
 use Rattle.types.proofs.element_types.Tie as tie
 
--- The outputs as they were.
+-- These are the outputs as they were.
 abbrev old : tie.After-preflight → TypesOut
 old p = let a = p .before .before .before .before .before .before .before .before .args in record { elements = a .of .now; types = a .table .now }
 
@@ -23,7 +23,7 @@ element-types-spec =
     (λ c κs. let t = c .before .before .before .before in
     let p = t .before .before .before .before .before .before .before in
     benched _ _ _ _ _ _ (p .preflight .ensures) (t .enum-told .given .1))
-    -- same-length, for the workspace
+    -- The needs are same-length for the workspace.
     (λ c. search needs)
     (λ c. search needs)
     -- The need is returns.
@@ -31,7 +31,7 @@ element-types-spec =
     let p = v .before .before .before .before .before .before .before in
     let t = told _ _ _ (old p) (old p) _ (refused-call _ _ _ _ _ _ (p .preflight .ensures) _ (v .verdict .given .1) (old p)) in
     (t .0, (t .1, record { words = search needs; floats = search needs })))
-    -- same-length, for each slice
+    -- The needs are same-length for each slice.
     (λ c. search needs)
     (λ c. search needs)
     (λ c. search needs)

@@ -1,4 +1,4 @@
--- By the answer of the sweeps.
+-- The call goes by the answer of the sweeps.
 -- Assumes nothing.
 use borrow.Author.Needs.{needs}
 use Rattle.spec.specs.Calls.{TypesOut}
@@ -6,7 +6,7 @@ use Rattle.types.proofs.Placed.{unsettled-given, settled-given}
 use Rattle.types.proofs.types_given.Statement.{statement}
 use Rattle.types.proofs.types_given.Tie as tie
 
--- The outputs as they were.
+-- These are the outputs as they were.
 abbrev old : tie.Start → TypesOut
 old s = record { elements = s .args .of .now; types = s .args .table .now }
 
@@ -14,12 +14,12 @@ pub types-given-spec : {M : Type 1} → statement M
 types-given-spec =
     tie.close
     (tie.spec
-    -- types-of-requires, enum-told, give-out-requires, enum-told-2
+    -- The needs are types-of-requires, enum-told, give-out-requires and enum-told-2.
     (λ c κs. search needs)
     (λ c. search needs)
     (λ c κs. search needs)
     (λ c. search needs)
-    -- same-length, for each slice
+    -- The needs are same-length for each slice.
     (λ c. search needs)
     (λ c. search needs)
     (λ c. search needs)
@@ -30,7 +30,7 @@ types-given-spec =
     let t = i .before .before .before .before .before .before in
     let s = t .before .before .before .before .before .before .before in
     settled-given _ _ _ _ _ _ (old s) (rw (i .enum-told .given .1) at (t .types-of .ensures)) _ (g .give-out .ensures))
-    -- same-length, for the workspace
+    -- The needs are same-length for the workspace.
     (λ c. search needs)
     (λ c. search needs)
     -- The need is returns-2.

@@ -56,7 +56,7 @@ diamond-from-spec =
     -- The needs are loop-holds and add-loop.
     (λ c. let q : c .before .args .from - c .before .args .from ≡ 0 = omega arith in (search needs, search needs, rw q refl))
     (λ c. search needs)
-    -- The needs of the shape's numbers are mul and element-copy-out, and add before them, three times.
+    -- The needs of the shape's numbers are mul and element-copy-out, and then add, mul and element-copy-out three times.
     (λ c. omega (arith, c .before .before .before .pre .0 .tall))
     (λ c. omega (arith, c .before .before .before .pre .0 .tall))
     (λ c. search needs)

@@ -37,7 +37,7 @@ abbrev μ : tie.MeasureT-loop
 abbrev start : tie.At-loop Inv μ → tie.Start Inv μ
 start c = c .before .before .before .before .before .before .before .before .before .before
 
--- Where the vertices are counted.
+-- This is the point where the vertices are counted.
 abbrev counted : tie.At-loop Inv μ → tie.After-vertex-count Inv μ
 counted l = l .before .before .before
 
@@ -74,7 +74,7 @@ loop-holds c =
           (tally-first (s .pre) (a .inv) (tall s) (a .rotations) (a .room) (v .vertex-count .result) (v .vertex-count .ensures) (a .matrices .now) (a .rows .now)),
     )
 
--- What stands of the flags that are to come, the flag and those after it.
+-- This is what stands of the flags that are to come, the flag and those after it.
 abbrev Stands : tie.At-loop Inv μ → List Flag → Type 0
 Stands l =
     let a = start l .args in
@@ -125,7 +125,7 @@ part-try-flag-start c = omega (arith, within (c .before) .0)
 part-try-flag-start-2 : tie.Need-part-try-flag-start-2 Inv μ
 part-try-flag-start-2 c = omega (arith, within (c .before .before) .1)
 
--- The flag is one.
+-- The flag is a flag of the solid.
 is-flag : (l : tie.At-loop Inv μ) → let a = start l .args in IsFlag (absIn (a .sh) (take (a .low) (a .words .now))) (flag l)
 is-flag l =
     let s = start l in
@@ -137,7 +137,7 @@ try-flag-requires c κs =
     let s = start l in
     (s .pre, (is-flag l, (counted l .before .first .ensures, λ e. subst Lone (sym (points-read (s .pre) (counted l .vertex-count .result) (counted l .vertex-count .ensures))) (l .before .before .is-lone .ensures e))))
 
--- The outputs after the flag is tried.
+-- These are the outputs after the flag is tried.
 abbrev matrices : tie.After-try-flag Inv μ → List Float
 matrices t =
     let l = t .before .before .before .before in
@@ -162,7 +162,7 @@ long t =
     let k = l .loop .n * counted l .vertex-count .result in
     same-len-mid k (length (l .loop .rows) - k) (l .loop .rows) (t .try-flag .last .1 .1 .1 .1 .1 .1 .1 .1 .1 .1 .1 .1 .1 .0) (t .try-flag .kept .1 .1 .1 .1 .1 .1 .1 .1 .1 .1 .1 .1 .1 .0) ∙ l .loop .inv .1
 
--- What stands then.
+-- This is what stands then.
 abbrev Stood : tie.After-try-flag Inv μ → ℕ → List Flag → Type 0
 Stood t n =
     let l = t .before .before .before .before in
@@ -219,7 +219,7 @@ next-requires c κs =
     let l = c .before .before .before .before .before .before .before .before .before .before in
     (start l .pre .bench .held, is-flag l)
 
--- Where the flag after it is asked for: what stands of the flags after it.
+-- Where the flag after it is asked for, the flags after it are to come.
 follows : (x : tie.After-next Inv μ) → let m = x .before .before in let t = m .before .before .before .before .before in Stood t (m .match .n) (rest (t .before .before .before .before))
 follows x =
     let m = x .before .before in

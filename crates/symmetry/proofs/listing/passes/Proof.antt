@@ -1,4 +1,4 @@
--- The row that is found, and then the examples under it.
+-- The row is found first, and then the examples go under it.
 -- Assumes nothing.
 use mathlib.Core.Path.{subst}
 use mathlib.Core.Bool.{false≢true}

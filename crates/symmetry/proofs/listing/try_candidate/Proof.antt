@@ -1,4 +1,4 @@
--- By whether it is wanted, whether it passes, and whether there is room.
+-- The outcome goes by whether the candidate is wanted, whether it passes, and whether there is room.
 -- Assumes nothing.
 use mathlib.Core.Path.{_≡_, sym, ap, _∙_}
 use mathlib.Core.Logic.{_⊎_, inl, inr, ⊎-elim}
@@ -24,7 +24,7 @@ use Rattle.symmetry.proofs.Trying.{fits-means, candidate-not, candidate
 use Rattle.symmetry.proofs.listing.try_candidate.Statement.{statement}
 use Rattle.symmetry.proofs.listing.try_candidate.Tie as tie
 
--- The solid, the types and the candidate.
+-- These are the solid, the types and the candidate.
 abbrev solid : tie.Start → Concrete
 solid s = let a = s .args in solidAt (a .sh) (a .low) (a .words .now) (a .floats .now)
 
@@ -34,7 +34,7 @@ types s = let a = s .args in stateIn (a .sh) (a .low) (a .words .now)
 abbrev matrix : tie.Start → Matrix
 matrix s = corner (s .args .sh .dimension) (s .args .m)
 
--- Where it is wanted, and where it passes.
+-- These are the points where it is wanted, and where it passes.
 abbrev start : tie.Joined1 → tie.Start
 start j = j .before .before .before .before .before
 
@@ -50,7 +50,7 @@ returns c x i =
     candidate-turned (solid s) (types s) (matrix s) (a .rotations) (a .sh .dimension) (length (solid s .points)) (a .left) (a .matrices .now) (a .rows .now) x i (t .if1 .taken)
     (ap (lt zeroF) (sym (c .before .determinant .ensures)) ∙ not-true _ (c .if2 .taken))
 
--- It is wanted.
+-- The candidate is wanted.
 wanted : (j : tie.Joined1) → let s = start j in (s .args .rotations ≡ false) ⊎ (lt zeroF (determinant (matrix s)) ≡ true)
 unfolding zeroF
 wanted j = ⊎-elim (λ w. inr (ap (lt zeroF) (sym (w .1 .ensures)) ∙ not-false _ (w .2 .left))) (λ w. inl (w .left)) (j .if1 .came)
@@ -67,18 +67,18 @@ returns-2 c x i =
     let a = s .args in
     candidate-not (solid s) (types s) (matrix s) (a .rotations) (a .sh .dimension) (length (solid s .points)) (a .left) (a .matrices .now) (a .rows .now) x i (sym (not-true _ (c .if3 .taken)) ∙ p .passes .ensures .0)
 
--- And it passes.
+-- The candidate passes.
 passed : (e : tie.Else3) → let s = start (joined e) in true ≡ passing (solid s) (types s) (matrix s)
 passed e = sym (not-false _ (e .if3 .left)) ∙ e .before .before .passes .ensures .0
 
 vertex-count-requires : tie.Need-vertex-count-requires
 vertex-count-requires c κs = rising (start (joined c) .pre .0)
 
--- How many vertices there are.
+-- The vertices are counted.
 many : (v : tie.After-vertex-count) → v .vertex-count .result ≡ length (solid (start (joined (v .before))) .points)
 many v = v .vertex-count .ensures ∙ sym (points-many (start (joined (v .before)) .pre .0))
 
--- Whether there is room.
+-- The answer says whether there is room.
 room : (c : tie.After-has-room) → let s = start (joined (c .before .before)) in
     c .has-room .result ≡ fits (s .args .sh .dimension) (length (solid s .points)) (length (s .args .matrices .now)) (length (s .args .rows .now)) (s .args .left)
 room c = let a = start (joined (c .before .before)) .args in
@@ -92,7 +92,7 @@ returns-3 c x i =
     candidate-short (solid s) (types s) (matrix s) (a .rotations) (a .sh .dimension) (length (solid s .points)) (a .left) (a .matrices .now) (a .rows .now) x i (passed e) (wanted (joined e))
     (sym (room (c .before)) ∙ not-true _ (c .if4 .taken))
 
--- There is.
+-- There is room.
 roomy : (c : tie.Else4) → let s = start (joined (c .before .before .before)) in
     fits (s .args .sh .dimension) (length (solid s .points)) (length (s .args .matrices .now)) (length (s .args .rows .now)) (s .args .left) ≡ true
 roomy c = sym (room (c .before)) ∙ not-false _ (c .if4 .left)

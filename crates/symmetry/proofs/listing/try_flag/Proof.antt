@@ -1,4 +1,4 @@
--- It goes as its candidate does, where the types agree.
+-- The flag goes as its candidate does, where the types agree.
 -- Assumes nothing.
 use mathlib.Core.Path.{sym, _∙_}
 use native.Mathlib.Omega.{arith}

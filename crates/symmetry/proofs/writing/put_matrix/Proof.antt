@@ -30,7 +30,7 @@ Inv d out₀ m i₀ out i = (i ≤ d) × (length out ≡ length out₀) × (out 
 abbrev μ : tie.MeasureT-loop
 μ d out₀ m i₀ out i = d - i
 
--- row i ends within the output, whose length fits a word
+-- Row i ends within the output, whose length fits a word.
 row-end : (c : tie.In-loop Inv μ) → c .before .loop .i * c .before .before .before .args .d + c .before .before .before .args .d ≤ length (c .before .loop .out)
 row-end c =
     let s = c .before .before .before in

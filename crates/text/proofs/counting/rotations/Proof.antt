@@ -29,7 +29,7 @@ matrix-at-requires c κs =
     let s = c .before .before .before in
     (s .pre .0, omega (arith, part-end (s .args .n) (s .args .d * s .args .d) (c .before .loop .j) (c .loop-test .taken), s .pre .1))
 
--- With the matrix that was read.
+-- The count goes on with the matrix that was read.
 more : (c : tie.After-rotation Inv-loop μ-loop)
     → let l = c .before .before .before in
     let s = l .before .before in

@@ -1,4 +1,4 @@
--- The line of their number, and then the types' own.
+-- The line of their number comes first, and then the types' own.
 -- Assumes nothing.
 use mathlib.Core.Path.{sym}
 use borrow.Author.Needs.{needs}

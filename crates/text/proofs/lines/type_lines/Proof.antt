@@ -25,7 +25,7 @@ loop-holds c =
     let s = c .before .before in
     (search needs, refl, puts-is (puts-none (s .args .at) (s .args .out .now) (omega arith)) (sym (lines-none (s .args .table .now))))
 
--- The line of type i, from the cells that were read.
+-- The line of type i is made from the cells that were read.
 read : (c : tie.After-cell4 Inv-loop μ-loop)
     → let l = c .before .before .before .before .before in
     typeLine (typeOf (drop (4 * l .loop .i) (l .before .before .before .args .table .now)))

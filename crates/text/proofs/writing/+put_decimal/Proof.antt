@@ -1,4 +1,4 @@
--- A tenth is less: the measure is the number.
+-- The measure is the number, since a tenth is less.
 -- Assumes nothing.
 use Prim.Native.Nat.{ℕ, _<_}
 use mathlib.Core.Path.{_∙_}
@@ -36,13 +36,13 @@ pub +put-decimal-spec : {M : Type 1} → statement M
 )
     (put-decimal-at t)
     put-decimal.Post
-    -- One digit: digit-requires, slice-write-out, add-result, same-length, returns.
+    -- For one digit, the needs are digit-requires, slice-write-out, add-result, same-length and returns.
     (λ c κs. search needs)
     (λ c. let s = c .before .before .before in room-small _ _ (s .args .out .now) (c .before .if1 .taken) (s .pre .1))
     (λ c. let s = c .before .before .before in omega (arith, room-small (s .args .at) (s .args .n) (s .args .out .now) (c .before .if1 .taken) (s .pre .1)))
     (λ c. search needs)
     (λ c. let s = c .before .before .before in puts-small _ _ _ _ (c .before .if1 .taken) (s .pre .1) (c .digit .ensures))
-    -- more: put-decimal-requires, digit-requires-2, slice-write-out-2, add-result-2, same-length-2, returns-2
+    -- For more, the needs are put-decimal-requires, digit-requires-2, slice-write-out-2, add-result-2, same-length-2 and returns-2.
     (λ c κs. let s = c .before .before .before in (omega (arith, s .pre .0, c .before .if1 .left), room-tenth _ _ (s .args .out .now) (c .before .if1 .left) (s .pre .1)))
     (λ c κs. search needs)
     (λ c. let e = c .before .before .before in let s = e .before .before .before .before in room-more (e .before .before .if1 .left) (s .pre .1) (e .put-decimal .ensures))

@@ -14,7 +14,7 @@ use Rattle.types.proofs.Call.{types-few, short-elements, short-types, a
 use Rattle.types.proofs.giving.give_out.Statement.{statement}
 use Rattle.types.proofs.giving.give_out.Tie as tie
 
--- The outputs as they were.
+-- These are the outputs as they were.
 abbrev old : tie.Start → TypesOut
 old s = record { elements = s .args .of .now; types = s .args .table .now }
 

@@ -1,4 +1,4 @@
--- Four stores, one after another.
+-- There are four stores, one after another.
 -- Assumes nothing.
 use borrow.Author.Needs.{needs}
 use native.Mathlib.Omega.{arith}
@@ -11,18 +11,18 @@ pub open-type-spec : {M : Type 1} → statement M
 open-type-spec =
     tie.close
     (tie.spec
-    -- table[at]: mul-table, slice-write-table
+    -- The needs of `table[at]` are mul-table and slice-write-table.
     (λ c. search needs)
     (λ c. search needs)
-    -- table[at + 1]: add-table, mul-table, slice-write-table
-    (λ c. search needs)
-    (λ c. search needs)
-    (λ c. simp length-set (omega arith))
-    -- table[at + 2]
+    -- The needs of `table[at + 1]` are add-table, mul-table and slice-write-table.
     (λ c. search needs)
     (λ c. search needs)
     (λ c. simp length-set (omega arith))
-    -- table[at + 3]
+    -- The needs of `table[at + 2]` are the same.
+    (λ c. search needs)
+    (λ c. search needs)
+    (λ c. simp length-set (omega arith))
+    -- The needs of `table[at + 3]` are the same.
     (λ c. search needs)
     (λ c. search needs)
     (λ c. simp length-set (omega arith))

@@ -15,7 +15,7 @@ Inv words low table₀ sh rank m₀ r₀ table m r = Tabled sh low words table�
 abbrev μ : tie.MeasureT-loop
 μ words low table₀ sh rank m₀ r₀ table m r = rank - r
 
--- The rank's offsets, in a turn.
+-- In a turn, the rank's offsets are known.
 ranks : (c : tie.In-loop Inv μ)
     → let l = c .before in
     let a = l .before .before .before .args in

@@ -39,12 +39,12 @@ write-types-spec =
     (λ c. omega (arith, inside (c .before .before .before)))
     (λ c. omega (arith, inside (c .before .before .before)))
     (λ c κs. omega (arith, inside (c .before .before .before)))
-    -- cast-of
+    -- The need is cast-of.
     (λ c. let l = c .before .before in
     let p = l .before .before in
     let s = p .before .before .before in
     omega (arith, copied-small _ _ _ (s .pre .0) _ (s .pre .1) _ (p .proper-count .ensures) _ _ (l .loop .inv) (c .before .loop-test .taken) _ (c .get .ensures)))
-    -- mul-of, slice-write-of
+    -- The needs are mul-of and slice-write-of.
     (λ c. omega (arith, inside (c .before .before .before .before)))
     (λ c. let l = c .before .before in
     let p = l .before .before in

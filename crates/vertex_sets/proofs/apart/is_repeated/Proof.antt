@@ -23,11 +23,11 @@ is-repeated-spec =
     (λ c. front-long (c .before .before .pre .0))
     (λ c. search needs)
     (λ c κs. let s = c .before .before .before in (s .pre .0 .held, can-list (s .pre .0 .held) _ _ (s .pre .1)))
-    -- slice-aggregate-print-of, print-of-requires
+    -- The needs are slice-aggregate-print-of and print-of-requires.
     (λ c. search needs)
     (λ c κs. let v = c .before .before in let s = v .before .before .before .before in let a = s .args in
     (list-long (absIn (a .sh) (take (a .low) (a .words .now))) (a .r) (a .e) _ _ _ (v .vertex-list .ensures), le-trans (list-few (absIn (a .sh) (take (a .low) (a .words .now))) (a .r) (a .e) _ _ _ (v .vertex-list .ensures)) (can-list (s .pre .0 .held) _ _ (s .pre .1) .1)))
-    -- add-is-found, slice-aggregate-is-found, is-found-requires, returns
+    -- The needs are add-is-found, slice-aggregate-is-found, is-found-requires and returns.
     (λ c. let s = c .before .before .before .before .before .before .before in omega (arith, s .pre .1 .inside, s .pre .0 .held .few (s .args .r) (omega (arith, s .pre .1 .high))))
     (λ c. search needs)
     (λ c κs. let v = c .before .before .before .before in let s = v .before .before .before .before in let a = s .args in

@@ -21,14 +21,14 @@ pub rank-apart-spec : {M : Type 1} → statement M
 rank-apart-spec =
     tie.close
     (tie.spec Inv μ
-    -- many: add, mul, read, mul, read, sub
+    -- The needs of `many` are a sum, a product, a read, a product, a read and a difference.
     (λ c. let s = c .before in omega (arith, ranks-fit (s .pre .0 .held) _ (s .pre .1 .1)))
     (λ c. let s = c .before in omega (arith, ranks-fit (s .pre .0 .held) _ (s .pre .1 .1)))
     (λ c. let s = c .before in omega (arith, ranks-fit (s .pre .0 .held) _ (s .pre .1 .1)))
     (λ c. let s = c .before .before in omega (arith, ranks-fit (s .pre .0 .held) _ (s .pre .1 .1)))
     (λ c. let s = c .before .before in omega (arith, ranks-fit (s .pre .0 .held) _ (s .pre .1 .1)))
     (λ c. let s = c .before .before .before in omega (arith, ranks-fit (s .pre .0 .held) _ (s .pre .1 .1)))
-    -- loop-holds, is-repeated-requires
+    -- The needs are loop-holds and is-repeated-requires.
     (λ c. let s = c .before .before .before in (many-is (s .pre .0 .held) _ (s .pre .1 .1), refl))
     (λ c κs. let s = c .before .before .before .before .before in (s .pre .0, element _ _ _ (s .pre .1 .0) (s .pre .1 .1) (c .loop-test .taken)))
     -- The needs are returns, add-e, loop-less, loop-again and returns-2.

@@ -23,7 +23,7 @@ pub is-found-spec : {M : Type 1} → statement M
 is-found-spec =
     tie.close
     (tie.spec Inv μ
-    -- first: mul, read; many: add, mul, read, sub
+    -- The needs of `first` are a product and a read, and those of `many` are a sum, a product, a read and a difference.
     (λ c. let s = c .before .before in omega (arith, ranks-fit (s .pre .0 .held) (s .args .r) (s .pre .1 .0 .1)))
     (λ c. let s = c .before .before in omega (arith, ranks-fit (s .pre .0 .held) (s .args .r) (s .pre .1 .0 .1)))
     (λ c. let s = c .before .before .before in omega (arith, ranks-fit (s .pre .0 .held) (s .args .r) (s .pre .1 .0 .1)))

@@ -9,7 +9,7 @@ pub is-vertex-set-spec : {M : Type 1} → statement M
 is-vertex-set-spec =
     tie.close
     (tie.spec
-    -- returns, print-of-requires, is-found-requires, returns-2
+    -- The needs are returns, print-of-requires, is-found-requires and returns-2.
     (λ c. let s = c .before .before .before in too-long (s .pre .0) _ _ _ (s .pre .1 .0 .0) (s .pre .1 .0 .1) (s .pre .1 .1) (c .if1 .taken))
     (λ c κs. search needs)
     (λ c κs. search needs)

@@ -16,7 +16,7 @@ Inv a b n k₀ k = (k ≤ n) × Same (take n a) (take n b) k
 abbrev μ : tie.MeasureT-loop
 μ a b n k₀ k = n - k
 
--- entry k is in both
+-- Entry k is in both.
 inside : (c : tie.In-loop Inv μ)
     → let a = c .before .before .args in
     (c .before .loop .k < length (take (a .n) (a .a .now))) × (c .before .loop .k < length (take (a .n) (a .b .now)))
@@ -24,7 +24,7 @@ inside c =
     let s = c .before .before in
     (rw (length-take-le (s .args .n) (s .args .a .now) (s .pre .0)) (c .loop-test .taken), rw (length-take-le (s .args .n) (s .args .b .now) (s .pre .1)) (c .loop-test .taken))
 
--- And is what is read.
+-- Entry k is what is read.
 read : (c : tie.In-loop Inv μ)
     → let a = c .before .before .args in
     (getD (take (a .n) (a .a .now)) (c .before .loop .k) 0 ≡ getD (a .a .now) (c .before .loop .k) 0) × (getD (take (a .n) (a .b .now)) (c .before .loop .k) 0 ≡ getD (a .b .now) (c .before .loop .k) 0)
@@ -36,7 +36,7 @@ pub same-list-spec : {M : Type 1} → statement M
 same-list-spec =
     tie.close
     (tie.spec Inv μ
-    -- loop-holds, two reads
+    -- The needs are loop-holds and two reads.
     (λ c. (search needs, refl))
     (λ c. search needs)
     (λ c. search needs)

@@ -18,7 +18,7 @@ print-element-spec =
     -- The needs are slice-aggregate-vertex-list and vertex-list-requires.
     (λ c. search needs)
     (λ c κs. let s = c .before .before in (s .pre .0, can-list (s .pre .0) _ _ (s .pre .1)))
-    -- slice-aggregate-print-of, print-of-requires, cast-result, returns
+    -- The needs are slice-aggregate-print-of, print-of-requires, cast-result and returns.
     (λ c. search needs)
     (λ c κs. let v = c .before .before in let s = v .before .before .before in let a = s .args in
     (list-long (absIn (a .sh) (a .w .now)) (a .r) (a .e) _ _ _ (v .vertex-list .ensures), le-trans (list-few (absIn (a .sh) (a .w .now)) (a .r) (a .e) _ _ _ (v .vertex-list .ensures)) (can-list (s .pre .0) _ _ (s .pre .1) .1)))

@@ -20,7 +20,7 @@ pub write-rank-spec : {M : Type 1} → statement M
 write-rank-spec =
     tie.close
     (tie.spec Inv μ
-    -- first: mul, read; many: add, mul, read, sub
+    -- The needs of `first` are a product and a read, and those of `many` are a sum, a product, a read and a difference.
     (λ c. let s = c .before in omega (arith, ranks-fit (s .pre .0) _ (s .pre .1 .1 .1)))
     (λ c. let s = c .before in omega (arith, ranks-fit (s .pre .0) _ (s .pre .1 .1 .1)))
     (λ c. let s = c .before .before in omega (arith, ranks-fit (s .pre .0) _ (s .pre .1 .1 .1)))
