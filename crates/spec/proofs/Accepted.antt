@@ -62,7 +62,7 @@ le-test m n e = leb→le m n (subst T (sym e) tt)
 
 -- ---- what the lists hold
 
--- strictly rising, from `low` on, below c
+-- The list is strictly rising, from `low` on, and below c.
 unfoldable pub From : ℕ → ℕ → List ℕ → Type 0
 From low c [] = Unit {0}
 From low c (x ∷ l) = (low ≤ x) × (x < c) × From (suc x) c l
@@ -83,7 +83,7 @@ Sized [] (ls ∷ more) = ⊥
 Sized (n ∷ sizes) [] = ⊥
 Sized (n ∷ sizes) (ls ∷ more) = (length ls ≡ n) × Filled ls × Sized sizes more
 
--- Each rank's lists lie below the size of the rank before; the first's below c.
+-- Each rank's lists lie below the size of the rank before, and the first's below c.
 Stack : ℕ → List (List (List ℕ)) → Type 0
 Stack c [] = Unit {0}
 Stack c (ls ∷ more) = AllFrom c ls × Stack (length ls) more
@@ -157,7 +157,7 @@ times-each P m f (suc n) i y e x h =
     let h₂ = bound-by (times n m) _ _ y (h₁ .2) in
     one-or P x (h₁ .0 .0) (h₂ .0 .0) (subst (λ (z : List _ × ℕ). In x (z .0)) (sym (same _ y (h₂ .2))) h) (f i (h₁ .0) (h₁ .1)) (times-each P m f n (h₁ .0 .1) (h₂ .0) (h₂ .1) x)
 
--- A field, judged, and a value worked out from it.
+-- A field is judged, and a value is worked out from it.
 judged-field : {A : Type 0} (b : List ℕ) (w : ℕ) (k : Refusal) (t : ℕ → Bool) (f : ℕ → A) (i : ℕ) (y : A × ℕ)
     → (bits b w >>= λ n. judge k (t n) >> done (f n)) i ≡ passed y → (n : ℕ) × (t n ≡ true) × (y .0 ≡ f n)
 unfolding done
@@ -220,7 +220,7 @@ stack-rising c [] w r e = tt
 stack-rising c (a ∷ s) w zero e = from-rising 0 c (getD a e []) (all-at c a (w .0) e)
 stack-rising c (a ∷ s) w (suc r) e = stack-rising (length a) s (w .1) r e
 
--- The size of the last rank, or c.
+-- Gives the size of the last rank, or c.
 last : ℕ → Solid → ℕ
 last c [] = c
 last c (a ∷ s) = last (length a) s
@@ -359,7 +359,7 @@ module _ (p : Parsed) (w : Read p) where
   rest : Solid
   rest = properLists (p .counts) (p .lists)
 
-  -- The ranks under the top, and the top.
+  -- The ranks under the top are fine, and so is the top.
   under-fine : (ls : List (List ℕ)) → In ls (([] ∷ []) ∷ rest) → Fine ls
   unfolding Fine rest
   under-fine ls (inl q) = rw q (omega arith, omega arith)
@@ -427,7 +427,7 @@ module _ (p : Parsed) (w : Read p) where
       go zero h = absurd (omega arith)
       go (suc q) h = filled-in (rest ++ (crowned ∷ [])) more-filled r e h
 
-  -- R is the rank of its top
+  -- The rank of the solid's top is R.
   rank-of : top (solidOf p) ≡ p .rank
   unfolding solidOf under properLists
   rank-of = go (p .rank) refl
@@ -483,7 +483,7 @@ whole-sheet b p = go (sheet b 0) refl
     go (refused why) q e = absurd (never why p e)
     go (passed x) q e = rw (← same (x .0) p e) (sheet-read b x q)
 
--- The solid of a sheet that was read, whatever workspaces are lent.
+-- This is the solid of a sheet that was read, whatever workspaces are lent.
 module _ (b : List ℕ) (p : Parsed) (e : readSheet b ≡ passed p) where
   pub read-rank : top (solidOf p) ≡ p .rank
   read-rank = rank-of p (whole-sheet b p e)
@@ -497,11 +497,11 @@ module _ (b : List ℕ) (p : Parsed) (e : readSheet b ≡ passed p) where
   pub read-filled : (r f : ℕ) → f < size (solidOf p) (suc r) → 0 < length (subs (solidOf p) (suc r) f)
   read-filled = filled-of p (whole-sheet b p e)
 
--- The solid of what was read.
+-- Gives the solid of what was read.
 abbrev read-solid : Parsed → Concrete
 read-solid p = record { dimension = p .dimension; points = p .points; abs = solidOf p }
 
--- What a passed preflight passed through: the workspace has no part in the solid.
+-- A passed preflight passed through these, and the workspace has no part in the solid.
 record Through (b : List ℕ) (c : Concrete) : Type 0 where
   parsed : Parsed
   read : readSheet b ≡ passed parsed

@@ -1,4 +1,5 @@
--- The laws of the calls: no empty list passes for success, when a call answers 13 or copying 14, what a refusal leaves in the outputs, and that these keep their lengths.
+-- These are the laws of the calls: no empty list passes for success, when a call answers 13 or copying 14, what a refusal leaves in the outputs, and
+-- that these keep their lengths.
 -- Assumes nothing.
 use mathlib.Core.Path.{_≡_, refl, sym, _∙_, ap, subst}
 use mathlib.Core.Logic.{_≢_, _⊎_, inl, inr, ⊎-elim}
@@ -84,11 +85,11 @@ no-members-fit m d v = rw (zero-mul (d * d), zero-mul v, le-leb 0 (m .floats) (o
 -- ---- search and rotations
 
 module _ (o : Judged (Concrete × List Member)) (m : Room) where
-  -- n members of the solid c fit.
+  -- There is room for n members of the solid c.
   abbrev Fits : Concrete → ℕ → Bool
   Fits c n = haveRoom m (c .dimension) (length (c .points)) n
 
-  -- How a search ends whose members are o, with the room m: by a refusal that is not 13, with the first k members, or with all.
+  -- A search whose members are o, with the room m, ends in one of these ways: by a refusal that is not 13, with the first k members, or with all.
   data SearchEnds : Outcome → Type 0 where
     before : (why : Refusal) → why ≢ ShortSheet → SearchEnds (record { answer = Refused why 0; members = [] })
     short : (c : Concrete) (ms : List Member) (k : ℕ) → o ≡ passed (c, ms) → Fits c k ≡ true → Fits c (suc k) ≡ false → k < length ms
@@ -179,7 +180,7 @@ unfolding typesWritten
 types-out (refused m) old why k e = refl
 types-out (passed g) old why k e = absurd (apart why k (length (g .types)) (sym e))
 
--- What stands behind a types call that passes: the sheet's solid, the result of the sweeps, and that there is room for what is given out.
+-- Behind a types call that passes stand the sheet's solid, the result of the sweeps, and room for what is given out.
 pub record Behind (b : List ℕ) (words floats n m : ℕ) (g : Given) : Type 0 where
   pub solid : Concrete
   pub result : State
@@ -323,7 +324,7 @@ module _ (d : ℕ) (ms : List Matrix) (cs : List Vector) (outPoints : List Float
   abbrev Unclosed : ℕ → List Float → List ℕ → Type 0
   Unclosed = OpenCopies d ms cs outPoints outTable
 
-  -- How a call with the copies cs under the matrices ms can end: what it answers, and what it leaves in the outputs.
+  -- A call with the copies cs under the matrices ms ends in one of these ways, which say what it answers, and what it leaves in the outputs.
   data Ends : Answer × List Float × List ℕ → Type 0 where
     before : (why : Refusal) → Early why → Ends (Refused why 0, outPoints, outTable)
     short : (k : ℕ) (p : List Float) (t : List ℕ) → First k p t → Ends (Refused ShortSheet k, p, t)

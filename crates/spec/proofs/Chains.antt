@@ -136,8 +136,8 @@ module _ (s : Solid) (v : Sound s) (full : Filled s) (b : bound s ≡ true) wher
     has-top : In (topElement s) C
     has-top = sat (topElement s) (top-is s v) (λ G m. inr (top-over s v full b G (w .chain .elements G m)))
 
-    -- Let H be the highest of the members of rank r or less. It is at most a sub X of the given member of rank r + 1. Every member is either at most H or at
-    -- least the given one, so X is comparable with all of them, and is a member itself
+    -- Let H be the highest of the members of rank r or less. It is at most a sub X of the given member of rank r + 1. Every member is either at most
+    -- H or at least the given one, so X is comparable with all of them, and is a member itself.
     sub-in : (r e : ℕ) → In (element (suc r) e) C → (x : ℕ) × In x (subs s (suc r) e) × In (element r x) C
     sub-in r e m =
         let G = element (suc r) e in

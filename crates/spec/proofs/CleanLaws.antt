@@ -78,7 +78,7 @@ floats = record { pass = pass; sound = sound }
 
 -- ---- transitive
 
--- A test that is asked only where another passes.
+-- A test that is asked only where another passes, passes there.
 implied : (a b : Bool) → elim a as (λ _. Bool) [ true ↦ b | false ↦ true ] ≡ true → a ≡ true → b ≡ true
 implied true b h e = h
 implied false b h e = absurd (false≢true e)

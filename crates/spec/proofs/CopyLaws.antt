@@ -1,5 +1,5 @@
--- Laws of finding and copying: what is found is near, and nothing lower is; copies only join at the end; how long copies and their table are; that the table says
--- whether every image is among the copies; and that there is a copy.
+-- These are laws of finding and copying: what is found is near, and nothing lower is; copies only join at the end; how long copies and their table
+-- are; that the table says whether every image is among the copies; and that there is a copy.
 -- Assumes nothing.
 use mathlib.Core.Path.{_≡_, refl, sym, ap, _∙_}
 use Prim.Native.Nat.{ℕ, zero, suc, _+_, _*_, _/_, _%_, _≤_, _<_, suc-le-suc}

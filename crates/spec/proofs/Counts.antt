@@ -1,4 +1,4 @@
--- Counts under a map, the tests of numbers and of lists of numbers, and sums.
+-- This file has counts under a map, the tests of numbers and of lists of numbers, and sums.
 -- Assumes nothing.
 use mathlib.Core.Path.{_≡_, refl, sym, _∙_, ap, ap₂}
 use mathlib.Core.Logic.{_≢_, inl, inr}
@@ -72,7 +72,7 @@ module _ {A B : Type 0} (sameA : A → A → Bool) (testA : Test sameA) (sameB :
       go (inr (p, e)) (inr (p′, e′)) ih =
           rw (without-no sameA testA l e, count-no sameB testB (map g l) e′, count-no sameB testB (map g (without sameA t l)) e′) ih
 
-  -- d holds all that xs and ys hold, and xs and ys hold each of d as often: then so do their maps
+  -- Where d holds all that xs and ys hold, and xs and ys hold each of d as often, their maps hold each as often, too.
   pub regroup : (d xs ys : List A) → ((t : A) → In t xs → In t d) → ((t : A) → In t ys → In t d)
       → ((t : A) → In t d → count sameA t xs ≡ count sameA t ys) → (s : B) → count sameB s (map g xs) ≡ count sameB s (map g ys)
   regroup [] [] [] f h c s = refl

@@ -1,4 +1,4 @@
--- Demand 3 of the calls. A search writes out its members in order: cell k of the marks and part k of the rows are member k's.
+-- Demand 3 holds of the calls. A search writes out its members in order: cell k of the marks and part k of the rows are member k's.
 -- Assumes nothing.
 use mathlib.Core.Path.{_≡_, refl, sym, _∙_, ap, subst}
 use mathlib.Core.Logic.{inl, inr}
@@ -59,11 +59,11 @@ unfolding outcome
 found-count (refused why) m = refl
 found-count (passed x) m = kept-count (x .1) (fitting m (x .0 .dimension) (length (x .0 .points)) 0 (x .1))
 
--- What is read past the last member.
+-- This is what is read past the last member.
 no-member : Member
 no-member = record { matrix = []; row = []; mark = 0 }
 
--- Of a call whose members are o, on a sheet whose solid is c.
+-- The members of the call are o, and the solid of the sheet is c.
 module _ (b : List ℕ) (words floats : ℕ) (o : Judged (Concrete × List Member)) (shaped : Shaped o) (w : Confirms b words floats o)
     (words′ floats′ : ℕ) (c : Concrete) (e : preflight b words′ floats′ ≡ passed c) (old : SearchOut) where
   ms : List Member

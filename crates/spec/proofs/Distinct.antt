@@ -1,4 +1,4 @@
--- The laws of `distinct`, `place`, `count` and `without`, for any test that decides equality.
+-- These are the laws of `distinct`, `place`, `count` and `without`, for any test that decides equality.
 -- Assumes nothing.
 use mathlib.Core.Path.{_≡_, refl, sym, _∙_, ap, subst}
 use mathlib.Core.Logic.{_≢_, _⊎_, inl, inr}
@@ -9,7 +9,7 @@ use native.Mathlib.Omega.{arith}
 use lib.ListN.{length, getD}
 use Rattle.spec.specs.Lists.{In, without, distinct, place, count}
 
--- A test that passes exactly at equals.
+-- The test passes exactly at equals.
 pub record Test {A : Type 0} (same : A → A → Bool) : Type 0 where
   pub pass : (a : A) → same a a ≡ true
   pub sound : (a b : A) → same a b ≡ true → a ≡ b
@@ -129,7 +129,7 @@ module _ {A : Type 0} (same : A → A → Bool) (test : Test same) where
   unfolding place
   place-no l e = rw (e, place)
 
-  -- It is there.
+  -- The place holds what was sought.
   pub place-at : {k : A} (d : A) (l : List A) → In k l → (place same k l < length l) × (getD l (place same k l) d ≡ k)
   place-at {k} d (x ∷ l) m = go (split x k) m (λ (h : In k l). place-at d l h)
     where
@@ -139,7 +139,7 @@ module _ {A : Type 0} (same : A → A → Bool) (test : Test same) where
       go (inr (p, e)) (inl q) ih = absurd (p (sym q))
       go (inr (p, e)) (inr h) ih = rw (place-no l e) (let r = ih h in (omega (arith, r .0), r .1))
 
-  -- And no lower one is it.
+  -- No lower place holds it.
   pub place-low : {k : A} (d : A) (l : List A) (i : ℕ) → i < place same k l → getD l i d ≢ k
   unfolding place
   place-low d [] i h = absurd (omega arith)
@@ -184,7 +184,7 @@ module _ {A : Type 0} (same : A → A → Bool) (test : Test same) where
       go (inr (p, e)) (inl q) ih = absurd (p (sym q))
       go (inr (p, e)) (inr h) ih = count-no l e ∙ ih h
 
-  -- taking all the k away leaves no k, and changes no other count
+  -- Taking all the k away leaves no k, and changes no other count.
   pub count-without-same : (k : A) (l : List A) → count same k (without same k l) ≡ zero
   count-without-same k l = count-out k (without same k l) (λ h. out-without l h .1 refl)
 
@@ -199,7 +199,7 @@ module _ {A : Type 0} (same : A → A → Bool) (test : Test same) where
       go (inr (p, e)) (inl (q, f)) ih = rw (without-no l e) (count-yes (without same k l) f ∙ ap suc ih ∙ sym (count-yes l f))
       go (inr (p, e)) (inr (q, f)) ih = rw (without-no l e) (count-no (without same k l) f ∙ ih ∙ sym (count-no l f))
 
-  -- membership is decided
+  -- Membership is decided.
   pub in? : (k : A) (l : List A) → Dec (In k l)
   in? k [] = no (λ h. h)
   in? k (x ∷ l) = go (split x k) (in? k l)

@@ -33,7 +33,7 @@ in-every p (x ∷ l) f = rw (f x (inl refl), every) (in-every p l (λ y m. f y (
 pub keep-same : (p q : ℕ → Bool) → ((x : ℕ) → p x ≡ q x) → (l : List ℕ) → keep p l ≡ keep q l
 keep-same p q f l = ap (λ (r : ℕ → Bool). keep r l) (fun-ext f)
 
--- The three cases of `swap`: the number is 0, or it is f, or it is neither and stays.
+-- There are three cases of `swap`: the number is 0, or it is f, or it is neither and stays.
 data Swapped (f e : ℕ) : Type 0 where
   first : e ≡ 0 → swap f e ≡ f → Swapped f e
   second : e ≢ 0 → e ≡ f → swap f e ≡ 0 → Swapped f e
@@ -128,7 +128,7 @@ swap-twice l f h =
     ext-getD [] (swapWithFirst (swapWithFirst l f) f) l (swap-length (swapWithFirst l f) f ∙ n) λ e k.
     swap-at (swapWithFirst l f) f (rw n h) e ∙ swap-at l f h (swap f e) ∙ ap (λ (i : ℕ). getD l i []) (swap-back f e)
 
--- A sum over a list, one place of which is changed.
+-- In a sum over a list, one place of which is changed, only that place's part changes.
 sum-set : {A : Type 0} (g : A → ℕ) (d x : A) (l : List A) (i : ℕ) → i < length l → sum (map g (set l i x)) + g (getD l i d) ≡ sum (map g l) + g x
 unfolding sum
 sum-set g d x [] i h = absurd (omega arith)
@@ -147,7 +147,7 @@ swap-sum l f h =
     first-stays (yes p) = rw p (getD-set-same l 0 (getD l 0 []) [] (omega arith))
     first-stays (no n) = getD-set-other l f 0 (getD l 0 []) [] (λ q. n (sym q))
 
--- exchanging the same facet twice changes nothing
+-- Exchanging the same facet twice changes nothing.
 pub exchange-twice : (s : Solid) (f : ℕ) → f < size s (top s - 1) → exchangedIn (exchangedIn s f) f ≡ s
 unfolding exchangedIn
 exchange-twice [] f low = absurd (omega arith)
@@ -258,7 +258,7 @@ module _ (s : Solid) (tall : 2 ≤ top s) (f : ℕ) (low : f < size s (top s - 1
     filled-t : (r e : ℕ) → e < size t (suc r) → 0 < length (subs t (suc r) e)
     filled-t r e h = rw (before (suc r) e .subs-was) (full r (before (suc r) e .was) (before (suc r) e .low-was (rw (size-same (suc r)) at h)))
 
-    -- Below the facets.
+    -- Below the facets, there are exactly two between as before.
     two-below : (r g h x : ℕ) → 0 < r → r < top s → r ≢ top s - 1 → g < size t (suc r) → In x (subs t (suc r) g) → In h (subs t r x) → length (between t r g h) ≡ 2
     unfolding between
     two-below r g h x k₀ k₁ n low a b =
@@ -267,7 +267,7 @@ module _ (s : Solid) (tall : 2 ≤ top s) (f : ℕ) (low : f < size s (top s - 1
         keep-same (λ y. holds eqb h (subs t r y)) (λ y. holds eqb h (subs s r y)) (λ y. ap (holds eqb h) (subs-other r n y)) (subs t (suc r) g) ∙ ap (keep (λ y. holds eqb h (subs s r y))) (w .subs-was) in
         ap length p ∙ diamond-at s d r k₀ k₁ (w .was) h x (w .low-was (rw (size-same (suc r)) at low)) (rw (w .subs-was) at a) (rw (subs-other r n x) at b)
 
-    -- at the facets
+    -- At the facets, the top has them all as subs.
     all-facets : subs s (suc (top s - 1)) 0 ≡ range 0 (size s (top s - 1))
     all-facets = let p : suc (top s - 1) ≡ top s = omega arith in rw p (v .all (omega arith))
 

@@ -1,4 +1,4 @@
--- The change of a flag at a proper rank, in a solid that has the diamond property.
+-- A flag is changed at a proper rank, in a solid that has the diamond property.
 -- Assumes nothing.
 use mathlib.Core.Path.{_≡_, refl, sym, _∙_, ap}
 use mathlib.Core.Logic.{_≢_, inl, inr}
@@ -23,7 +23,7 @@ use Rattle.spec.proofs.Marked.{every-in}
 
 -- ---- a list of two
 
--- x and y are the two members of l, and `other` goes from each to the other
+-- The two members of l are x and y, and `other` goes from each to the other.
 record Two (l : List ℕ) (x y : ℕ) : Type 0 where
   apart : x ≢ y
   there : other x l ≡ y
@@ -121,7 +121,7 @@ module _ (s : Solid) (v : Sound s) (d : diamond s ≡ true) (q : ℕ) (high : su
       go (yes p) = rw (p, w .peak, v .one) (omega arith)
       go (no n) = v .below (suc (suc q)) (elementAt F (suc (suc (suc q)))) (elementAt F (suc (suc q))) (w .chain (suc (suc q)) (omega arith))
 
-  -- The elements of rank r between g and h.
+  -- Lists the elements of rank r between g and h.
   mid : ℕ → ℕ → List ℕ
   mid g h = between s (suc q) g h
 

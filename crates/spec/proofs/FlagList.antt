@@ -80,7 +80,7 @@ module _ {A B : Type 0} (g : B → List A) where
       go (inr h) f = let r = f h in (r .0, inr (r .1), r .2)
 
 module _ {A : Type 0} (g : ℕ → List A) where
-  -- Where a lower number's list stands before a greater number's.
+  -- The joined lists are ordered where a lower number's list stands before a greater number's.
   ordered-join : (R : A → A → Type 0) (l : List ℕ) → Rising l → ((x : ℕ) → Ordered R (g x))
       → ((x y : ℕ) (t u : A) → x < y → In t (g x) → In u (g y) → R t u) → Ordered R (join (map g l))
   unfolding join
@@ -126,7 +126,7 @@ before-more F G t n hF hG b = record {
 -- ---- chains up to an element
 
 module _ (s : Solid) where
-  -- F is a chain of ranks 0 to r, and e its element of rank r
+  -- The list F is a chain of ranks 0 to r, and e is its element of rank r.
   pub record To (r e : ℕ) (F : Flag) : Type 0 where
     pub long : length F ≡ suc r
     pub end : elementAt F r ≡ e

@@ -1,4 +1,4 @@
--- The members that a search finds with mark 1 are confirmed by the mark's rule; and those that it writes out are among them.
+-- The members that a search finds with mark 1 are confirmed by the mark's rule, and those that it writes out are among them.
 -- Assumes nothing.
 use mathlib.Core.Path.{_≡_, refl, sym, _∙_, ap, subst}
 use mathlib.Core.Logic.{inl, inr}
@@ -118,11 +118,11 @@ search-mark c ms e x h k =
 
 -- ---- the calls
 
--- Of some members of a solid: with mark 1, a row is confirmed by the rule.
+-- Of some members of a solid, a row with mark 1 is confirmed by the rule.
 abbrev pub Ruled : Concrete × List Member → Type 0
 Ruled y = (x : Member) → In x (y .1) → x .mark ≡ 1 → marked (y .0 .abs) (byTable (classTable (y .0))) (x .row) ≡ true
 
--- Of a call's members: their solid is the sheet's, as read.
+-- The solid of a call's members is the sheet's, as read.
 pub record Confirms (b : List ℕ) (words floats : ℕ) (o : Judged (Concrete × List Member)) : Type 0 where
   pub read : (y : Concrete × List Member) → o ≡ passed y → preflight b words floats ≡ passed (y .0)
   pub rule : (y : Concrete × List Member) → o ≡ passed y → Ruled y

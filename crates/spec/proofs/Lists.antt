@@ -1,4 +1,4 @@
--- Lists: members, places and maps.
+-- This file has laws of lists: members, places and maps.
 -- Assumes nothing.
 use mathlib.Core.Path.{_≡_, refl, sym, _∙_, ap, ap₂}
 use mathlib.Core.Logic.{inl, inr}
@@ -38,7 +38,7 @@ module _ {A B : Type 0} where
   getD-map f a b (x ∷ l) zero h = refl
   getD-map f a b (x ∷ l) (suc i) h = getD-map f a b l i (le-of-suc-le-suc h)
 
-  -- f takes no two members of l to one
+  -- The function f takes no two members of l to one.
   abbrev pub Injective : (A → B) → List A → Type 0
   Injective f l = (x y : A) → In x l → In y l → f x ≡ f y → x ≡ y
 
@@ -85,7 +85,7 @@ unfolding range
 once-range a zero = tt
 once-range a (suc n) = (λ h. let r = of-range (suc a) n a h in omega arith, once-range (suc a) n)
 
--- The elements of a map over 0 to n - 1.
+-- Element i of a map over 0 to n - 1 is f of i.
 pub getD-table : {B : Type 0} (f : ℕ → B) (b : B) (n i : ℕ) → i < n → getD (map f (range 0 n)) i b ≡ f i
 getD-table {B} f b n i h = getD-map f 0 b (range 0 n) i (rw length-range h) ∙ ap f (getD-range 0 n 0 i h ∙ omega arith)
 

@@ -111,7 +111,7 @@ module _ (s : Solid) (row : List ℕ) where
       go true q = absurd (n (is-proper s r q))
       go false q = rw (q, goes)
 
-  -- An element of the rank is gone to: its vertices are the image.
+  -- Where an element of the rank is gone to, its vertices are the image.
   pub goes-vertices : (r e : ℕ) → Proper s r → goes s row r e < size s r → vertices s r (goes s row r e) ≡ image s row r e
   unfolding vertexSets
   goes-vertices r e p h = go (in? eqList lists (image s row r e) (vertexSets s r))
@@ -145,7 +145,7 @@ module _ (s : Solid) (row : List ℕ) (a : Permutes s row) where
       sym (place-self eqb numbers 0 row (a .once) u (rw (a .full) hu)) ∙ ap (λ (x : ℕ). place eqb x row) e
       ∙ place-self eqb numbers 0 row (a .once) v (rw (a .full) hv)
 
-  -- One image, one vertex set.
+  -- Elements with one image have one vertex set.
   back : (r e f : ℕ) → image s row r e ≡ image s row r f → (v : ℕ) → In v (vertices s r e) → In v (vertices s r f)
   unfolding image vertices
   back r e f q v m =

@@ -1,4 +1,5 @@
--- Refusal 15 comes from no solid, and so from no call: of all the refusals that a call can meet, 15 alone stands behind the sweeps, and these always settle.
+-- Refusal 15 comes from no solid, and so from no call, because of all the refusals that a call can meet, 15 alone stands behind the sweeps, and these
+-- always settle.
 -- Assumes nothing.
 use mathlib.Core.Path.{refl, subst}
 use mathlib.Core.Logic.{_≢_}
@@ -113,7 +114,7 @@ module _ (b : List ℕ) where
       go true = tt
       go false = lit< tt
 
-  -- A field: some bits, a judgement of them, and what they stand for.
+  -- A field is some bits, a judgement of them, and what they stand for.
   reads-field : {A : Type 0} (w : ℕ) (why : Refusal) (ok : ℕ → Bool) (a : ℕ → A) → Low why → ClearReader (bits b w >>= (λ n. judge why (ok n) >> done (a n)))
   reads-field w why ok a h = reads-bind _ _ (reads-bits w) (λ n. reads-then _ _ (reads-judge why (ok n) h) (reads-done (a n)))
 

@@ -1,4 +1,4 @@
--- The order that subs generate: its laws, its least and its greatest element, and the test behind refusal 5.
+-- This file has the order that subs generate: its laws, its least and its greatest element, and the test behind refusal 5.
 -- Assumes nothing.
 use mathlib.Core.Path.{_≡_, refl, sym, ap, subst}
 use mathlib.Core.Logic.{_≢_, inl, inr}
@@ -104,7 +104,7 @@ module _ (s : Solid) (v : Sound s) where
         let m = in-getD 0 (subs s (suc r) e) 0 (full r e h) in
         over (from-least r (getD (subs s (suc r) e) 0 0) (v .below r e _ m)) (refl, m)
 
-    -- What the test behind refusal 5 says of one element.
+    -- The test behind refusal 5 says this of one element.
     has-sup : bound s ≡ true → (r e : ℕ) → 0 < r → suc r < top s → e < size s r → (f : ℕ) × (f < size s (suc r)) × In e (subs s (suc r) f)
     unfolding bound
     has-sup b r e h₀ h₁ low =
@@ -115,7 +115,7 @@ module _ (s : Solid) (v : Sound s) where
         let w = every-sups s .derived r e (getD (sups s r e) 0 0) .0 (in-getD 0 (sups s r e) 0 k) in
         (getD (sups s r e) 0 0, w .0, w .1)
 
-    -- By induction on d, how many ranks stand above r.
+    -- The proof is by induction on d, which is how many ranks stand above r.
     to-top : bound s ≡ true → (d r e : ℕ) → r + d ≡ top s → e < size s r → AtMost s (element r e) (topElement s)
     to-top b zero r e h low =
         let p : r ≡ top s = omega arith in

@@ -1,4 +1,4 @@
--- The test behind refusal 6 is the book's P4; and every solid that passes preflight has the book's properties, as read and as search walks it.
+-- The test behind refusal 6 is the book's P4, and every solid that passes preflight has the book's properties, as read and as search walks it.
 -- Assumes nothing.
 use mathlib.Core.Path.{_≡_, refl, sym, _∙_, ap, subst}
 use mathlib.Core.Logic.{_⊎_, inl, inr}
@@ -82,7 +82,7 @@ module _ (s : Solid) (r g h : ℕ) where
       go H e (inl q) = inl (e ∙ ap (element (suc r)) q)
       go H e (inr (inl q)) = inr (e ∙ ap (element (suc r)) q)
 
-  -- exactly two, counted
+  -- Exactly two elements between are counted as two.
   two-counted : Sound s → ExactlyTwo (Between s lower upper) → length (between s (suc r) g h) ≡ 2
   two-counted v w =
       let a = w .first .number in

@@ -1,4 +1,4 @@
--- The theorems on order, chains and diamonds, on the square.
+-- The theorems on order, chains and diamonds are applied to the square.
 -- Assumes nothing.
 use mathlib.Core.Path.{_≡_, refl}
 use mathlib.Core.Logic.{inl}

@@ -1,4 +1,4 @@
--- What the definitions say, read back in the words of section 4.
+-- What the definitions say is read back in the words of section 4.
 -- Assumes nothing.
 use mathlib.Core.Path.{_≡_, refl, sym, _∙_, ap}
 use mathlib.Core.Logic.{_↔_, _⊎_, inl, inr}

@@ -1,5 +1,5 @@
--- By which refusals a judgement or a reading can end: what holds of every refusal that it names holds of the one that it gives. So nothing that is
--- judged before the outputs are looked at, the sheet, preflight or the search, ends with 13.
+-- What holds of every refusal that a judgement or a reading names holds of the one that it gives. So nothing that is judged before the outputs are
+-- looked at, the sheet, preflight or the search, ends with 13.
 -- Assumes nothing.
 use mathlib.Core.Path.{subst}
 use mathlib.Core.Logic.{_≢_}
@@ -49,7 +49,7 @@ module _ (P : Refusal → Type 0) where
 
   -- ---- readings
 
-  -- The same of a reading, at whatever bit it starts.
+  -- The same holds of a reading, at whatever bit it starts.
   abbrev pub Reads : {A : Type 0} → Reader A → Type 0
   Reads m = (i : ℕ) → Refuses (m i)
 
@@ -163,7 +163,7 @@ unlike why other t e = T-not (eqb (number why) (number other)) t (subst (λ (o :
 abbrev pub not13 : Refusal → Type 0
 not13 why = why ≢ ShortSheet
 
--- o does not end with 13.
+-- The judgement o does not end with 13.
 abbrev pub Spares : {A : Type 0} → Judged A → Type 0
 Spares o = Refuses not13 o
 

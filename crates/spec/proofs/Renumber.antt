@@ -1,4 +1,4 @@
--- The laws of `renumber`: who shares a number, and that the numbers hang on nothing else. How many numbers there are.
+-- These are the laws of `renumber`: who shares a number, that the numbers hang on nothing else, and how many numbers there are.
 -- Assumes nothing.
 use mathlib.Core.Path.{_≡_, refl, sym, _∙_, ap, subst}
 use mathlib.Core.Logic.{inl, inr}
@@ -12,7 +12,7 @@ use Rattle.spec.specs.Lists.{In, without, distinct, place, renumber}
 use Rattle.spec.proofs.Distinct.{Test, Split, split, without-yes, without-no, in-without, length-without, pigeons, in-distinct, of-distinct, once-distinct, place-yes, place-no, place-at, place-inj}
 use Rattle.spec.proofs.Lists.{in-getD, map-in, in-map, map-same, map-map, getD-map, Injective}
 
--- ts parts no two places that us does not part. (a and b are what is read past the end)
+-- The list ts parts no two places that us does not part, where a and b are what is read past the end.
 abbrev pub Coarser : {A B : Type 0} → A → B → List A → List B → Type 0
 Coarser a b ts us = (i j : ℕ) → i < length us → j < length us → getD us i b ≡ getD us j b → getD ts i a ≡ getD ts j a
 
@@ -38,7 +38,7 @@ module _ {A : Type 0} (same : A → A → Bool) (test : Test same) where
   pub renumber-coarse : (d : A) (l : List A) → Coarser 0 d (renumber same l) l
   renumber-coarse d l i j hi hj e = renumber-at d l i hi ∙ ap (λ (x : A). place same x (distinct same l)) e ∙ sym (renumber-at d l j hj)
 
--- The entry of us where ts has t first.
+-- Gives the entry of us where ts has t first.
 pub glue : {A B : Type 0} → (A → A → Bool) → B → List A → List B → A → B
 glue same b ts us t = getD us (place same t ts) b
 
@@ -122,7 +122,7 @@ module _ {A B : Type 0} (sameA : A → A → Bool) (testA : Test sameA) (sameB :
       rw (factor a b ts us e c)
       (bounded (glue sameA b ts us) ts (distinct sameA ts) (λ t h. (t, in-distinct sameA testA t ts h, refl)))
 
-  -- As many: then they part the same.
+  -- Where there are as many, they part the same.
   pub as-many : (a : A) (b : B) (ts : List A) (us : List B) → length us ≡ length ts → Coarser b a us ts
       → length (distinct sameB us) ≡ length (distinct sameA ts) → Coarser a b ts us
   as-many a b ts us e c n i j hi hj q = go (split sameA testA (getD ts i a) (getD ts j a))

@@ -153,7 +153,7 @@ module _ (s : Solid) (cls : Classes) where
   pub play-parts : (S : State) (xs : List Step) → AllProper s xs → Good s cls S → Below S (play s S xs)
   play-parts S xs a g = kept s (Above S) (λ T x p h. (step-good s cls T (h .0) x p, below-trans S T (step s T x) (h .0) (step-good s cls T (h .0) x p) (h .1) (step-parts s cls T (h .0) x p))) S xs a (g, below-refl S) .1
 
-  -- steps that end no finer than they began part nothing on the way
+  -- Steps that end no finer than they began part nothing on the way.
   pub idle : (S : State) (xs : List Step) → AllProper s xs → Good s cls S → Below (play s S xs) S → (x : Step) → In x xs → step s (play s S xs) x ≡ play s S xs
   unfolding play
   idle S (y ∷ ys) a g b x m = go m (λ (k : In x ys). idle S₁ ys (a .1) g₁ b₁ x k)
@@ -258,11 +258,11 @@ module _ (s : Solid) (cls : Classes) where
     result-calm : (x : Step) → Proper s (at x) → Calm s z x
     result-calm x p = rw (result-idle z e x p) (λ i j hi hj t. t)
 
-    -- (a)
+    -- This is claim (a) of demand 3.
     pub play-below : Below (play s (start s cls) xs) z
     play-below = kept s (Under w z (result-good z e) result-calm) (under-step w z (result-good z e) result-calm) (start s cls) xs a (start-good s cls, result-above z e) .1
 
-    -- (b)
+    -- This is claim (b) of demand 3.
     pub play-result : Steady s (play s (start s cls) xs) → play s (start s cls) xs ≡ z
     play-result st = below-both S z gS (result-good z e) play-below above
       where

@@ -1,4 +1,4 @@
--- `root` is the root of every value, and nothing else is; and what callers use of it.
+-- `root` is the root of every value, and nothing else is. What callers use of it is here, too.
 -- Assumes nothing.
 use mathlib.Core.Path.{_≡_, refl}
 use mathlib.Core.Logic.{_⊎_, inl, inr}

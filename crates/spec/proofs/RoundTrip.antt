@@ -71,7 +71,7 @@ unfolding number
 number-small l h i zero = omega arith
 number-small l h i (suc w) = omega (arith, number-small l h i w, binary-at l h (i + w), pow-suc 2 w)
 
--- s bits follow bit r
+-- Bit r of a number is read by dividing by 2 ^ s, where s bits follow it.
 number-bit : (l : List ℕ) → Binary l → (i r s w : ℕ) → w ≡ r + suc s → number l i w / 2 ^ s % 2 ≡ getD l (i + r) 0
 unfolding number
 number-bit l h i r s zero e = absurd (omega arith)
@@ -116,7 +116,7 @@ bytes-bytes n l h x m =
 -- ---- the bits of a list of bytes
 
 module _ (b : List ℕ) where
-  -- The w first bits of a byte, s of its bits left.
+  -- The first w bits of a byte are what is left of it when s bits are dropped.
   byte-field : Bytes b → (k w s : ℕ) → k < length b → w + s ≡ 8 → field b (8 * k) w ≡ getD b k 0 / 2 ^ s
   unfolding field bit
   byte-field y k zero s h e =
@@ -129,7 +129,7 @@ module _ (b : List ℕ) where
       let r : 7 - (8 * k + w) % 8 ≡ s = omega arith in
       rw (q, r, f, half) (omega arith)
 
-  -- number and field go alike
+  -- The number of a list and the field of the bytes go alike.
   number-field : (l : List ℕ) (i w : ℕ) → ((t : ℕ) → t < w → getD l (i + t) 0 ≡ bit b (i + t)) → number l i w ≡ field b i w
   unfolding number field
   number-field l i zero h = refl
@@ -214,7 +214,7 @@ packs b p y e =
     let r = sheet-reads b (p, s .0) (s .1) in
     same-bytes b (packBits p) (s .0) (r .1) (r .2) y
 
--- "packing an accepted solid and reading it gives it back", and no other bytes read alike
+-- Document 01 asks that "packing an accepted solid and reading it gives it back", and no other bytes read alike.
 pub round-trip : RoundTrip
 round-trip = record {
   packs = packs;

@@ -1,5 +1,5 @@
--- `renumber` as a scan computes it: one element more; and what numbers there are.
--- `distinct-new`, `distinct-old`, `renumber-snoc` and `place-met` are the laws of a loop that numbers by first appearance; no theorem of this crate needs them.
+-- This file has `renumber` as a scan computes it, with one element more, and what numbers there are. `distinct-new`, `distinct-old`, `renumber-snoc`
+-- and `place-met` are the laws of a loop that numbers by first appearance; no theorem of this crate needs them.
 -- Assumes nothing.
 use mathlib.Core.Path.{_≡_, refl, sym, _∙_, ap, ap₂}
 use mathlib.Core.Logic.{_≢_, inl, inr}
@@ -26,7 +26,7 @@ module _ {A : Type 0} (same : A → A → Bool) (test : Test same) where
       go (inl (p, e)) ih = rw (without-yes same test (l ++ m) e, without-yes same test l e) ih
       go (inr (p, e)) ih = rw (without-no same test (l ++ m) e, without-no same test l e) (ap (λ (r : List A). x ∷ r) ih)
 
-  -- One more that is new, and one more that is there already.
+  -- One more is either new, or there already.
   pub distinct-new : (l : List A) (x : A) → ¬ In x l → distinct same (l ++ x ∷ []) ≡ distinct same l ++ x ∷ []
   unfolding distinct without
   distinct-new [] x n = refl
@@ -76,7 +76,7 @@ module _ {A : Type 0} (same : A → A → Bool) (test : Test same) where
       go (inl (p, e)) ih = absurd (n (inl (sym p)))
       go (inr (p, e)) ih = place-no same test (l ++ x ∷ []) e ∙ ap suc ih
 
-  -- A scan: the numbers so far stay, and the next is its place among what was met before it, which is their count if it is new
+  -- In a scan the numbers so far stay, and the next is its place among what was met before it, which is their count if it is new.
   pub renumber-snoc : (l : List A) (x : A) → renumber same (l ++ x ∷ []) ≡ renumber same l ++ place same x (distinct same l) ∷ []
   unfolding renumber
   renumber-snoc l x = map-append (λ y. place same y (distinct same (l ++ x ∷ []))) l (x ∷ []) ∙ go (in? same test x l)
@@ -90,7 +90,7 @@ module _ {A : Type 0} (same : A → A → Bool) (test : Test same) where
           (map-same (λ y. place same y (distinct same l ++ x ∷ [])) (λ y. place same y (distinct same l)) l (λ y h. place-append (distinct same l) (x ∷ []) y (in-distinct same test y l h)))
           (place-last (distinct same l) x (λ h. n (of-distinct same test x l h)) ∙ sym (place-out (distinct same l) x (λ h. n (of-distinct same test x l h))))
 
-  -- met before, at place j: the number that j has
+  -- What was met before, at place j, has the number that j has.
   pub place-met : (d : A) (l : List A) (j : ℕ) → j < length l → place same (getD l j d) (distinct same l) ≡ getD (renumber same l) j 0
   place-met d l j h = sym (renumber-at same test d l j h)
 

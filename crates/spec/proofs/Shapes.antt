@@ -1,4 +1,4 @@
--- The sizes of what a search works out: D by D matrices, and rows of one entry a vertex. So what a call writes fits the outputs.
+-- A search works out D by D matrices, and rows of one entry a vertex. So what a call writes fits the outputs.
 -- Assumes nothing.
 use mathlib.Core.Path.{_≡_, refl, sym, _∙_, ap, subst}
 use mathlib.Core.Logic.{inl, inr}
@@ -55,7 +55,7 @@ product-length : (a b : Matrix) → length (mulMat a b) ≡ length a
 unfolding mulMat
 product-length a b = length-map a _
 
--- rows of n entries each, one after another
+-- Rows of n entries each, one after another, have n times as many entries as there are rows.
 join-length : {A : Type 0} (n : ℕ) (ls : List (List A)) → ((l : List A) → In l ls → length l ≡ n) → length (join ls) ≡ length ls * n
 unfolding join
 join-length n [] f = sym (zero-mul n)
@@ -65,7 +65,7 @@ join-length n (l ∷ ls) f =
     regroup : n + length ls * n ≡ suc (length ls) * n
     regroup = omega (arith, suc-mul (length ls) n)
 
--- A matrix of d rows of d.
+-- A square matrix has d rows of d.
 abbrev pub Square : ℕ → Matrix → Type 0
 Square d m = (length m ≡ d) × ((r : Vector) → In r m → length r ≡ d)
 
@@ -124,7 +124,7 @@ pub flag-columns : (c : Concrete) (F : Flag) → length (flagColumns c F) ≡ c 
 unfolding flagColumns
 flag-columns c F = columns-length _ ∙ length-map (walk (c .abs) (c .dimension) F) (pointOf c) ∙ walk-length c (c .dimension) F
 
--- Of a setting for D dimensions and V vertices.
+-- The setting is for D dimensions and V vertices.
 pub record Fit (d v : ℕ) (w : Setting) : Type 0 where
   pub wide : w .searched .dimension ≡ d
   pub many : length (w .searched .points) ≡ v
@@ -244,7 +244,7 @@ fitting-holds m d v n (x ∷ l) h = go (haveRoom m d v (suc n)) refl (λ k. fitt
         rw q (f (fits-holds m d v (suc n) e))
     go false e f = let q : n + 0 ≡ n = omega arith in rw q h
 
--- The cells of some members.
+-- The cells of some members fit the room.
 pub record Cells (m : Room) (l : List Member) : Type 0 where
   pub matrices : length (join (map (λ x. join (x .matrix)) l)) ≤ m .floats
   pub rows : length (join (map (λ x. x .row) l)) ≤ m .entries

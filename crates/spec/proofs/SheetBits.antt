@@ -1,5 +1,5 @@
--- What each reading of a sheet passes on, and over which bits: a reader passes a value exactly when the value is within its limits
--- and the bits that it goes over are the value's.
+-- This file says what each reading of a sheet passes on, and over which bits: a reader passes a value exactly when the value is within its limits and
+-- the bits that it goes over are the value's.
 -- Assumes nothing.
 use mathlib.Core.Path.{_≡_, refl, sym, _∙_, ap, subst}
 use mathlib.Core.Logic.{inl, inr}
@@ -96,7 +96,7 @@ module _ (b : List ℕ) where
 
   -- ---- readers
 
-  -- m passes the values that are P, over the bits that k says
+  -- The reader m passes the values that are P, over the bits that k says.
   pub record Code {A : Type 0} (m : Reader A) (k : A → List ℕ) (P : A → Type 0) : Type 0 where
     pub reads : (i : ℕ) (y : A × ℕ) → m i ≡ passed y → P (y .0) × Holds i (k (y .0)) (y .1)
     pub writes : (i : ℕ) (y : A × ℕ) → P (y .0) → Holds i (k (y .0)) (y .1) → m i ≡ passed y
@@ -119,7 +119,7 @@ module _ (b : List ℕ) where
           (field-small (suc w) i, field-holds (suc w) i (le-test _ _ q))
       read i y false q e = absurd (never CutSheet y e)
 
-  -- A field, judged, and the value f of it; g is the field of a value.
+  -- A field is judged, and has the value f, where g is the field of a value.
   field-code : {A : Type 0} (w : ℕ) (why : Refusal) (t : ℕ → Bool) (f : ℕ → A) (g : A → ℕ) → ((n : ℕ) → n < 2 ^ suc w → t n ≡ true → g (f n) ≡ n)
       → Code (bits b (suc w) >>= λ n. judge why (t n) >> done (f n)) (λ x. bitsOf (suc w) (g x)) (λ x. (t (g x) ≡ true) × (g x < 2 ^ suc w) × (f (g x) ≡ x))
   unfolding done
@@ -138,7 +138,7 @@ module _ (b : List ℕ) where
         ∙ ap (λ (a : A). passed (a, y .1)) (p .2);
   }
 
-  -- The same reader n times.
+  -- The same reader goes n times.
   module _ {A : Type 0} (m : Reader A) (k : A → List ℕ) (P : A → Type 0) (c : Code m k P) where
     Each : ℕ → List A → Type 0
     Each n l = (length l ≡ n) × ((x : A) → In x l → P x)
@@ -168,7 +168,7 @@ module _ (b : List ℕ) where
     unfolding Each
     times-code n = record { reads = times-reads n; writes = λ i y. times-writes n i (y .0) (y .1) }
 
-  -- The same values, said in another way.
+  -- The same values are said in another way.
   recode : {A : Type 0} (m : Reader A) (k : A → List ℕ) (P Q : A → Type 0) → ((x : A) → P x → Q x) → ((x : A) → Q x → P x) → Code m k P → Code m k Q
   recode m k P Q f g c = record {
     reads = λ i y e. let r = c .reads i y e in (f (y .0) (r .0), r .1);
@@ -187,7 +187,7 @@ not-nan (inf s) h = tt
 not-nan (fin s m e) h = tt
 
 module _ (b : List ℕ) where
-  -- A number within a limit.
+  -- A number within a limit has a code.
   up-to-code : (w top : ℕ) → top < 2 ^ suc w → Code b (bits b (suc w) >>= λ n. judge Format (leb n top) >> done n) (bitsOf (suc w)) (λ n. n ≤ top)
   up-to-code w top h =
       recode b _ (bitsOf (suc w)) (λ n. (leb n top ≡ true) × (n < 2 ^ suc w) × (n ≡ n)) (λ n. n ≤ top) (λ n p. le-test n top (p .0)) (λ n p. (le-true n top p, omega arith, refl))
@@ -287,7 +287,7 @@ module _ (b : List ℕ) (c : ℕ) (small : c ≤ maxCount) where
         ∙ sub-writes (length l) 0 (g .0) l (y .1) refl w (g .2);
   }
 
-  -- n lists of a rank, of which `used` entries came before
+  -- There are n lists of a rank, and `used` entries came before them.
   AllLists : ℕ → ℕ → List (List ℕ) → Type 0
   AllLists n used ls = (length ls ≡ n) × ((l : List ℕ) → In l ls → AllowedList c l) × (used + sum (map length ls) ≤ maxEntries)
 
@@ -326,7 +326,7 @@ module _ (b : List ℕ) (c : ℕ) (small : c ≤ maxCount) where
 
 -- ---- the lists of all ranks
 
--- By the counts of ranks 1 to R - 1.
+-- The lists go by the counts of ranks 1 to R - 1.
 Listed : List ℕ → List (List (List ℕ)) → Type 0
 Listed counts more = (length more ≡ length counts - 1) × ((r : ℕ) → suc r < length counts → AllowedRank (getD counts r 0) (getD counts (suc r) 0) (getD more r []))
 

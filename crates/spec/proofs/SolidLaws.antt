@@ -1,4 +1,4 @@
--- The sups of a solid, and of its ridges after the exchange of facets.
+-- This file has laws of the sups of a solid, and of its ridges after the exchange of facets.
 -- Assumes nothing.
 use mathlib.Core.Path.{_≡_, refl, ap}
 use mathlib.Core.Logic.{_≢_, _↔_}
@@ -56,7 +56,7 @@ module _ (s : Solid) (tall : 2 ≤ top s) (f : ℕ) (low : f < size s (top s - 1
   above-ridges : suc (top s - 2) ≡ top s - 1
   above-ridges = omega arith
 
-  -- x is a facet of the one exactly when `swap f x` is of the other, and both have the same subs
+  -- The number x is a facet over e in the one solid exactly when `swap f x` is in the other, since both have the same subs.
   follow : (e x : ℕ) → In x (sups t (top s - 2) e) ↔ In (swap f x) (sups s (top s - 2) e)
   follow e x = (
     λ m. let k = rw (above-ridges, size-same s tall f low (top s - 1), subs-n s tall f low x) at (every-sups t .derived (top s - 2) e x .0 m) in

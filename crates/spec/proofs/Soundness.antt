@@ -1,4 +1,4 @@
--- A test for `Sound`, and demand 3 on the square: that its hypotheses can be met.
+-- This file has a test for `Sound`, and shows on the square that the hypotheses of demand 3 can be met.
 -- Assumes nothing.
 use mathlib.Core.Path.{_≡_, refl}
 use mathlib.Core.Logic.{inl, inr}
@@ -102,12 +102,12 @@ pub square-sound : Sound square
 unfolding sound low bottom rising risingAbove every subs eqList range
 square-sound = is-sound square refl
 
--- The smallest: R = 0.
+-- The smallest solid has R = 0.
 pub point-sound : Sound point
 unfolding sound low bottom rising risingAbove every subs eqList range
 point-sound = is-sound point refl
 
--- demand 3's hypotheses can be met: on the square, after down at 1 and up at 2, the quarter turn carries each edge to one of its type
+-- The hypotheses of demand 3 can be met: on the square, after down at 1 and up at 2, the quarter turn carries each edge to one of its type.
 pub square-turn : (e : ℕ) → e < 4
     → typeOf (play square (start square alike) (down 1 ∷ up 2 ∷ [])) 2 (goes square (1 ∷ 2 ∷ 3 ∷ 0 ∷ []) 2 e) ≡ typeOf (play square (start square alike) (down 1 ∷ up 2 ∷ [])) 2 e
 square-turn e h = demand3 square square-sound alike _ square-types (down 1 ∷ up 2 ∷ []) ((lit< tt, lit< tt), ((lit< tt, lit< tt), tt)) .confirmed (1 ∷ 2 ∷ 3 ∷ 0 ∷ []) quarter 2 e h .1

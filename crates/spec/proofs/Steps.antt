@@ -1,4 +1,4 @@
--- Steps over states: what they keep, that they only part, and that they part no more than a steady state parts.
+-- This file is about steps over states: what they keep, that they only part, and that they part no more than a steady state parts.
 -- Assumes nothing.
 use mathlib.Core.Path.{_≡_, refl, sym, _∙_, ap, ap₂}
 use mathlib.Core.Logic.{_≢_, inl, inr}
@@ -24,7 +24,7 @@ map-at : (f g : ℕ → ℕ) (l : List ℕ) → map f l ≡ map g l → (t : ℕ
 map-at f g (x ∷ l) e t (inl q) = rw q (ap (λ (r : List ℕ). getD r 0 0) e)
 map-at f g (x ∷ l) e t (inr m) = map-at f g l (ap tail e) t m
 
--- The types that a rank's list has for the elements es.
+-- Lists the types that a rank's list has for the elements es.
 abbrev pub look : List ℕ → List ℕ → List ℕ
 look ts es = map (λ e. getD ts e 0) es
 
@@ -65,7 +65,7 @@ module _ (s : Solid) (cls : Classes) where
     pub canon : (r : ℕ) → renumber eqb (typesAt S r) ≡ typesAt S r
     pub fixed : (r : ℕ) → ¬ Proper s r → typesAt S r ≡ typesAt (start s cls) r
 
--- S parts no more than T
+-- The state S parts no more than T.
 abbrev pub Below : State → State → Type 0
 Below S T = (r : ℕ) → Coarser 0 0 (typesAt S r) (typesAt T r)
 

@@ -1,4 +1,4 @@
--- The types are numbered by first appearance in every state; and what the types call gives out of each type is so.
+-- The types are numbered by first appearance in every state, and so is what the types call gives out of each type.
 -- Assumes nothing.
 use mathlib.Core.Path.{_≡_, refl, sym, _∙_, ap}
 use Prim.Native.Nat.{ℕ}
