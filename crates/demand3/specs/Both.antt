@@ -16,15 +16,15 @@ use Rattle.types.specs.Demand3.{KeepsCell, Demand3Cells}
 use Rattle.search.specs.Demand3.{Demand3Rows}
 use Rattle.demand3.specs.declared.Answers.{Answers}
 
--- The sheet is b, and `call` is the search call or the rotations call. Each output is that of its call's definition, and where the types are given out,
--- demand 3 is told of the cells and of the rows that stand in the outputs now.
+-- The sheet is b, and `call` is the search call or the rotations call. Each output is that of its call's definition, and where the types are given
+-- out, demand 3 is told of the cells and of the rows that stand in the outputs now.
 pub record BothCalls (call : List ℕ → ℕ → ℕ → SearchOut → Answer × SearchOut) (b : List ℕ) (words floats : ℕ) (r : Answers) (old new : TypesOut) (before after : SearchOut) : Type 0 where
   pub types : (r .types, new) ≡ typesCall b words floats old
   pub members : (r .members, after) ≡ call b words floats before
   pub cells : (n : ℕ) → r .types ≡ Done n → Demand3Cells b words floats (new .elements)
   pub rows : (n : ℕ) → r .types ≡ Done n → Demand3Rows b words floats old n (answerCount (r .members)) (after .rows) (after .marks)
-  -- The third claim of demand 3, of the listed members and of the cells: each listed row with mark 1 takes every proper element to one of its own rank,
-  -- which has its type after the steps and whose cell holds the same number.
+  -- The third claim of demand 3, of the listed members and of the cells: each listed row with mark 1 takes every proper element to one of its own
+  -- rank, which has its type after the steps and whose cell holds the same number.
   pub kept : (n : ℕ) (d : r .types ≡ Done n) →
       let c = rows n d .types .solid in
       (xs : List Step) → AllProper (c .abs) xs → (k : ℕ) → k < answerCount (r .members) → getD (after .marks) k 0 ≡ 1

@@ -48,8 +48,8 @@ unfoldable pub spaceTo : List ℕ → ℕ → ℕ → ℕ
 spaceTo l lists zero = 0
 spaceTo l lists (suc e) = spaceTo l lists e + (2 + length (listAt l (lists + 4 * e)))
 
--- The lists of the n elements are in the first `low` words, and the types of their neighbours and their own are below `out`. From there on there is room for
--- n numbers, n places and the keys.
+-- The lists of the n elements are in the first `low` words, and the types of their neighbours and their own are below `out`. From there on there is
+-- room for n numbers, n places and the keys.
 pub record Ready (w : List ℕ) (low lists n base from out : ℕ) : Type 0 where
   pub lists-low : low ≤ out
   pub lie : (e : ℕ) → e < n → Lies (take low w) (lists + 4 * e)

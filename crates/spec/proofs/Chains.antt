@@ -53,7 +53,7 @@ module _ (s : Solid) where
     λ w. record { chain = w .0; largest = λ D d i F m. w .1 F (d .elements F m) (λ G n. d .comparable F G m (i G n)) },
   )
 
-  -- Whether a list is a maximal chain depends only on the set that it stands for.
+  -- Tells whether a list is a maximal chain depends only on the set that it stands for.
   same-maximal : (C D : List Element) → SameSet C D → IsMaximal s D → IsMaximal s C
   same-maximal C D e w = record {
     chain = record {

@@ -1,5 +1,5 @@
--- Solids of rank 0 or 1: they have no proper rank, so preflight asks nothing of them but its least workspace, the types call gives out nothing, and a search refuses them.
--- And what `kit` prints for them, and for an input that is too long.
+-- Solids of rank 0 or 1: they have no proper rank, so preflight asks nothing of them but its least workspace, the types call gives out nothing, and a
+-- search refuses them. And what `kit` prints for them, and for an input that is too long.
 -- Assumes nothing.
 use mathlib.Core.Path.{_≡_, refl, ap}
 use mathlib.Core.Logic.{_≢_, inl}

@@ -214,7 +214,7 @@ packs b p y e =
     let r = sheet-reads b (p, s .0) (s .1) in
     same-bytes b (packBits p) (s .0) (r .1) (r .2) y
 
--- Document 01 asks that "packing an accepted solid and reading it gives it back", and no other bytes read alike.
+-- Packing an accepted solid and reading it gives it back, and no other bytes read alike.
 pub round-trip : RoundTrip
 round-trip = record {
   packs = packs;

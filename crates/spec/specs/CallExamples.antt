@@ -1,4 +1,5 @@
--- Small closed examples of the calls, of clean, of the mark and of single rules. They tell the definitions from the wrong ones that the must-fail edits make.
+-- These are small closed examples of the calls, of clean, of the mark and of single rules. They tell the definitions from the wrong ones that the
+-- must-fail edits make.
 -- Assumes nothing.
 use mathlib.Core.Path.{_≡_, refl}
 use Prim.Native.Nat.{ℕ}
@@ -26,48 +27,49 @@ use Rattle.spec.specs.Eval.{evaluate}
 
 -- ---- sheets of rank 2: two vertices on a line
 
--- The trial solid "R = 2 at −1 and 1".
+-- This is the trial solid "R = 2 at −1 and 1".
 abbrev pub dyad : List ℕ
 dyad =
     68 ∷ 0 ∷ 175 ∷ 252 ∷ 0 ∷ 0 ∷ 0 ∷ 0 ∷ 0 ∷ 0 ∷ 15 ∷ 252 ∷ 0 ∷ 0 ∷ 0 ∷ 0 ∷ 0 ∷ 0 ∷ 0 ∷ []
 
--- The trial solid "At 0 and 1".
+-- This is the trial solid "At 0 and 1".
 abbrev pub lopsided : List ℕ
 lopsided =
     68 ∷ 0 ∷ 128 ∷ 0 ∷ 0 ∷ 0 ∷ 0 ∷ 0 ∷ 0 ∷ 0 ∷ 15 ∷ 252 ∷ 0 ∷ 0 ∷ 0 ∷ 0 ∷ 0 ∷ 0 ∷ 0 ∷ []
 
--- The trial solid "At −1e-7 and 1e-7".
+-- This is the trial solid "At −1e-7 and 1e-7".
 abbrev pub tiny : List ℕ
 tiny =
     68 ∷ 0 ∷ 175 ∷ 158 ∷ 181 ∷ 252 ∷ 166 ∷ 175 ∷ 43 ∷ 210 ∷ 15 ∷ 158 ∷ 181 ∷ 252 ∷ 166 ∷ 175 ∷ 43 ∷ 210 ∷ 0 ∷ []
 
--- The trial solid "At 0 and 1e-7".
+-- This is the trial solid "At 0 and 1e-7".
 abbrev pub close : List ℕ
 close =
     68 ∷ 0 ∷ 128 ∷ 0 ∷ 0 ∷ 0 ∷ 0 ∷ 0 ∷ 0 ∷ 0 ∷ 15 ∷ 158 ∷ 181 ∷ 252 ∷ 166 ∷ 175 ∷ 43 ∷ 210 ∷ 0 ∷ []
 
--- R = 2 at −1 and 1.00000009. The vertices share a distance class, and yet no member exchanges them.
+-- Here R = 2, at −1 and 1.00000009. The vertices share a distance class, and yet no member exchanges them.
 abbrev pub unequal : List ℕ
 unequal =
     68 ∷ 0 ∷ 175 ∷ 252 ∷ 0 ∷ 0 ∷ 0 ∷ 0 ∷ 0 ∷ 0 ∷ 15 ∷ 252 ∷ 0 ∷ 0 ∷ 6 ∷ 10 ∷ 48 ∷ 47 ∷ 128 ∷ []
 
--- R = 2 at 5e-8 and −1.2e-7. The second vertex is further than EPS from the origin, but the listed value of its distance is the first vertex's, 5e-8.
+-- Here R = 2, at 5e-8 and −1.2e-7. The second vertex is further than EPS from the origin, but the listed value of its distance is the first vertex's,
+-- 5e-8.
 abbrev pub listedNearer : List ℕ
 listedNearer =
     68 ∷ 0 ∷ 143 ∷ 154 ∷ 181 ∷ 252 ∷ 166 ∷ 175 ∷ 43 ∷ 210 ∷ 47 ∷ 160 ∷ 6 ∷ 202 ∷ 202 ∷ 105 ∷ 26 ∷ 74 ∷ 192 ∷ []
 
--- Outputs of the given lengths as they are before a call: every number in them is 7, and every float 2.0.
+-- These are outputs of the given lengths as they are before a call: every number in them is 7, and every float 2.0.
 abbrev pub typesOld : ℕ → ℕ → TypesOut
 typesOld n m = record { elements = replicate n 7; types = replicate m 7 }
 
 abbrev pub searchOld : ℕ → ℕ → ℕ → SearchOut
 searchOld f n m = record { matrices = replicate f (ofBits binary64 0x4000_0000_0000_0000); rows = replicate n 7; marks = replicate m 7 }
 
--- What a search answers and writes, with the floats shown as bit patterns.
+-- Gives what a search answers and writes, with the floats shown as bit patterns.
 abbrev pub shown : Answer × SearchOut → Answer × List ℕ × List ℕ × List ℕ
 shown x = (x .0, map (toBits binary64) (x .1 .matrices), x .1 .rows, x .1 .marks)
 
--- The dyad's types, its members (the identity and the mirror) and its rotation, each in buffers that the answer just fills.
+-- These are the dyad's types, its members (the identity and the mirror) and its rotation, each in buffers that the answer just fills.
 pub dyad-types : typesCall dyad 96 80 (typesOld 2 4) ≡ (Done 1, record { elements = 0 ∷ 0 ∷ []; types = 1 ∷ 0 ∷ 0 ∷ 2 ∷ [] })
 unfolding evaluate
 dyad-types = refl
@@ -112,19 +114,19 @@ pub unequal-text : kitText unequal ≡ ascii "types 1\n1 0 0 2\nmembers 1 confir
 unfolding evaluate
 unequal-text = refl
 
--- The question "whose hull is further than EPS from the origin" is asked of the hull's own distance. By its listed value neither facet would be further, and
--- the search would be refused 10.
+-- The question "whose hull is further than EPS from the origin" is asked of the hull's own distance. By its listed value neither facet would be
+-- further, and the search would be refused 10.
 pub listed-nearer-members : searchCall listedNearer 96 80 (searchOld 2 4 2) .0 ≡ Done 1
 unfolding evaluate
 listed-nearer-members = refl
 
 -- ---- clean
 
--- Whether the solid of a sheet is clean, or the sheet's own refusal where it has one.
+-- Tells whether the solid of a sheet is clean, or the sheet's own refusal where it has one.
 abbrev pub cleanSheet : List ℕ → Judged Bool
 cleanSheet b = preflight b 4096 2048 >>= λ c. passed (clean c)
 
--- The polygon with the given edges and, as bit patterns, the given coordinates.
+-- Gives the polygon with the given edges and, as bit patterns, the given coordinates.
 abbrev pub polygon : List (List ℕ) → (d : ℕ) → List (List ℕ) → Concrete
 polygon edges d ps = record {
   dimension = d;
@@ -135,30 +137,32 @@ polygon edges d ps = record {
 abbrev pub triangleOf : (d : ℕ) → List (List ℕ) → Concrete
 triangleOf = polygon ((0 ∷ 1 ∷ []) ∷ (1 ∷ 2 ∷ []) ∷ (0 ∷ 2 ∷ []) ∷ [])
 
--- Clean solids of rank 2: one with two members; two whose search is refused 11 and 10 before it makes a candidate; two with a candidate that is no member.
+-- These are clean solids of rank 2: one with two members; two whose search is refused 11 and 10 before it makes a candidate; two with a candidate
+-- that is no member.
 pub clean-dyads : map cleanSheet (dyad ∷ lopsided ∷ tiny ∷ unequal ∷ listedNearer ∷ [])
     ≡ passed true ∷ passed true ∷ passed true ∷ passed true ∷ passed true ∷ []
 unfolding evaluate
 clean-dyads = refl
 
--- The distances 0 and 1e-7 are both listed, and each is nearer than EPS to itself alone. (The search is refused 9.)
+-- The distances 0 and 1e-7 are both listed, and each is nearer than EPS to itself alone. The search is refused 9.
 pub clean-close : cleanSheet close ≡ passed true
 unfolding evaluate
 clean-close = refl
 
--- The triangle, D = 1, at 0, 1e-7 and 0.5e-7: any two coordinates differ by at most EPS, and the third distance is nearer than EPS to both others.
+-- In the triangle, D = 1, at 0, 1e-7 and 0.5e-7, any two coordinates differ by at most EPS, and the third distance is nearer than EPS to both others.
 pub not-clean-between : clean (triangleOf 1 ((0 ∷ []) ∷ (0x3e7ad7f29abcaf48 ∷ []) ∷ (0x3e6ad7f29abcaf48 ∷ []) ∷ [])) ≡ false
 unfolding evaluate
 not-clean-between = refl
 
--- The distances 0, 0.6e-7 and 1.2e-7: the second takes the first value, and the third lists another that is near the second too.
+-- The distances are 0, 0.6e-7 and 1.2e-7: the second takes the first value, and the third lists another that is near the second too.
 pub not-clean-whole-list : cleanDistances (map (ofBits binary64) (0 ∷ 0x3e701b2b29a4692b ∷ 0x3e801b2b29a4692b ∷ [])) ≡ false
 unfolding evaluate
 not-clean-whole-list = refl
 
--- The triangle (1,0), (−0.50000003,0.86602546), (−0.50000006,−0.86602551). Its vertices' distances are about 1, 1.00000006 and 1.00000012: none is near two
--- listed values when it is taken, and the second is when the list is whole. Its coordinates and images are clean. The Rust, which looks distances up again,
--- gives it 6 types and 1 member, and these definitions give it 4 and 2 (crates/trials, Differences), so that it must not pass for clean.
+-- This is the triangle (1,0), (−0.50000003,0.86602546), (−0.50000006,−0.86602551). Its vertices' distances are about 1, 1.00000006 and 1.00000012:
+-- none is near two listed values when it is taken, and the second is when the list is whole. Its coordinates and images are clean. The Rust, which
+-- looks distances up again, gives it 6 types and 1 member, and these definitions give it 4 and 2 (crates/trials, Differences), so that it must not
+-- pass for clean.
 abbrev pub later : Concrete
 later = triangleOf 2 ((0x3ff0000000000000 ∷ 0 ∷ []) ∷ (0xbfe00000101b2b2a ∷ 0x3febb67b068681e5 ∷ []) ∷ (0xbfe0000020365653 ∷ 0xbfebb67b215e7480 ∷ []) ∷ [])
 
@@ -166,9 +170,9 @@ pub not-clean-later : clean later ≡ false
 unfolding evaluate
 not-clean-later = refl
 
--- The quadrangle (−1,−1), (1,−1), (4.5e-8,1), (−6e-8,1). Under the mirror the third vertex's image is near the third and the fourth vertex. By the lowest
--- number it goes to the third, and the mirror is no member; by the least point, as in the Rust, it goes to the fourth, and the mirror is one. So the images
--- of members alone, which here are those of the identity, would let a difference from the Rust pass for clean.
+-- This is the quadrangle (−1,−1), (1,−1), (4.5e-8,1), (−6e-8,1). Under the mirror the third vertex's image is near the third and the fourth vertex.
+-- By the lowest number it goes to the third, and the mirror is no member; by the least point, as in the Rust, it goes to the fourth, and the mirror
+-- is one. So the images of members alone, which here are those of the identity, would let a difference from the Rust pass for clean.
 abbrev pub folded : Concrete
 folded = polygon ((0 ∷ 1 ∷ []) ∷ (1 ∷ 2 ∷ []) ∷ (2 ∷ 3 ∷ []) ∷ (0 ∷ 3 ∷ []) ∷ []) 2 (
     (0xbff0000000000000 ∷ 0xbff0000000000000 ∷ [])
@@ -183,7 +187,8 @@ not-clean-candidate = refl
 
 -- ---- sweeps
 
--- Eight vertices in a ring, of which vertex 0 alone has a class of its own. Each sweep tells one more pair apart, and the fourth is the last.
+-- There are eight vertices in a ring, of which vertex 0 alone has a class of its own. Each sweep tells one more pair apart, and the fourth is the
+-- last.
 abbrev octagon : Solid
 octagon =
     ([] ∷ [])
@@ -200,7 +205,7 @@ pub octagon-types : result octagon oneApart
 unfolding evaluate
 octagon-types = refl
 
--- The counts and examples of types that share a rank: of the prism's six vertices, four have one type and two another.
+-- These are the counts and examples of types that share a rank: of the prism's six vertices, four have one type and two another.
 pub prism-element-types : elementTypes prism ((0 ∷ []) ∷ (0 ∷ 1 ∷ 0 ∷ 0 ∷ 1 ∷ 0 ∷ []) ∷ replicate 9 0 ∷ replicate 5 0 ∷ (0 ∷ []) ∷ [])
     ≡ record { rank = 1; number = 0; example = 0; count = 4 }
     ∷ record { rank = 1; number = 1; example = 1; count = 2 }
@@ -217,8 +222,8 @@ pub class-clause : marked square sides (1 ∷ 2 ∷ 3 ∷ 0 ∷ []) ≡ false
 unfolding evaluate
 class-clause = refl
 
--- Four vertices, their six edges, and the one face 0 1 2 3. With 1 and 2 exchanged each edge goes to an edge and the face to itself, but the face's edges 01
--- and 23 go to 02 and 13, which are not the face's.
+-- There are four vertices, their six edges, and the one face 0 1 2 3. With 1 and 2 exchanged each edge goes to an edge and the face to itself, but
+-- the face's edges 01 and 23 go to 02 and 13, which are not the face's.
 abbrev fourCycle : Solid
 fourCycle =
     ([] ∷ [])
@@ -249,8 +254,8 @@ repeat-clause = refl
 
 -- ---- single rules
 
--- "a list's length counts as entries when it is read": entry 8,192 passes, and entry 8,193 is refused 2 before the sheet's end, which comes next, is seen. A
--- length of 0 adds no entry, and is refused 4.
+-- "a list's length counts as entries when it is read": entry 8,192 passes, and entry 8,193 is refused 2 before the sheet's end, which comes next, is
+-- seen. A length of 0 adds no entry, and is refused 4.
 pub entries-full : list (0 ∷ 16 ∷ 0 ∷ []) 1 8191 0 ≡ passed (0 ∷ [], 23)
 unfolding evaluate
 entries-full = refl

@@ -1,5 +1,6 @@
--- Section 6, "Clean": the input on which the Rust and these definitions are held to agree. No call asks whether its input is clean. The comparison with the
--- Rust (compare/clean.rs, tools/search_model.py) tests this definition, under the same names, and leaves out what is not clean.
+-- This file has section 6's "Clean": the input on which the Rust and these definitions are held to agree. No call asks whether its input is clean.
+-- The comparison with the Rust (compare/clean.rs, tools/search_model.py) tests this definition, under the same names, and leaves out what is not
+-- clean.
 -- Assumes nothing.
 use mathlib.Core.Path.{_≡_}
 use mathlib.Core.Logic.{_↔_}
@@ -23,16 +24,16 @@ use Rattle.spec.specs.Search.{Setting, candidate, sameTypes, allFinite, 
 
 -- ---- coordinates and images
 
--- "differ by at most EPS": of the rounded difference, EPS included. Finding asks the same on each axis.
+-- Two values "differ by at most EPS" by their rounded difference, EPS included. Finding asks the same on each axis.
 unfoldable pub withinEps : Float → Float → Bool
 withinEps x y = near (x ∷ []) (y ∷ [])
 
--- Whether the relation "is transitive among" the values xs: where x and y differ by at most EPS, and y and z do, so do x and z.
+-- Tells whether the relation "is transitive among" the values xs: where x and y differ by at most EPS, and y and z do, so do x and z.
 unfoldable pub transitive : List Float → Bool
 transitive xs =
     every (λ x. every (λ y. elim (withinEps x y) [ true ↦ every (λ z. elim (withinEps y z) [ true ↦ withinEps x z | false ↦ true ]) xs | false ↦ true ]) xs) xs
 
--- Whether two integers, and two floats, are one and the same; of floats, +0 and −0 are not.
+-- Tells whether two integers, and two floats, are one and the same; of floats, +0 and −0 are not.
 unfoldable pub sameInteger : ℤ → ℤ → Bool
 sameInteger (pos m) (pos n) = eqb m n
 sameInteger (pos m) (negsuc n) = false
@@ -50,41 +51,41 @@ sameFloat (fin s m e) nan = false
 sameFloat (fin s m e) (inf t) = false
 sameFloat (fin s m e) (fin t n d) = Bool·beq s t && eqb m n && sameInteger e d
 
--- The values of the points on axis k.
+-- Lists the values of the points on axis k.
 abbrev pub onAxis : List Vector → ℕ → List Float
 onAxis ps k = map (λ p. getD p k zeroF) ps
 
--- "is transitive among coordinates and images on each axis, images are finite": of the points ps with the images qs, in d dimensions. Each value is taken
--- once, which changes nothing (`EveryClean.points`) and keeps an evaluation short.
+-- This says "is transitive among coordinates and images on each axis, images are finite" of the points ps with the images qs, in d dimensions. Each
+-- value is taken once, which changes nothing (`EveryClean.points`) and keeps an evaluation short.
 unfoldable pub cleanPoints : ℕ → List Vector → List Vector → Bool
 cleanPoints d ps qs = allFinite qs && every (λ k. transitive (distinct sameFloat (onAxis (ps ++ qs) k))) (range 0 d)
 
--- The images of the points under each matrix in turn.
+-- Lists the images of the points under each matrix in turn.
 unfoldable pub images : List Matrix → List Vector → List Vector
 images ms ps = join (map (λ m. map (mulVec m) ps) ms)
 
 -- ---- distances
 
--- The list after each of these distances has taken a listed value or joined, from the list l on.
+-- This is the list after each of these distances has taken a listed value or joined, from the list l on.
 unfoldable pub listedBy : List Float → List Float → List Float
 listedBy l [] = l
 listedBy l (x ∷ xs) = listedBy (listing l x .1) xs
 
--- "no distance is ever nearer than EPS to two listed values": strictly nearer, and to two values of the whole list. A value that joins after the distance was
--- taken counts as well, since the Rust looks every distance up again in every sweep.
+-- This says "no distance is ever nearer than EPS to two listed values", which means strictly nearer, and to two values of the whole list. A value
+-- that joins after the distance was taken counts as well, since the Rust looks every distance up again in every sweep.
 unfoldable pub cleanDistances : List Float → Bool
 cleanDistances xs = let l = listedBy [] xs in every (λ x. leb (count nearer x l) 1) xs
 
 -- ---- a solid
 
--- The candidates that are tested: those of the flags whose elements have the first flag's types, whether or not they become members.
+-- These are the candidates that are tested: those of the flags whose elements have the first flag's types, whether or not they become members.
 unfoldable pub candidates : Setting → List Flag → List Matrix
 candidates w [] = []
 candidates w (F ∷ Fs) = elim (sameTypes w F) [ true ↦ candidate w F ∷ candidates w Fs | false ↦ candidates w Fs ]
 
--- Whether a solid is clean. Its distances are listed as it was read and, in a search, once more with its facets exchanged. Its images are those of every
--- vertex under every candidate of that search. Where the search is refused before it makes a candidate (8, 9, 10, 15, 11), there are no images and no answer
--- turns on the second list, so only the coordinates and the first list are asked.
+-- Tells whether a solid is clean. Its distances are listed as it was read and, in a search, once more with its facets exchanged. Its images are those
+-- of every vertex under every candidate of that search. Where the search is refused before it makes a candidate (8, 9, 10, 15, 11), there are no
+-- images and no answer turns on the second list, so only the coordinates and the first list are asked.
 unfoldable pub clean : Concrete → Bool
 clean c = cleanDistances (distances c) && elim (setting c) [
   | refused why ↦ cleanPoints (c .dimension) (c .points) []
@@ -93,13 +94,13 @@ clean c = cleanDistances (distances c) && elim (setting c) [
 
 -- ---- copying
 
--- The points that copying multiplies, from the copies cs on: those "not found among the copies".
+-- These are the points that copying multiplies, from the copies cs on: those "not found among the copies".
 unfoldable pub multiplied : List Matrix → List Vector → List Vector → List Vector
 multiplied ms [] cs = []
 multiplied ms (p ∷ ps) cs = elim (found cs p) [ true ↦ multiplied ms ps cs | false ↦ p ∷ multiplied ms ps (spread ms p cs) ]
 
--- Whether a copying is clean: "In copying, the first two are meant of points, copies and images". The images are those that copying makes: of the points that
--- it multiplies, and of the copies.
+-- Tells whether a copying is clean: "In copying, the first two are meant of points, copies and images". The images are those that copying makes: of
+-- the points that it multiplies, and of the copies.
 unfoldable pub cleanCopying : ℕ → List Vector → List Matrix → Bool
 cleanCopying d ps ms = let cs = copies ms ps in cleanPoints d (ps ++ cs) (images ms (multiplied ms ps [] ++ cs))
 
@@ -109,12 +110,13 @@ cleanCopying d ps ms = let cs = copies ms ps in cleanPoints d (ps ++ cs) (images
 abbrev pub Transitive : List Float → Type 0
 Transitive xs = (x y z : Float) → In x xs → In y xs → In z xs → withinEps x y ≡ true → withinEps y z ≡ true → withinEps x z ≡ true
 
--- The first two clauses, of the points ps with the images qs in d dimensions.
+-- These are the first two clauses, of the points ps with the images qs in d dimensions.
 pub record CleanPoints (d : ℕ) (ps qs : List Vector) : Type 0 where
   pub axes : (k : ℕ) → k < d → Transitive (onAxis (ps ++ qs) k)
   pub images : (q : Vector) → In q qs → (x : Float) → In x q → finite x ≡ true
 
--- The third clause, of the distances xs: where a distance is nearer than EPS to the listed values of the numbers i and j, these are one number.
+-- This is the third clause, of the distances xs: where a distance is nearer than EPS to the listed values of the numbers i and j, these are one
+-- number.
 abbrev pub CleanDistances : List Float → Type 0
 CleanDistances xs = (x : Float) → In x xs → (i j : ℕ) → i < length (listedBy [] xs) → j < length (listedBy [] xs)
     → nearer (getD (listedBy [] xs) i zeroF) x ≡ true → nearer (getD (listedBy [] xs) j zeroF) x ≡ true → i ≡ j

@@ -1,4 +1,4 @@
--- Section 7: copying, with its answers and outputs.
+-- This file has section 7: copying, with its answers and outputs.
 -- Assumes nothing.
 use Prim.Native.Nat.{ℕ, zero, suc, _-_, _*_, _/_, _%_, _^_, min}
 use mathlib.Core.Bool.{Bool, true, false, _&&_}
@@ -17,83 +17,83 @@ use Rattle.spec.specs.Matrix.{Vector, Matrix, mulVec}
 
 -- ---- finding
 
--- Whether two points are "within EPS, EPS included, .. on every axis" of each other.
+-- Tells whether two points are "within EPS, EPS included, .. on every axis" of each other.
 unfoldable pub near : Vector → Vector → Bool
 near [] ys = true
 near (x ∷ xs) [] = true
 near (x ∷ xs) (y ∷ ys) = elim (le (absF (minus x y)) eps) [ true ↦ near xs ys | false ↦ false ]
 
--- Whether the point q is found among ps.
+-- Tells whether the point q is found among ps.
 unfoldable pub found : List Vector → Vector → Bool
 found ps q = holds near q ps
 
--- The number of the point that is found, "lowest number taken", or how many points there are where none is near.
+-- This is the number of the point that is found, "lowest number taken", or how many points there are where none is near.
 unfoldable pub find : List Vector → Vector → ℕ
 find ps q = place near q ps
 
 -- ---- copying
 
--- The copies after one point is "multiplied by every matrix in order; each image not found joins".
+-- These are the copies after one point is "multiplied by every matrix in order; each image not found joins".
 unfoldable pub spread : List Matrix → Vector → List Vector → List Vector
 spread [] p cs = cs
 spread (m ∷ ms) p cs =
     let q = mulVec m p in
     elim (found cs q) [ true ↦ spread ms p cs | false ↦ spread ms p (cs ++ q ∷ []) ]
 
--- The copies after all points are taken in turn: "A point not found among the copies is multiplied ..".
+-- These are the copies after all points are taken in turn: "A point not found among the copies is multiplied ..".
 unfoldable pub copiesFrom : List Matrix → List Vector → List Vector → List Vector
 copiesFrom ms [] cs = cs
 copiesFrom ms (p ∷ ps) cs = elim (found cs p) [ true ↦ copiesFrom ms ps cs | false ↦ copiesFrom ms ps (spread ms p cs) ]
 
--- The copies of all points, starting with none.
+-- These are the copies of all points, starting with none.
 unfoldable pub copies : List Matrix → List Vector → List Vector
 copies ms ps = copiesFrom ms ps []
 
--- The number of each copy's image under m, or the number of copies where the image isn't among them.
+-- This is the number of each copy's image under m, or the number of copies where the image isn't among them.
 unfoldable pub copyRow : List Vector → Matrix → List ℕ
 copyRow cs m = map (λ c. find cs (mulVec m c)) cs
 
--- The whole table: "a table row per matrix gives each copy's image". The rows are stored one after another.
+-- This is the whole table: "a table row per matrix gives each copy's image". The rows are stored one after another.
 unfoldable pub copyTable : List Matrix → List Vector → List ℕ
 copyTable ms cs = join (map (copyRow cs) ms)
 
 -- ---- the constant table
 
--- The orders of three axes, in dictionary order.
+-- These are the orders of three axes, in dictionary order.
 unfoldable pub orders : List (List ℕ)
 orders = (0 ∷ 1 ∷ 2 ∷ []) ∷ (0 ∷ 2 ∷ 1 ∷ []) ∷ (1 ∷ 0 ∷ 2 ∷ []) ∷ (1 ∷ 2 ∷ 0 ∷ []) ∷ (2 ∷ 0 ∷ 1 ∷ []) ∷ (2 ∷ 1 ∷ 0 ∷ []) ∷ []
 
--- The unit of row i, which the sign bits decide: "s three sign bits, first axis highest, 1 minus".
+-- This is the unit of row i, which the sign bits decide: "s three sign bits, first axis highest, 1 minus".
 unfoldable pub signed : ℕ → ℕ → Float
 signed s i = elim (eqb (s / 2 ^ (2 - i) % 2) 1) [ true ↦ neg oneF | false ↦ oneF ]
 
--- The matrix of an order and its signs: "row i has its unit at the column the order names".
+-- This is the matrix of an order and its signs: "row i has its unit at the column the order names".
 unfoldable pub axisOrder : List ℕ → ℕ → Matrix
 axisOrder o s = zip (λ i c. map (λ j. elim (eqb j c) [ true ↦ signed s i | false ↦ zeroF ]) (range 0 3)) (range 0 3) o
 
--- The table of "48 signed axis orders in 3 dimensions: entry 8 times p + s, p the order's dictionary rank".
+-- This is the table of "48 signed axis orders in 3 dimensions: entry 8 times p + s, p the order's dictionary rank".
 unfoldable pub axisOrders : List Matrix
 axisOrders = join (map (λ o. map (axisOrder o) (range 0 8)) orders)
 
 -- ---- the call
 
--- The list l cut into k parts of n cells each.
+-- Gives the list l cut into k parts of n cells each.
 unfoldable pub parts : {A : Type 0} → ℕ → ℕ → List A → List (List A)
 parts zero n l = []
 parts (suc k) n l = take n l ∷ parts k n (drop n l)
 
--- The points of a buffer, and below them its matrices, which are stored row by row.
+-- These are the points of a buffer, and below them its matrices, which are stored row by row.
 unfoldable pub points : ℕ → List Float → List Vector
 points d l = parts (length l / d) d l
 
 unfoldable pub matrices : ℕ → List Float → List Matrix
 matrices d l = map (parts d d) (parts (length l / (d * d)) (d * d) l)
 
--- The buffer after new values are written from its first cell on: "Cells past the answer never change".
+-- This is the buffer after new values are written from its first cell on: "Cells past the answer never change".
 unfoldable pub written : {A : Type 0} → List A → List A → List A
 written new old = new ++ drop (length new) old
 
--- The refusals of copying that look at the input alone. They are the first four of "copying goes 2, 1, 3, 12, 13, 14".
+-- These are the refusals of copying that look at the input alone. They are the first four of "copying goes 2, 1, 3, 12, 13, 14".
 unfoldable pub judgeCopy : ℕ → List Float → List Float → Judged (Unit {0})
 judgeCopy d ps ts = do
   judge Format (leb 1 d && leb d maxDimension)
@@ -101,8 +101,8 @@ judgeCopy d ps ts = do
   judge OffTheBoard (every inRange ps && every inRange ts)
   judge Blank (ltb 0 (length ps) && ltb 0 (length ts))
 
--- The rest, where cs are the copies under the matrices ms and there is room for n points: 13 for points and then for table entries, then 14. "13 keeps what
--- fitted .. (points only); 14 keeps the points and sets the table's entries, matrices times copies, to 65,535".
+-- This is the rest, where cs are the copies under the matrices ms and there is room for n points: 13 for points and then for table entries, then 14.
+-- "13 keeps what fitted .. (points only); 14 keeps the points and sets the table's entries, matrices times copies, to 65,535".
 unfoldable pub copyOut : ℕ → List Matrix → List Vector → List Float → List ℕ → Answer × List Float × List ℕ
 copyOut n ms cs outPoints outTable =
     let kept = take n cs in
@@ -116,8 +116,8 @@ copyOut n ms cs outPoints outTable =
       ]
     ]
 
--- The copying call takes points and matrices, then its two outputs as they were. No more than 2,048 points have room, so "copies over 2,048" are refused 13
--- too.
+-- The copying call takes points and matrices, then its two outputs as they were. No more than 2,048 points have room, so "copies over 2,048" are
+-- refused 13 too.
 unfoldable pub copyCall : (d : ℕ) (ps ts outPoints : List Float) (outTable : List ℕ) → Answer × List Float × List ℕ
 copyCall d ps ts outPoints outTable = elim (judgeCopy d ps ts) [
   | refused why ↦ (Refused why 0, outPoints, outTable)

@@ -1,4 +1,4 @@
--- Demand 3, as one statement over any list of steps.
+-- This file has demand 3, as one statement over any list of steps.
 -- Assumes nothing.
 use mathlib.Core.Path.{_≡_}
 use mathlib.Core.Logic.{_≢_, _↔_}
@@ -21,7 +21,7 @@ abbrev pub Rising : List ℕ → Type 0
 Rising [] = Unit {0}
 Rising (x ∷ l) = RisingAbove x l
 
--- What section 2 asks of a solid, as far as its types depend on it.
+-- This is what section 2 asks of a solid, as far as its types depend on it.
 pub record Sound (s : Solid) : Type 0 where
   -- Rank 0 holds one least element, which has no subs.
   pub least : getD s 0 [] ≡ [] ∷ []
@@ -53,7 +53,7 @@ Steady s S = (x : Step) → Proper s (at x) → (r e f : ℕ) → e < size s r �
 abbrev pub Final : Solid → State → State → Type 0
 Final s S z = Steady s S → (r e : ℕ) → Proper s r → e < size s r → typeOf S r e ≡ typeOf z r e
 
--- A map of elements that keeps rank and class, never takes two elements to one, and takes subs exactly onto subs.
+-- The map of elements keeps rank and class, never takes two elements to one, and takes subs exactly onto subs.
 pub record Carries (s : Solid) (cls : Classes) (σ : ℕ → ℕ → ℕ) : Type 0 where
   pub ranks : (r e : ℕ) → e < size s r → σ r e < size s r
   pub classes : (r e : ℕ) → Proper s r → e < size s r → cls r (σ r e) ≡ cls r e
@@ -62,7 +62,7 @@ pub record Carries (s : Solid) (cls : Classes) (σ : ℕ → ℕ → ℕ) : Type
   pub least : σ 0 0 ≡ 0
   pub peak : σ (top s) 0 ≡ 0
 
--- What demand 3 says of a state S and the result z.
+-- This is what demand 3 says of a state S and the result z.
 pub record Agree (s : Solid) (cls : Classes) (S z : State) : Type 0 where
   -- (a) What S tells apart, the result tells apart.
   pub finer : (r e f : ℕ) → e < size s r → f < size s r → typeOf S r e ≢ typeOf S r f → typeOf z r e ≢ typeOf z r f
@@ -74,7 +74,7 @@ pub record Agree (s : Solid) (cls : Classes) (S z : State) : Type 0 where
   -- So does any map of elements that keeps rank and class, never takes two elements to one, and takes subs exactly onto subs.
   pub carried : (σ : ℕ → ℕ → ℕ) → Carries s cls σ → (r e : ℕ) → e < size s r → (typeOf S r (σ r e) ≡ typeOf S r e) × (typeOf z r (σ r e) ≡ typeOf z r e)
 
--- Demand 3 for every solid that section 2 allows, its result, and the state after any list of steps at proper ranks.
+-- Demand 3 holds for every solid that section 2 allows, its result, and the state after any list of steps at proper ranks.
 abbrev pub Demand3 : Type 0
 Demand3 =
     (s : Solid) → Sound s → (cls : Classes) (z : State) → result s cls ≡ some z

@@ -1,4 +1,5 @@
--- Demand 3 as one statement about the calls, from a sheet's bytes: what the types call gives out, any list of steps, and the members that a search lists.
+-- This file has demand 3 as one statement about the calls, from a sheet's bytes: what the types call gives out, any list of steps, and the members
+-- that a search lists.
 -- Assumes nothing.
 use mathlib.Core.Path.{_≡_}
 use Prim.Native.Nat.{ℕ, _*_, _<_}
@@ -18,7 +19,7 @@ use Rattle.spec.specs.Solid.{Concrete, preflight}
 use Rattle.spec.specs.Classes.{classTable, byTable, typesOf}
 use Rattle.spec.specs.Calls.{typeCells, TypesOut, typesCall, SearchOut, searchCall, rotationsCall}
 
--- Row k of the cells, where each row has v cells.
+-- This is row k of the cells, where each row has v cells.
 unfoldable pub rowAt : ℕ → ℕ → List ℕ → List ℕ
 rowAt v k cells = take v (drop (k * v) cells)
 
@@ -28,13 +29,13 @@ pub record KeepsType (s : Solid) (S z : State) (row : List ℕ) (r e : ℕ) : Ty
   pub after : typeOf S r (goes s row r e) ≡ typeOf S r e
   pub result : typeOf z r (goes s row r e) ≡ typeOf z r e
 
--- "Listed members are those that a search call writes out": each row that any search call, or rotations call, on the sheet b writes with mark 1 keeps every
--- element's type.
+-- "Listed members are those that a search call writes out": each row that any search call, or rotations call, on the sheet b writes with mark 1 keeps
+-- every element's type.
 pub record ListedMembers (call : List ℕ → ℕ → ℕ → SearchOut → Answer × SearchOut) (b : List ℕ) (c : Concrete) (S z : State) : Type 0 where
   pub confirmed : (words floats : ℕ) (old : SearchOut) (k : ℕ) → k < answerCount (call b words floats old .0) → getD (call b words floats old .1 .marks) k 0 ≡ 1
       → (r e : ℕ) → e < size (c .abs) r → KeepsType (c .abs) S z (rowAt (length (c .points)) k (call b words floats old .1 .rows)) r e
 
--- What demand 3 says of the state S after a list of steps, and of the result z.
+-- This is what demand 3 says of the state S after a list of steps, and of the result z.
 pub record Demand3After (b : List ℕ) (c : Concrete) (S z : State) : Type 0 where
   -- (a) What S tells apart, z tells apart; (b) if no step would part more, their numbers are the same; and (c) holds of any row that the mark's rule
   -- confirms.
@@ -43,7 +44,7 @@ pub record Demand3After (b : List ℕ) (c : Concrete) (S z : State) : Type 0 whe
   pub searches : ListedMembers searchCall b c S z
   pub rotations : ListedMembers rotationsCall b c S z
 
--- What demand 3 says of a types call that gives out n types.
+-- This is what demand 3 says of a types call that gives out n types.
 pub record Demand3Call (b : List ℕ) (words floats : ℕ) (old : TypesOut) (n : ℕ) : Type 0 where
   -- The solid is the sheet's, and "our result is what the types call gives out, the state when the sweeps end".
   pub solid : Concrete

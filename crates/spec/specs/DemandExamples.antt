@@ -1,4 +1,5 @@
--- Demand 3's terms on a square, one corner of which lies at a distance of its own: what a step parts, which state is not steady, and what the result is there.
+-- This file tries demand 3's terms on a square, one corner of which lies at a distance of its own: what a step parts, which state is not steady, and
+-- what the result is there.
 -- Assumes nothing.
 use mathlib.Core.Path.{_≡_, refl, sym, subst}
 use mathlib.Core.Logic.{_≢_}
@@ -64,8 +65,8 @@ unchanged (down (suc (suc (suc r)))) p = absurd (omega (arith, p .1))
 pub steady : Steady square ended
 steady x p r e f he hf w = w .1 (subst (λ (S : State). typeOf S r e ≡ typeOf S r f) (sym (unchanged x p)) (w .0))
 
--- (b) asks nothing of the start, whose numbers are not the result's, because the start is not steady. The result is steady, so (b) would be false here if
--- that were its condition.
+-- (b) asks nothing of the start, whose numbers are not the result's, because the start is not steady. The result is steady, so (b) would be false
+-- here if that were its condition.
 pub final-begun : Final square begun ended
 final-begun st = absurd (not-steady st)
 

@@ -1,4 +1,4 @@
--- One name that opens every definition that the types and search calls, `kitText` and `clean` compute through, so that an example is evaluated under
+-- One name opens every definition that the types and search calls, `kitText` and `clean` compute through, so that an example is evaluated under
 -- `unfolding evaluate`. The copying call is opened by `all` of NumberExamples.
 -- Assumes nothing.
 use Prim.Native.Nat.{ℕ}

@@ -1,4 +1,4 @@
--- What section 5 says of every solid whose sheet passes preflight, both as it was read and after search has exchanged its facets.
+-- This file has what section 5 says of every solid whose sheet passes preflight, both as it was read and after search has exchanged its facets.
 -- Assumes nothing.
 use mathlib.Core.Path.{_≡_}
 use Prim.Native.Nat.{ℕ, _-_, _≤_, _<_}
@@ -11,7 +11,7 @@ use Rattle.spec.specs.Solid.{Concrete, preflight}
 use Rattle.spec.specs.Flags.{Flag, firstFlag, flags, IsFlag, Listed, Changed}
 use Rattle.spec.specs.Search.{exchangedIn}
 
--- What section 5 says of a solid's flags.
+-- This is what section 5 says of a solid's flags.
 pub record FlagsOf (s : Solid) : Type 0 where
   -- The iterator "gives every flag once, the sub at rank 1 moving fastest".
   pub listed : Listed s
@@ -21,7 +21,7 @@ pub record FlagsOf (s : Solid) : Type 0 where
   -- Changing a flag does what section 5 says: "A change at r gives the other of the two elements between its neighbours".
   pub changed : (r : ℕ) → Proper s r → (F : Flag) → IsFlag s F → Changed s r F
 
--- The flags of the solid as read, and of the one that search walks, where facet f has changed places with facet 0.
+-- These laws hold of the flags of the solid as read, and of the one that search walks, where facet f has changed places with facet 0.
 pub record FlagLaws (c : Concrete) : Type 0 where
   pub read : FlagsOf (c .abs)
   pub searched : 2 ≤ top (c .abs) → (f : ℕ) → f < size (c .abs) (top (c .abs) - 1) → FlagsOf (exchangedIn (c .abs) f)

@@ -1,4 +1,4 @@
--- Section 5: flags, and what McMullen and Schulte say of them.
+-- This file has section 5: flags, and what McMullen and Schulte say of them.
 -- Assumes nothing.
 use mathlib.Core.Path.{_≡_}
 use mathlib.Core.Logic.{_≢_, _↔_}
@@ -27,7 +27,8 @@ firstTo s (suc r) e = firstTo s r (getD (subs s (suc r) e) 0 0) ++ (e ∷ [])
 unfoldable pub firstFlag : Solid → Flag
 firstFlag s = firstTo s (top s) 0
 
--- The list of flags gives "every flag once, the sub at rank 1 moving fastest". These are the parts of flags that go down from the element e of rank r.
+-- The list of flags gives "every flag once, the sub at rank 1 moving fastest". These are the parts of flags that go down from the element e of rank
+-- r.
 unfoldable pub flagsTo : Solid → ℕ → ℕ → List Flag
 flagsTo s zero e = (e ∷ []) ∷ []
 flagsTo s (suc r) e = join (map (λ f. map (λ F. F ++ (e ∷ [])) (flagsTo s r f)) (subs s (suc r) e))
@@ -35,11 +36,11 @@ flagsTo s (suc r) e = join (map (λ f. map (λ F. F ++ (e ∷ [])) (flagsTo s r 
 unfoldable pub flags : Solid → List Flag
 flags s = flagsTo s (top s) 0
 
--- The first member of l that is not e.
+-- This is the first member of l that is not e.
 unfoldable pub other : ℕ → List ℕ → ℕ
 other e l = getD (keep (λ x. not (eqb x e)) l) 0 e
 
--- "A change at r gives the other of the two elements between its neighbours".
+-- "A change at r gives the other of the two elements between its neighbours."
 unfoldable pub change : Solid → ℕ → Flag → Flag
 change s r F = set F r (other (elementAt F r) (between s r (elementAt F (suc r)) (elementAt F (pred r))))
 

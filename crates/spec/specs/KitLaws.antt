@@ -1,4 +1,4 @@
--- Statements about what the program `kit` prints, for every input of a kind.
+-- These are statements about what the program `kit` prints, for every input of a kind.
 -- Assumes nothing.
 use mathlib.Core.Path.{_≡_}
 use Prim.Native.Nat.{ℕ, _<_}

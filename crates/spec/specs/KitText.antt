@@ -1,4 +1,4 @@
--- What the program `kit` prints for its standard input.
+-- This file says what the program `kit` prints for its standard input.
 -- Assumes nothing.
 use Prim.Native.Nat.{ℕ, zero, suc, _+_, _*_, _/_, _%_}
 use mathlib.Core.Bool.{true, false}
@@ -16,7 +16,7 @@ use Rattle.spec.specs.Search.{Member, rotationsOf}
 use Rattle.spec.specs.Calls.{Given, typesGiven, Room, Outcome, outcome, membersIn}
 use Rattle.spec.specs.Ascii.{ascii}
 
--- The decimal digits of n, of which at most k are written.
+-- These are the decimal digits of n, of which at most k are written.
 unfoldable pub digits : ℕ → ℕ → List ℕ
 digits zero n = []
 digits (suc k) n = elim (ltb n 10) [ true ↦ (48 + n) ∷ [] | false ↦ digits k (n / 10) ++ ((48 + n % 10) ∷ []) ]
@@ -24,7 +24,7 @@ digits (suc k) n = elim (ltb n 10) [ true ↦ (48 + n) ∷ [] | false ↦ digits
 unfoldable pub decimal : ℕ → List ℕ
 decimal n = digits (suc n) n
 
--- "A refusal prints `refused` and its number".
+-- "A refusal prints `refused` and its number."
 unfoldable pub refusedLine : Refusal → List ℕ
 refusedLine why = ascii "refused " ++ decimal (number why) ++ ascii "\n"
 
@@ -66,13 +66,13 @@ workWords = 4096
 abbrev pub workFloats : ℕ
 workFloats = 2048
 
--- The longest input that is read: "input past 8,192 bytes is refused 1".
+-- This is the longest input that is read: "input past 8,192 bytes is refused 1".
 abbrev pub longest : ℕ
 longest = 8192
 
 -- ---- the text
 
--- "A refusal prints `refused` and its number, after the types if they stood".
+-- "A refusal prints `refused` and its number, after the types if they stood."
 unfoldable pub afterTypes : Judged Given → List ℕ → List ℕ
 afterTypes (refused why) b = refusedLine why
 afterTypes (passed g) b = typesLines (g .types) ++ lastLine (outcome (membersIn b workWords workFloats) lent)

@@ -1,24 +1,24 @@
--- Section 2, "Limits": each number stands here once for the definitions, and once in src/lib.rt for the programs.
+-- The numbers of section 2, "Limits", stand here: each stands here once for the definitions, and once in src/lib.rt for the programs.
 -- Assumes nothing.
 use Prim.Native.Nat.{ℕ}
 use lib.Ieee.{Float, binary64, ofBits}
 
--- The greatest rank R of a sheet: "R 0 to 5".
+-- This is the greatest rank R of a sheet: "R 0 to 5".
 abbrev pub maxRank : ℕ
 maxRank = 5
 
--- The greatest dimension D: "D 0 to 4", and in copying "D 1 to 4".
+-- This is the greatest dimension D: "D 0 to 4", and in copying "D 1 to 4".
 abbrev pub maxDimension : ℕ
 maxDimension = 4
 
--- The greatest count of a proper rank, "counts 1 to 2,048", which is also the greatest number of copies: 13 comes at "copies over 2,048".
+-- This is the greatest count of a proper rank, "counts 1 to 2,048", which is also the greatest number of copies: 13 comes at "copies over 2,048".
 abbrev pub maxCount : ℕ
 maxCount = 2048
 
--- The greatest number of list entries: "at most 8,192 list entries a rank".
+-- This is the greatest number of list entries: "at most 8,192 list entries a rank".
 abbrev pub maxEntries : ℕ
 maxEntries = 8192
 
--- The greatest magnitude: "coordinate magnitude at most 1,048,576", which is 2 ^ 20.
+-- This is the greatest magnitude: "coordinate magnitude at most 1,048,576", which is 2 ^ 20.
 unfoldable pub maxMagnitude : Float
 maxMagnitude = ofBits binary64 0x4130_0000_0000_0000

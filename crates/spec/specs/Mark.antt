@@ -1,4 +1,4 @@
--- Section 6, "The mark": the rule by which a row is confirmed. The row gives the vertex that each vertex goes to.
+-- This file has section 6's "The mark", the rule by which a row is confirmed. The row gives the vertex that each vertex goes to.
 -- Assumes nothing.
 use Prim.Native.Nat.{ℕ, zero, suc, pred}
 use mathlib.Core.Bool.{Bool, true, false, not, _&&_}
@@ -12,11 +12,11 @@ unfoldable pub noRepeats : {A : Type 0} → (A → A → Bool) → List A → Bo
 noRepeats same [] = true
 noRepeats same (x ∷ l) = not (holds same x l) && noRepeats same l
 
--- The numbers below n that l holds, each once and rising, because vertices are "used in rising order".
+-- Lists the numbers below n that l holds, each once and rising, because vertices are "used in rising order".
 unfoldable pub inOrder : ℕ → List ℕ → List ℕ
 inOrder n l = keep (λ v. holds eqb v l) (range 0 n)
 
--- "An element's vertices are those met by going down its subs rank by rank until vertices are reached. They are used in rising order".
+-- "An element's vertices are those met by going down its subs rank by rank until vertices are reached. They are used in rising order."
 unfoldable pub reach : Solid → ℕ → ℕ → List ℕ
 reach s zero e = []
 reach s (suc zero) e = e ∷ []
@@ -25,33 +25,34 @@ reach s (suc (suc r)) e = join (map (λ f. reach s (suc r) f) (subs s (suc (suc 
 unfoldable pub vertices : Solid → ℕ → ℕ → List ℕ
 vertices s r e = inOrder (size s 1) (reach s r e)
 
--- The vertex sets of a rank's elements.
+-- Lists the vertex sets of a rank's elements.
 unfoldable pub vertexSets : Solid → ℕ → List (List ℕ)
 vertexSets s r = map (vertices s r) (range 0 (size s r))
 
--- Whether "no two elements of a rank have one vertex set".
+-- Tells whether "no two elements of a rank have one vertex set".
 abbrev pub setsApart : Solid → Bool
 setsApart s = every (λ r. noRepeats eqList (vertexSets s r)) (properRanks s)
 
--- The image of e's vertex set under the row.
+-- This is the image of e's vertex set under the row.
 unfoldable pub image : Solid → List ℕ → ℕ → ℕ → List ℕ
 image s row r e = inOrder (size s 1) (map (λ v. getD row v 0) (vertices s r e))
 
--- The element that e goes to: "the one whose vertex set is the image of its own", or the rank's size if there is none; "the least and the top to themselves".
+-- This is the element that e goes to: "the one whose vertex set is the image of its own", or the rank's size if there is none; "the least and the top
+-- to themselves".
 unfoldable pub goes : Solid → List ℕ → ℕ → ℕ → ℕ
 goes s row r e = elim (isProper s r) [ true ↦ place eqList (image s row r e) (vertexSets s r) | false ↦ e ]
 
--- One element's part of the rule: "every proper element goes to an element of its rank and distance class .., and its subs go exactly onto that element's
--- subs".
+-- This is one element's part of the rule: "every proper element goes to an element of its rank and distance class .., and its subs go exactly onto
+-- that element's subs".
 unfoldable pub carriesElement : Solid → Classes → List ℕ → ℕ → ℕ → Bool
 carriesElement s cls row r e =
     ltb (goes s row r e) (size s r)
     && eqb (cls r (goes s row r e)) (cls r e)
     && eqList (subs s r (goes s row r e)) (inOrder (size s (pred r)) (map (goes s row (pred r)) (subs s r e)))
 
--- The row is "confirmed, 1, exactly when ..: no two elements of a rank have one vertex set, the row repeats no vertex", and every proper element goes as the
--- rule says. A row that a search makes has an entry for each vertex, and its entries are vertices. Both are asked here as well, so that the rule is one of
--- any row.
+-- The row is "confirmed, 1, exactly when ..: no two elements of a rank have one vertex set, the row repeats no vertex", and every proper element goes
+-- as the rule says. A row that a search makes has an entry for each vertex, and its entries are vertices. Both are asked here as well, so that the
+-- rule is one of any row.
 unfoldable pub marked : Solid → Classes → List ℕ → Bool
 marked s cls row =
     setsApart s

@@ -1,4 +1,4 @@
--- Section 1: matrices, "held as rows of rows", with the inverse and the determinant by Gauss-Jordan.
+-- This file has section 1's matrices, "held as rows of rows", with the inverse and the determinant by Gauss-Jordan.
 -- Assumes nothing.
 use Prim.Native.Nat.{ℕ, suc, _-_, _%_}
 use mathlib.Core.Bool.{true, false}
@@ -22,40 +22,40 @@ row a r = getD a r []
 abbrev pub entry : Matrix → ℕ → ℕ → Float
 entry a r c = getD (row a r) c zeroF
 
--- The columns of a square matrix. Transposing goes both ways, so this is also the square matrix with the given columns.
+-- These are the columns of a square matrix. Transposing goes both ways, so this is also the square matrix with the given columns.
 unfoldable pub columns : Matrix → Matrix
 columns a = map (λ c. map (λ r. getD r c zeroF) a) (range 0 (length a))
 
--- A point's image, each entry of which is the dot of a row and the point.
+-- This is a point's image, each entry of which is the dot of a row and the point.
 unfoldable pub mulVec : Matrix → Vector → Vector
 mulVec a v = map (λ r. dot r v) a
 
--- The product of two matrices: "A matrix product uses such dots".
+-- This is the product of two matrices: "A matrix product uses such dots".
 unfoldable pub mulMat : Matrix → Matrix → Matrix
 mulMat a b = let cs = columns b in map (λ r. map (dot r) cs) a
 
 -- ---- Gauss-Jordan
 
--- Row i of the identity.
+-- This is row i of the identity.
 unfoldable pub unit : ℕ → ℕ → Vector
 unit d i = map (λ j. elim (eqb i j) [ true ↦ oneF | false ↦ zeroF ]) (range 0 d)
 
 unfoldable pub identity : ℕ → Matrix
 identity d = map (unit d) (range 0 d)
 
--- The rows as they stand, the pivots so far in order, and the number of swaps.
+-- These are the rows as they stand, the pivots so far in order, and the number of swaps.
 pub record Work : Type 0 where
   pub rows : Matrix
   pub pivots : List Float
   pub swaps : ℕ
 
--- The row that the pivot is taken from: "scanning down from row c, a later row is taken only if strictly larger". Here p is the row taken so far, and rs are
--- the rows that are left.
+-- This is the row that the pivot is taken from: "scanning down from row c, a later row is taken only if strictly larger". Here p is the row taken so
+-- far, and rs are the rows that are left.
 unfoldable pub scan : Matrix → ℕ → ℕ → List ℕ → ℕ
 scan a c p [] = p
 scan a c p (r ∷ rs) = elim (lt (absF (entry a p c)) (absF (entry a r c))) [ true ↦ scan a c r rs | false ↦ scan a c p rs ]
 
--- "In column c the pivot is the largest magnitude in rows c and below, lowest row on ties".
+-- "In column c the pivot is the largest magnitude in rows c and below, lowest row on ties."
 unfoldable pub pivotRow : Matrix → ℕ → ℕ
 pivotRow a c = scan a c c (range (suc c) (length a - suc c))
 
@@ -63,19 +63,19 @@ pivotRow a c = scan a c c (range (suc c) (length a - suc c))
 unfoldable pub swapRows : Matrix → ℕ → ℕ → Matrix
 swapRows a p c = set (set a p (row a c)) c (row a p)
 
--- The pivot row after the step "divide the whole pivot row by the pivot".
+-- This is the pivot row after the step "divide the whole pivot row by the pivot".
 unfoldable pub divided : Vector → Float → Vector
 divided v x = map (λ y. over y x) v
 
--- Another row after the step "subtract its entry in c times the pivot row, product and difference each rounded".
+-- This is another row after the step "subtract its entry in c times the pivot row, product and difference each rounded".
 unfoldable pub cleared : ℕ → Vector → Vector → Vector
 cleared c pivot v = let x = getD v c zeroF in zip (λ y z. minus y (times x z)) v pivot
 
--- The rows with the pivot row at c, and with every other row cleared by it.
+-- These are the rows with the pivot row at c, and with every other row cleared by it.
 unfoldable pub clear : ℕ → Vector → Matrix → Matrix
 clear c pivot a = zip (λ r v. elim (eqb r c) [ true ↦ pivot | false ↦ cleared c pivot v ]) (range 0 (length a)) a
 
--- The elimination in column c, which gives `none` where the pivot is zero.
+-- This is the elimination in column c, which gives `none` where the pivot is zero.
 unfoldable pub column : ℕ → Work → Option Work
 column c w =
     let p = pivotRow (w .rows) c in
@@ -86,22 +86,22 @@ column c w =
       | false ↦ some (record { rows = clear c (divided (row a c) x) a; pivots = w .pivots ++ x ∷ []; swaps = elim (eqb p c) [ true ↦ w .swaps | false ↦ suc (w .swaps) ] })
     ]
 
--- The elimination in one column after another.
+-- This is the elimination in one column after another.
 unfoldable pub eliminate : List ℕ → Work → Option Work
 eliminate [] w = some w
 eliminate (c ∷ cs) w = elim (column c w) [ none ↦ none | some v ↦ eliminate cs v ]
 
--- The elimination of all columns: "Gauss-Jordan beside an identity".
+-- This is the elimination of all columns: "Gauss-Jordan beside an identity".
 unfoldable pub gaussJordan : Matrix → Option Work
 gaussJordan a =
     let d = length a in
     eliminate (range 0 d) (record { rows = zip (λ r e. r ++ e) a (identity d); pivots = []; swaps = 0 })
 
--- The half of the rows that was the identity, or `none` where the matrix is singular.
+-- This is the half of the rows that was the identity, or `none` where the matrix is singular.
 unfoldable pub inverse : Matrix → Option Matrix
 inverse a = elim (gaussJordan a) [ none ↦ none | some w ↦ some (map (drop (length a)) (w .rows)) ]
 
--- The product of x and the others, in order.
+-- This is the product of x and the others, in order.
 unfoldable pub timesOn : Float → List Float → Float
 timesOn x [] = x
 timesOn x (y ∷ ys) = timesOn (times x y) ys

@@ -1,4 +1,4 @@
--- The definitions of sections 1, 3 and 7, evaluated on bit patterns.
+-- The definitions of sections 1, 3 and 7 are evaluated on bit patterns.
 -- Assumes nothing.
 use mathlib.Core.Path.{_≡_, refl}
 use Prim.Native.Nat.{ℕ}
@@ -39,7 +39,7 @@ mat l = map vec l
 
 -- ---- roots
 
--- Proved, as the trial solids ask: "root of 4 is 2; of 2 is 0x3FF6A09E667F3BCD".
+-- This is proved, as the trial solids ask: "root of 4 is 2; of 2 is 0x3FF6A09E667F3BCD".
 pub root-of-4 : root (ofBits binary64 0x4010_0000_0000_0000) ≡ ofBits binary64 0x4000_0000_0000_0000
 unfolding all
 root-of-4 = refl
@@ -48,14 +48,14 @@ pub root-of-2 : root (ofBits binary64 0x4000_0000_0000_0000) ≡ ofBits binary64
 unfolding all
 root-of-2 = refl
 
--- The roots of the zeros, of infinity, of values below zero, and of NaN.
+-- These are the roots of the zeros, of infinity, of values below zero, and of NaN.
 pub odd-roots : map root (vec (0 ∷ 0x8000_0000_0000_0000 ∷ 0x7ff0_0000_0000_0000 ∷ 0xbff0_0000_0000_0000 ∷ 0xfff0_0000_0000_0000 ∷ 0x7ff8_0000_0000_0000 ∷ []))
     ≡ vec (0 ∷ 0x8000_0000_0000_0000 ∷ 0x7ff0_0000_0000_0000 ∷ 0x7ff8_0000_0000_0000 ∷ 0x7ff8_0000_0000_0000 ∷ 0x7ff8_0000_0000_0000 ∷ [])
 unfolding all
 odd-roots = refl
 
--- The smallest and the largest values, neighbours of 1 (whose roots lie close to a midpoint), squares with their two neighbours, and others. The roots given
--- here are those that the processor computes.
+-- The arguments are the smallest and the largest values, neighbours of 1 (whose roots lie close to a midpoint), squares with their two neighbours,
+-- and others. The roots given here are those that the processor computes.
 pub roots : map root (vec (
     0x0000_0000_0000_0001 ∷ 0x0000_0000_0000_0002 ∷ 0x0000_0000_0000_0003 ∷ 0x0000_0000_0000_0004 ∷ 0x0000_0000_0000_0005 ∷ 0x000f_ffff_ffff_ffff ∷
     0x0010_0000_0000_0000 ∷ 0x0010_0000_0000_0001 ∷ 0x7fef_ffff_ffff_ffff ∷ 0x7fef_ffff_ffff_fffe ∷ 0x3fef_ffff_ffff_ffff ∷ 0x3fef_ffff_ffff_fffe ∷
@@ -187,14 +187,14 @@ pub classes-8-numbers : classNumbers (vec (0x3e84_21f5_f40d_8376 ∷ 0 ∷ 0x3e7
 unfolding all
 classes-8-numbers = refl
 
--- Proved, as the trial solids ask: at 0 and 1e-7 there are "two vertex types".
+-- This is proved, as the trial solids ask: at 0 and 1e-7 there are "two vertex types".
 pub classes-at-eps : classNumbers (vec (0 ∷ 0x3e7a_d7f2_9abc_af48 ∷ [])) ≡ 0 ∷ 1 ∷ []
 unfolding all
 classes-at-eps = refl
 
 -- ---- copying
 
--- Proved, as the trial solids ask: "A quarter turn alone on (1,0): 14".
+-- This is proved, as the trial solids ask: "A quarter turn alone on (1,0): 14".
 pub quarter-alone : copyCall 2 (vec (0x3ff0_0000_0000_0000 ∷ 0 ∷ [])) (vec (0 ∷ 0xbff0_0000_0000_0000 ∷ 0x3ff0_0000_0000_0000 ∷ 0 ∷ [])) (vec (0x401c_0000_0000_0000 ∷ 0x401c_0000_0000_0000 ∷ 0x401c_0000_0000_0000 ∷ 0x401c_0000_0000_0000 ∷ [])) (7 ∷ 7 ∷ 7 ∷ [])
     ≡ (Refused Open 1, vec (0 ∷ 0x3ff0_0000_0000_0000 ∷ 0x401c_0000_0000_0000 ∷ 0x401c_0000_0000_0000 ∷ []), 65535 ∷ 7 ∷ 7 ∷ [])
 unfolding all
@@ -206,7 +206,7 @@ pub half-turn : copyCall 2 (vec (0x3ff0_0000_0000_0000 ∷ 0x4000_0000_0000_0000
 unfolding all
 half-turn = refl
 
--- The point 1 under the matrices [2] and [3]: an image is not multiplied again.
+-- The point 1 is copied under the matrices [2] and [3], and an image is not multiplied again.
 pub images-once : copies (mat ((0x4000_0000_0000_0000 ∷ []) ∷ []) ∷ mat ((0x4008_0000_0000_0000 ∷ []) ∷ []) ∷ []) (mat ((0x3ff0_0000_0000_0000 ∷ []) ∷ []))
     ≡ mat ((0x4000_0000_0000_0000 ∷ []) ∷ (0x4008_0000_0000_0000 ∷ []) ∷ [])
 unfolding all

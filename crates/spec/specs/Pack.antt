@@ -1,5 +1,5 @@
--- Section 2's sheet the other way round, from what a sheet says to its bytes: "The sheet (added) is bit-packed, most significant first". The file also says
--- what may be packed, and what is proved of packing and reading.
+-- This file takes section 2's sheet the other way round, from what a sheet says to its bytes: "The sheet (added) is bit-packed, most significant
+-- first". The file also says what may be packed, and what is proved of packing and reading.
 -- Assumes nothing.
 use mathlib.Core.Path.{_≡_, refl}
 use Prim.Native.Nat.{ℕ, zero, suc, _+_, _-_, _*_, _/_, _%_, _≤_, _<_}
@@ -16,25 +16,25 @@ use Rattle.spec.specs.Sheet.{Parsed, vertexCount, readSheet}
 
 -- ---- the bits
 
--- The w bits of n, "most significant first".
+-- Lists the w bits of n, "most significant first".
 unfoldable pub bitsOf : ℕ → ℕ → List ℕ
 bitsOf zero n = []
 bitsOf (suc w) n = bitsOf w (n / 2) ++ (n % 2 ∷ [])
 
--- The bits of a vertex's point: "each vertex's D coordinates, 64 bits each (binary64)".
+-- These are the bits of a vertex's point: "each vertex's D coordinates, 64 bits each (binary64)".
 unfoldable pub pointBits : List Float → List ℕ
 pointBits v = join (map (λ x. bitsOf 64 (toBits binary64 x)) v)
 
--- The bits of "each element's list: length, 12 bits; subs, 11 each".
+-- These are the bits of "each element's list: length, 12 bits; subs, 11 each".
 unfoldable pub listBits : List ℕ → List ℕ
 listBits l = bitsOf 12 (length l) ++ join (map (bitsOf 11) l)
 
--- The bits of the lists of a rank's elements.
+-- These are the bits of the lists of a rank's elements.
 unfoldable pub rankBits : List (List ℕ) → List ℕ
 rankBits ls = join (map listBits ls)
 
--- The bits of a whole sheet: "R, 3 bits; dimension D, 3; for each proper rank its count, 12. Then each vertex's D coordinates .. Then, for ranks 2 to R−1,
--- each element's list".
+-- These are the bits of a whole sheet: "R, 3 bits; dimension D, 3; for each proper rank its count, 12. Then each vertex's D coordinates .. Then, for
+-- ranks 2 to R−1, each element's list".
 unfoldable pub packBits : Parsed → List ℕ
 packBits p =
     bitsOf 3 (p .rank)
@@ -45,17 +45,18 @@ packBits p =
 
 -- ---- the bytes
 
--- The number that is written in the w bits of l from bit i on, the first of them being the highest. Bits past the end are 0: "Zero bits fill the last byte".
+-- This is the number that is written in the w bits of l from bit i on, the first of them being the highest. Bits past the end are 0: "Zero bits fill
+-- the last byte".
 unfoldable pub number : List ℕ → ℕ → ℕ → ℕ
 number l i zero = 0
 number l i (suc w) = 2 * number l i w + getD l (i + w) 0
 
--- The first n bytes, of eight bits each.
+-- Lists the first n bytes, of eight bits each.
 unfoldable pub bytesFrom : ℕ → List ℕ → List ℕ
 bytesFrom zero l = []
 bytesFrom (suc n) l = number l 0 8 ∷ bytesFrom n (drop 8 l)
 
--- As many bytes as it takes to hold the bits.
+-- Gives as many bytes as it takes to hold the bits.
 unfoldable pub bytesOf : List ℕ → List ℕ
 bytesOf l = bytesFrom ((length l + 7) / 8) l
 
@@ -124,7 +125,7 @@ ReadAllowed = (b : List ℕ) (p : Parsed) → readSheet b ≡ passed p → Allow
 
 -- ---- an example
 
--- The bytes of R = 2 at −1 and 1.
+-- These are the bytes of R = 2 at −1 and 1.
 pub packed-pair : pack (record {
   rank = 2;
   dimension = 1;

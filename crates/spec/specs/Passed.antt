@@ -1,4 +1,4 @@
--- What holds of every solid that passes preflight, and what the exchange of facets keeps.
+-- This file says what holds of every solid that passes preflight, and what the exchange of facets keeps.
 -- Assumes nothing.
 use mathlib.Core.Path.{_≡_}
 use Prim.Native.Nat.{ℕ, suc, _-_, _≤_, _<_}

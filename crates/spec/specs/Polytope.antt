@@ -1,8 +1,8 @@
--- Solids in the terms of McMullen and Schulte (Abstract Regular Polytopes, section 2A), who decide what flags and the diamond are: the order of a solid's
--- elements, its maximal chains, and the two elements between any two whose ranks differ by two. Each is said here as the book says it, and the theorems below
--- tie it to the list or to the test that the calls go by.
--- The book counts ranks from -1, which is the rank of the least element; here they count from 0. Document 01 does not ask for the book's property P3, that a
--- polytope is strongly connected, so compounds pass and no statement here speaks of it.
+-- Solids in the terms of McMullen and Schulte (Abstract Regular Polytopes, section 2A), who decide what flags and the diamond are: the order of a
+-- solid's elements, its maximal chains, and the two elements between any two whose ranks differ by two. Each is said here as the book says it, and
+-- the theorems below tie it to the list or to the test that the calls go by. The book counts ranks from -1, which is the rank of the least element;
+-- here they count from 0. Document 01 does not ask for the book's property P3, that a polytope is strongly connected, so compounds pass and no
+-- statement here speaks of it.
 -- Assumes nothing.
 use mathlib.Core.Path.{_≡_}
 use mathlib.Core.Logic.{_≢_, _⊎_, _↔_}
@@ -55,7 +55,7 @@ leastElement = element 0 0
 abbrev pub topElement : Solid → Element
 topElement s = element (top s) 0
 
--- The elements are a partially ordered set, and ranks rise along the order. P1: there is a least element and a greatest element
+-- The elements are a partially ordered set, and ranks rise along the order. P1 holds, too: there is a least element and a greatest element.
 pub record Ordered (s : Solid) : Type 0 where
   pub reflexive : (F : Element) → AtMost s F F
   pub transitive : (F G H : Element) → AtMost s F G → AtMost s G H → AtMost s F H
@@ -69,8 +69,8 @@ pub record Ordered (s : Solid) : Type 0 where
 
 -- ---- chains
 
--- By "a chain" the book means a set of elements of which any two are comparable. A list stands for the set of its members, so neither their order nor repeats
--- matter.
+-- By "a chain" the book means a set of elements of which any two are comparable. A list stands for the set of its members, so neither their order nor
+-- repeats matter.
 pub record IsChain (s : Solid) (C : List Element) : Type 0 where
   pub elements : (F : Element) → In F C → IsElement s F
   pub comparable : (F G : Element) → In F C → In G C → Comparable s F G
@@ -93,7 +93,7 @@ abbrev pub NoneTwice : List Element → Type 0
 NoneTwice [] = Unit {0}
 NoneTwice (F ∷ C) = (¬ In F C) × NoneTwice C
 
--- The elements of a flag, one of each rank that it has.
+-- These are the elements of a flag, one of each rank that it has.
 unfoldable pub elementsOf : Flag → List Element
 elementsOf F = map (λ r. element r (elementAt F r)) (range 0 (length F))
 
@@ -152,7 +152,7 @@ EveryMaximalChain = (s : Solid) → Sound s → Filled s → bound s ≡ true �
 abbrev pub EveryDiamond : Type 0
 EveryDiamond = (s : Solid) → Sound s → (diamond s ≡ true) ↔ Diamonds s
 
--- The book's properties of a polytope, except P3.
+-- These are the book's properties of a polytope, except P3.
 pub record Polytope (s : Solid) : Type 0 where
   pub order : Ordered s
   pub chains : MaximalChains s

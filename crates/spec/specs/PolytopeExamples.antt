@@ -1,4 +1,4 @@
--- The order, the maximal chains and the diamonds of the square.
+-- This file has the order, the maximal chains and the diamonds of the square.
 -- Assumes nothing.
 use mathlib.Core.Path.{refl, ap}
 use mathlib.Core.Logic.{inl, inr}
@@ -38,7 +38,7 @@ pub corners : Diamonds square → ExactlyTwo (Between square leastElement (eleme
 unfolding subs
 corners d = d leastElement (element 2 0) (omega arith, lit< tt) (lit< tt, lit< tt) (over (over itself (refl, inl refl)) (refl, inl refl), λ e. omega (arith, ap (λ (H : Element). H .rank) e)) refl
 
--- What the theorems say of the square: the elements of its first flag are a maximal chain, and P4 holds.
+-- This is what the theorems say of the square: the elements of its first flag are a maximal chain, and P4 holds.
 pub record OfSquare : Type 0 where
   pub chain : IsMaximal square (elementsOf (0 ∷ 0 ∷ 0 ∷ 0 ∷ []))
   pub diamonds : Diamonds square

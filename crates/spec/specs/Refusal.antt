@@ -1,4 +1,4 @@
--- The table "Preflight answers": "Where an answer is an enum, a definition gives this paper's number and values for each of its cases."
+-- This file has the table "Preflight answers": "Where an answer is an enum, a definition gives this paper's number and values for each of its cases."
 -- Assumes nothing.
 use Prim.Native.Nat.{ℕ}
 use Prim.Native.String.{String}
@@ -7,7 +7,7 @@ use Rattle.spec.specs.declared.Refusal.the-variants.{CutSheet, Format, O
 use Rattle.spec.specs.declared.Answer.{Answer}
 use Rattle.spec.specs.declared.Answer.the-variants.{Done, Refused}
 
--- The column "No.".
+-- This is the column "No.".
 abbrev pub number : Refusal → ℕ
 number CutSheet = 1
 number Format = 2
@@ -25,17 +25,18 @@ number ShortSheet = 13
 number Open = 14
 number Unsettled = 15
 
--- The number of an answer, which is the refusal's, or 0 where the call gave its result.
+-- This is the number of an answer, which is the refusal's, or 0 where the call gave its result.
 abbrev pub answerNumber : Answer → ℕ
 answerNumber (Done n) = 0
 answerNumber (Refused why n) = number why
 
--- The value of an answer: how many types, members or copies there are; at 13, how many members or points fitted; at 14, how many copies; and otherwise 0.
+-- This is the value of an answer: how many types, members or copies there are; at 13, how many members or points fitted; at 14, how many copies; and
+-- otherwise 0.
 abbrev pub answerCount : Answer → ℕ
 answerCount (Done n) = n
 answerCount (Refused why n) = n
 
--- The column "Word".
+-- This is the column "Word".
 abbrev pub word : Refusal → String
 word CutSheet = "cut sheet"
 word Format = "format"

@@ -1,4 +1,4 @@
--- Section 6: the search, its members, and their marks; and the preflight answers 8, 9, 10, 15 and 11.
+-- This file has section 6: the search, its members, and their marks; and the preflight answers 8, 9, 10, 15 and 11.
 -- Assumes nothing.
 use Prim.Native.Nat.{ℕ, zero, suc, _-_}
 use mathlib.Core.Bool.{Bool, true, false, _&&_}
@@ -21,7 +21,7 @@ use Rattle.spec.specs.Classes.{pointOf, distanceOf, classTable, byTable,
 
 -- ---- the exchange of facets
 
--- The first of the facets fs "whose hull is further than EPS from the origin".
+-- This is the first of the facets fs "whose hull is further than EPS from the origin".
 unfoldable pub firstFar : Concrete → List ℕ → Option ℕ
 firstFar c [] = none
 firstFar c (f ∷ fs) = elim (lt eps (distanceOf c (top (c .abs) - 1) f)) [ true ↦ some f | false ↦ firstFar c fs ]
@@ -29,12 +29,12 @@ firstFar c (f ∷ fs) = elim (lt eps (distanceOf c (top (c .abs) - 1) f)) [ true
 unfoldable pub swapWithFirst : List (List ℕ) → ℕ → List (List ℕ)
 swapWithFirst l f = set (set l f (getD l 0 [])) 0 (getD l f [])
 
--- Facet f "changes places with facet 0; ridges' sups follow", because they are derived. "For R = 2 coordinates don't move": the facets' lists are alike
--- there, and nothing moves.
+-- Facet f "changes places with facet 0; ridges' sups follow", because they are derived. "For R = 2 coordinates don't move": the facets' lists are
+-- alike there, and nothing moves.
 unfoldable pub exchangedIn : Solid → ℕ → Solid
 exchangedIn s f = set s (top s - 1) (swapWithFirst (getD s (top s - 1) []) f)
 
--- The exchanged solid, with its vertices where they were.
+-- This is the exchanged solid, with its vertices where they were.
 unfoldable pub exchanged : Concrete → ℕ → Concrete
 exchanged c f = record { dimension = c .dimension; points = c .points; abs = exchangedIn (c .abs) f }
 
@@ -44,16 +44,17 @@ unfoldable pub changes : Solid → List ℕ → Flag → Flag
 changes s [] F = F
 changes s (r ∷ rs) F = changes s rs (change s r F)
 
--- The vertices of a flag's columns, of which n are taken: "its vertex; then .. change ranks 1 to R−1 in turn and take the vertex".
+-- These are the vertices of a flag's columns, of which n are taken: "its vertex; then .. change ranks 1 to R−1 in turn and take the vertex".
 unfoldable pub walk : Solid → ℕ → Flag → List ℕ
 walk s zero F = []
 walk s (suc n) F = elementAt F 1 ∷ walk s n (changes s (properRanks s) F)
 
--- "A flag's columns", of which there are D.
+-- These are "A flag's columns", of which there are D.
 unfoldable pub flagColumns : Concrete → Flag → Matrix
 flagColumns c F = columns (map (pointOf c) (walk (c .abs) (c .dimension) F))
 
--- The solid as read, with its distance classes; the solid that is searched, with its types; and the inverse of that solid's first flag's columns.
+-- These are the solid as read, with its distance classes; the solid that is searched, with its types; and the inverse of that solid's first flag's
+-- columns.
 pub record Setting : Type 0 where
   pub read : Concrete
   pub classes : List (List ℕ)
@@ -61,19 +62,19 @@ pub record Setting : Type 0 where
   pub types : State
   pub inv : Matrix
 
--- "Candidate: columns times the inverse of the first flag's".
+-- "Candidate: columns times the inverse of the first flag's."
 unfoldable pub candidate : Setting → Flag → Matrix
 candidate w F = mulMat (flagColumns (w .searched) F) (w .inv)
 
 -- ---- the test of a flag
 
--- Whether "its elements have the first flag's types".
+-- Tells whether "its elements have the first flag's types".
 unfoldable pub sameTypes : Setting → Flag → Bool
 sameTypes w F =
     let G = firstFlag (w .searched .abs) in
     every (λ r. eqb (typeOf (w .types) r (elementAt F r)) (typeOf (w .types) r (elementAt G r))) (range 0 (length (w .searched .abs)))
 
--- The vertex that each vertex's image is "within EPS, EPS included, of .. on every axis (lowest number taken)", or V where there is none.
+-- This is the vertex that each vertex's image is "within EPS, EPS included, of .. on every axis (lowest number taken)", or V where there is none.
 unfoldable pub rowOf : List (List Float) → Matrix → List ℕ
 rowOf ps m = map (λ p. find ps (mulVec m p)) ps
 
@@ -81,17 +82,17 @@ unfoldable pub insert : ℕ → List ℕ → List ℕ
 insert x [] = x ∷ []
 insert x (y ∷ l) = elim (leb x y) [ true ↦ x ∷ y ∷ l | false ↦ y ∷ insert x l ]
 
--- The list l "sorted with repeats kept".
+-- This is the list l "sorted with repeats kept".
 unfoldable pub sorted : List ℕ → List ℕ
 sorted [] = []
 sorted (x ∷ l) = insert x (sorted l)
 
--- Whether "the images of the vertices of each type's example at ranks 2 to R−1 .. are the vertices of some element of that rank".
+-- Tells whether "the images of the vertices of each type's example at ranks 2 to R−1 .. are the vertices of some element of that rank".
 unfoldable pub examplesGo : Solid → State → List ℕ → Bool
 examplesGo s z row =
     every (λ r. every (λ k. holds eqList (sorted (map (λ v. getD row v 0) (vertices s r (k .example)))) (vertexSets s r)) (elementTypesAt z r)) (range 2 (top s - 2))
 
--- A member as a search lists it: "Members come in flag order with matrix and row", and with the mark.
+-- A member is as a search lists it: "Members come in flag order with matrix and row", and with the mark.
 pub record Member : Type 0 where
   pub matrix : Matrix
   pub row : List ℕ
@@ -101,14 +102,14 @@ pub record Member : Type 0 where
 unfoldable pub markOf : Setting → List ℕ → ℕ
 markOf w row = elim (marked (w .read .abs) (byTable (w .classes)) row) [ true ↦ 1 | false ↦ 0 ]
 
--- The member that a candidate gives, where it passes.
+-- This is the member that a candidate gives, where it passes.
 unfoldable pub tested : Setting → Matrix → Option Member
 tested w m =
     let row = rowOf (w .searched .points) m in
     elim (every (λ v. ltb v (length (w .searched .points))) row && examplesGo (w .searched .abs) (w .types) row)
     [ true ↦ some (record { matrix = m; row = row; mark = markOf w row }) | false ↦ none ]
 
--- The members of a list of flags: "Members come in flag order with matrix and row".
+-- These are the members of a list of flags: "Members come in flag order with matrix and row".
 unfoldable pub membersOf : Setting → List Flag → List Member
 membersOf w [] = []
 membersOf w (F ∷ Fs) = elim (sameTypes w F) [
@@ -116,7 +117,7 @@ membersOf w (F ∷ Fs) = elim (sameTypes w F) [
   | false ↦ membersOf w Fs
 ]
 
--- "Rotations are those of determinant above 0".
+-- "Rotations are those of determinant above 0."
 unfoldable pub isRotation : Member → Bool
 isRotation m = lt zeroF (determinant (m .matrix))
 
@@ -126,15 +127,15 @@ rotationsOf (m ∷ ms) = elim (isRotation m) [ true ↦ m ∷ rotationsOf ms | f
 
 -- ---- the search
 
--- Whether the solid is full. Refusal 8, "search with R < 2 or D ≠ R−1", is the contrary.
+-- Tells whether the solid is full. Refusal 8, "search with R < 2 or D ≠ R−1", is the contrary.
 unfoldable pub full : Concrete → Bool
 full c = leb 2 (top (c .abs)) && eqb (c .dimension) (top (c .abs) - 1)
 
--- Whether all entries are finite. Refusal 11, "a non-finite inverse", is the contrary.
+-- Tells whether all entries are finite. Refusal 11, "a non-finite inverse", is the contrary.
 unfoldable pub allFinite : Matrix → Bool
 allFinite m = every (every finite) m
 
--- What a search goes by once it has passed "8, 9, 10, 15, 11".
+-- This is what a search goes by once it has passed "8, 9, 10, 15, 11".
 unfoldable pub setting : Concrete → Judged Setting
 setting c = do
   judge NotFull (full c)
@@ -146,7 +147,7 @@ setting c = do
   judge Flat (allFinite i)
   passed (record { read = c; classes = classTable c; searched = d; types = z; inv = i })
 
--- The members of every flag that passes, in flag order.
+-- These are the members of every flag that passes, in flag order.
 unfoldable pub search : Concrete → Judged (List Member)
 search c = do
   w ← setting c

@@ -1,5 +1,5 @@
--- Section 2's sheet and its limits, and the preflight answers 1 to 4: "Fields are judged as they come (wholeness, then 2, 3 or 4; a list's length counts as
--- entries when it is read), then 1 for the end".
+-- This file has section 2's sheet and its limits, and the preflight answers 1 to 4: "Fields are judged as they come (wholeness, then 2, 3 or 4; a
+-- list's length counts as entries when it is read), then 1 for the end".
 -- Assumes nothing.
 use Prim.Native.Nat.{ℕ, zero, suc, _+_, _-_, _*_}
 use mathlib.Core.Bool.{Bool, true, false, _&&_}
@@ -14,7 +14,7 @@ use Rattle.spec.specs.Float.{inRange}
 use Rattle.spec.specs.Bits.{field}
 use Rattle.spec.specs.Judged.{Judged, refused, passed}
 
--- What a sheet says: R, D, the counts of ranks 1 to R - 1, each vertex's coordinates, and for ranks 2 to R - 1 each element's list.
+-- This is what a sheet says: R, D, the counts of ranks 1 to R - 1, each vertex's coordinates, and for ranks 2 to R - 1 each element's list.
 pub record Parsed : Type 0 where
   pub rank : ℕ
   pub dimension : ℕ
@@ -28,7 +28,7 @@ abbrev pub Reader : Type 0 → Type 0
 Reader A = ℕ → Judged (A × ℕ)
 
 infixl 10 _>>=_ _>>_
--- One reading, followed by another that may depend on the first one's value.
+-- One reading is followed by another that may depend on the first one's value.
 unfoldable pub _>>=_ : {A B : Type 0} → Reader A → (A → Reader B) → Reader B
 _>>=_ m k i = elim (m i) [ refused why ↦ refused why | passed x ↦ k (x .0) (x .1) ]
 
@@ -38,11 +38,11 @@ _>>_ m k i = elim (m i) [ refused why ↦ refused why | passed x ↦ k (x .1) ]
 unfoldable pub done : {A : Type 0} → A → Reader A
 done a i = passed (a, i)
 
--- Refused, unless the test passes.
+-- The reading is refused, unless the test passes.
 unfoldable pub judge : Refusal → Bool → Reader (Unit {0})
 judge why ok i = elim ok [ true ↦ passed (tt, i) | false ↦ refused why ]
 
--- The same reading, done n times.
+-- The same reading is done n times.
 unfoldable pub times : {A : Type 0} → ℕ → Reader A → Reader (List A)
 times zero m = done []
 times (suc n) m = do
@@ -57,25 +57,25 @@ unfoldable pub vertexCount : ℕ → List ℕ → ℕ
 vertexCount R counts = getD counts 0 R
 
 module _ (b : List ℕ) where
-  -- The next w bits. Refusal 1 comes where "a field isn't whole".
+  -- Reads the next w bits. Refusal 1 comes where "a field isn't whole".
   unfoldable pub bits : ℕ → Reader ℕ
   bits w i = elim (leb (i + w) (8 * length b)) [ true ↦ passed (field b i w, i + w) | false ↦ refused CutSheet ]
 
-  -- The field "R, 3 bits", with the limit "R 0 to 5".
+  -- Reads the field "R, 3 bits", with the limit "R 0 to 5".
   unfoldable pub rank : Reader ℕ
   rank = do
     n ← bits 3
     judge Format (leb n maxRank)
     done n
 
-  -- The field "dimension D, 3", with the limit "D 0 to 4".
+  -- Reads the field "dimension D, 3", with the limit "D 0 to 4".
   unfoldable pub dimension : Reader ℕ
   dimension = do
     n ← bits 3
     judge Format (leb n maxDimension)
     done n
 
-  -- The field "for each proper rank its count, 12", with the limit "counts 1 to 2,048".
+  -- Reads the field "for each proper rank its count, 12", with the limit "counts 1 to 2,048".
   unfoldable pub count : Reader ℕ
   count = do
     n ← bits 12
@@ -89,7 +89,8 @@ module _ (b : List ℕ) where
     judge OffTheBoard (inRange (ofBits binary64 n))
     done (ofBits binary64 n)
 
-  -- The fields "subs, 11 each". There are n of them, all below c, the first at least `low` and each more than the one before. Otherwise refusal 4 comes.
+  -- Reads the fields "subs, 11 each". There are n of them, all below c, the first at least `low` and each more than the one before. Otherwise refusal
+  -- 4 comes.
   unfoldable pub subList : ℕ → ℕ → ℕ → Reader (List ℕ)
   subList c zero low = done []
   subList c (suc n) low = do
@@ -98,8 +99,8 @@ module _ (b : List ℕ) where
     l ← subList c n (suc x)
     done (x ∷ l)
 
-  -- The fields of "each element's list: length, 12 bits; subs", with "at most 8,192 list entries a rank", of which `used` came before. The count of the rank
-  -- below is c.
+  -- Reads the fields of "each element's list: length, 12 bits; subs", with "at most 8,192 list entries a rank", of which `used` came before. The
+  -- count of the rank below is c.
   unfoldable pub list : ℕ → ℕ → Reader (List ℕ)
   list c used = do
     n ← bits 12
@@ -107,7 +108,7 @@ module _ (b : List ℕ) where
     judge BadList (ltb 0 n)
     subList c n 0
 
-  -- The lists of n elements of one rank.
+  -- Reads the lists of n elements of one rank.
   unfoldable pub listsAt : ℕ → ℕ → ℕ → Reader (List (List ℕ))
   listsAt c zero used = done []
   listsAt c (suc n) used = do
@@ -115,7 +116,7 @@ module _ (b : List ℕ) where
     ls ← listsAt c n (used + length l)
     done (l ∷ ls)
 
-  -- The lists "for ranks 2 to R−1", by the counts of ranks 1 to R - 1.
+  -- Reads the lists "for ranks 2 to R−1", by the counts of ranks 1 to R - 1.
   unfoldable pub lists : List ℕ → Reader (List (List (List ℕ)))
   lists [] = done []
   lists (c ∷ []) = done []
@@ -128,7 +129,8 @@ module _ (b : List ℕ) where
   unfoldable pub end : Reader (Unit {0})
   end i = judge CutSheet (ltb (8 * length b - i) 8 && eqb (field b i (8 * length b - i)) 0) i
 
-  -- The whole sheet: "R, 3 bits; dimension D, 3; for each proper rank its count, 12. Then each vertex's D coordinates .. Then .. each element's list".
+  -- The whole sheet: "R, 3 bits; dimension D, 3; for each proper rank its count, 12. Then each vertex's D coordinates .. Then .. each element's
+  -- list".
   unfoldable pub sheet : Reader Parsed
   sheet = do
     R ← rank

@@ -21,7 +21,8 @@ properLists (n ∷ counts) lists = replicate n (0 ∷ []) ∷ lists
 unfoldable pub withTop : Solid → Solid
 withTop s = s ++ ((range 0 (size s (top s)) ∷ []) ∷ [])
 
--- "Rank 0 holds one least element, rank 1 the vertices, the top rank R one element". Where R = 0 the least element is the top, and where R = 1 the vertex is.
+-- "Rank 0 holds one least element, rank 1 the vertices, the top rank R one element". Where R = 0 the least element is the top, and where R = 1 the
+-- vertex is.
 unfoldable pub solidOf : Parsed → Solid
 solidOf p = elim (p .rank) [ zero ↦ ([] ∷ []) ∷ [] | suc r ↦ withTop (([] ∷ []) ∷ properLists (p .counts) (p .lists)) ]
 
@@ -29,11 +30,11 @@ solidOf p = elim (p .rank) [ zero ↦ ([] ∷ []) ∷ [] | suc r ↦ withTop (([
 unfoldable pub entries : Solid → ℕ
 entries s = sum (map (λ r. sum (map length (getD s r []))) (range 2 (top s - 2)))
 
--- Whether the workspace is large enough. Refusal 7, "workspace under 16 times (E+I+4) 32-bit words or 8 times (E+8) floats", is the contrary.
+-- Tells whether the workspace is large enough. Refusal 7, "workspace under 16 times (E+I+4) 32-bit words or 8 times (E+8) floats", is the contrary.
 unfoldable pub roomy : Solid → ℕ → ℕ → Bool
 roomy s words floats = leb (16 * (elements s + entries s + 4)) words && leb (8 * (elements s + 8)) floats
 
--- Whether every proper element below rank R−1 is in a list. Refusal 5, "a proper element below rank R−1 is in no list", is the contrary.
+-- Tells whether every proper element below rank R−1 is in a list. Refusal 5, "a proper element below rank R−1 is in no list", is the contrary.
 unfoldable pub bound : Solid → Bool
 bound s = every (λ r. every (λ e. ltb 0 (length (sups s r e))) (range 0 (size s r))) (range 1 (top s - 2))
 
@@ -41,8 +42,8 @@ bound s = every (λ r. every (λ e. ltb 0 (length (sups s r e))) (range 0 (size 
 unfoldable pub between : Solid → ℕ → ℕ → ℕ → List ℕ
 between s r g h = keep (λ f. holds eqb h (subs s r f)) (subs s (suc r) g)
 
--- Whether there are always two elements between. Refusal 6, "not exactly two elements between an element and a sub of its sub", is the contrary; the top and
--- the least element are included.
+-- Tells whether there are always two elements between. Refusal 6, "not exactly two elements between an element and a sub of its sub", is the
+-- contrary; the top and the least element are included.
 unfoldable pub diamond : Solid → Bool
 diamond s = every (λ r. every (λ g. every (λ f. every (λ h. eqb (length (between s r g h)) 2) (subs s r f)) (subs s (suc r) g)) (range 0 (size s (suc r)))) (properRanks s)
 

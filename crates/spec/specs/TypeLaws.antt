@@ -1,5 +1,5 @@
--- Statements about section 4: the numbers after any list of steps, what the start and each step do, what the types call gives out, and that refusal 15 never
--- comes.
+-- Statements about section 4: the numbers after any list of steps, what the start and each step do, what the types call gives out, and that refusal
+-- 15 never comes.
 -- Assumes nothing.
 use mathlib.Core.Path.{_≡_}
 use mathlib.Core.Logic.{_≢_, _⊎_, _↔_}
@@ -44,8 +44,8 @@ ofType s S x t e = count eqb t (map (typeOf S (next x)) (neighbours s x e))
 
 -- What the step x does to the state S.
 pub record Stepped (s : Solid) (S : State) (x : Step) : Type 0 where
-  -- The step tells apart exactly what section 4 says: "two elements there still share a type exactly when they shared one and, for every type of rank r−1,
-  -- have as many subs of it. Step down: the same with sups and rank r+1".
+  -- The step tells apart exactly what section 4 says: "two elements there still share a type exactly when they shared one and, for every type of rank
+  -- r−1, have as many subs of it. Step down: the same with sups and rank r+1".
   pub share : (e f : ℕ) → e < size s (at x) → f < size s (at x)
       → (typeOf (step s S x) (at x) e ≡ typeOf (step s S x) (at x) f)
       ↔ ((typeOf S (at x) e ≡ typeOf S (at x) f) × ((t : ℕ) → In t (typesAt S (next x)) → ofType s S x t e ≡ ofType s S x t f))
@@ -97,8 +97,8 @@ pub record TypeLaws : Type 0 where
 abbrev pub NotUnsettled : Answer → Type 0
 NotUnsettled a = (k : ℕ) → a ≢ Refused Unsettled k
 
--- Refusal 15, "E + 2 sweeps done, still changing", never comes. The sweeps of every solid end in time, whatever its distance classes are. So both the solid
--- of a sheet and the solid that search makes of it by exchanging facets have types, and no call answers 15.
+-- Refusal 15, "E + 2 sweeps done, still changing", never comes. The sweeps of every solid end in time, whatever its distance classes are. So both the
+-- solid of a sheet and the solid that search makes of it by exchanging facets have types, and no call answers 15.
 pub record NeverUnsettled : Type 0 where
   pub settles : (s : Solid) (cls : Classes) → result s cls ≢ none
   pub types : (c : Concrete) → typesOf c ≢ none

@@ -10,8 +10,8 @@ use Rattle.spec.specs.Lists.{distinct, place, renumber, count, holds, eq
 
 -- ---- solids
 
--- For each rank from 0 to R and each of its elements, the list of the element's subs by their numbers: "Subs of an element lie one rank below, sups one
--- above".
+-- For each rank from 0 to R and each of its elements, the list of the element's subs by their numbers: "Subs of an element lie one rank below, sups
+-- one above".
 abbrev pub Solid : Type 0
 Solid = List (List (List ℕ))
 
@@ -54,8 +54,8 @@ typesAt S r = getD S r []
 abbrev pub typeOf : State → ℕ → ℕ → ℕ
 typeOf S r e = getD (typesAt S r) e 0
 
--- How many types there are over the proper ranks, which is "the number of types" that sweeps compare. Ranks 0 and R always have one type each, so they need
--- not be counted.
+-- How many types there are over the proper ranks, which is "the number of types" that sweeps compare. Ranks 0 and R always have one type each, so
+-- they need not be counted.
 unfoldable pub typeCount : Solid → State → ℕ
 typeCount s S = sum (map (λ r. length (distinct eqb (typesAt S r))) (properRanks s))
 
@@ -64,8 +64,8 @@ typeCount s S = sum (map (λ r. length (distinct eqb (typesAt S r))) (properRank
 abbrev pub isProper : Solid → ℕ → Bool
 isProper s r = ltb 0 r && ltb r (top s)
 
--- "Start: elements of a proper rank share a type exactly when they share a distance class"; "ranks 0 and R have type 0 only"; "numbers go from 0 in each rank
--- by first appearance, at the start too".
+-- "Start: elements of a proper rank share a type exactly when they share a distance class"; "ranks 0 and R have type 0 only"; "numbers go from 0 in
+-- each rank by first appearance, at the start too".
 unfoldable pub startAt : Solid → Classes → ℕ → List ℕ
 startAt s cls r = elim (isProper s r) [ true ↦ renumber eqb (map (cls r) (range 0 (size s r))) | false ↦ replicate (size s r) 0 ]
 
@@ -92,13 +92,14 @@ abbrev pub neighbours : Solid → Step → ℕ → List ℕ
 neighbours s (up r) e = subs s r e
 neighbours s (down r) e = sups s r e
 
--- What a step tells elements apart by: "two elements there still share a type exactly when they shared one and, for every type of rank r−1, have as many subs
--- of it. Step down: the same with sups and rank r+1". For an element of type t with the neighbours es this is t and, for every type in the list `types`,
--- which holds the types of the rank looked to, how many of es have that type.
+-- What a step tells elements apart by: "two elements there still share a type exactly when they shared one and, for every type of rank r−1, have as
+-- many subs of it. Step down: the same with sups and rank r+1". For an element of type t with the neighbours es this is t and, for every type in the
+-- list `types`, which holds the types of the rank looked to, how many of es have that type.
 unfoldable pub key : List ℕ → ℕ → List ℕ → List ℕ
 key types t es = t ∷ map (λ k. count eqb k (map (λ e. getD types e 0) es)) (distinct eqb types)
 
--- The keys of the elements of the step's rank, and then the state after it: "Other ranks keep theirs; numbers go from 0 in each rank by first appearance".
+-- The keys of the elements of the step's rank, and then the state after it: "Other ranks keep theirs; numbers go from 0 in each rank by first
+-- appearance".
 unfoldable pub keys : Solid → State → Step → List (List ℕ)
 keys s S x = map (λ e. key (typesAt S (next x)) (typeOf S (at x) e) (neighbours s x e)) (range 0 (size s (at x)))
 
@@ -119,7 +120,8 @@ sweepSteps s = map up (properRanks s) ++ map down (reverse (properRanks s))
 unfoldable pub sweep : Solid → State → State
 sweep s S = play s S (sweepSteps s)
 
--- "Sweeps end when one leaves the number of types unchanged". This is the state that such a sweep gives, or `none` where n sweeps are done before one does.
+-- "Sweeps end when one leaves the number of types unchanged". This is the state that such a sweep gives, or `none` where n sweeps are done before one
+-- does.
 unfoldable pub settle : Solid → ℕ → State → Option State
 settle s zero S = none
 settle s (suc n) S =

@@ -60,8 +60,8 @@ tried (some x) false ms rs = (Short, ms, rs)
 unfoldable pub fits : ℕ → ℕ → ℕ → ℕ → ℕ → Bool
 fits d v floats entries k = leb (d * d) floats && leb v entries && ltb 0 k
 
--- Trying a candidate or a flag that gives o came to t. In d dimensions with v vertices and k marks left, ms and rs were what was left of the outputs, which
--- are ms′ and rs′ now.
+-- Trying a candidate or a flag that gives o came to t. In d dimensions with v vertices and k marks left, ms and rs were what was left of the outputs,
+-- which are ms′ and rs′ now.
 abbrev pub Came : ℕ → ℕ → ℕ → Option Member → Tried → List Float → List Float → List ℕ → List ℕ → Type 0
 Came d v k o t ms ms′ rs rs′ = _≡_ {A = Tried × List Float × List ℕ} (t, ms′, rs′) (tried o (fits d v (length ms) (length rs) k) ms rs)
 

@@ -1,5 +1,5 @@
--- Section 7's constant table of 48: its rule, its closure under products, and the copies of (1,2,3) under it.
--- The rows of all the 48 are six, so only the dots of these are worked out, and the rest is done on numbers. Assumes nothing.
+-- This file has section 7's constant table of 48: its rule, its closure under products, and the copies of (1,2,3) under it. The rows of all the 48
+-- are six, so only the dots of these are worked out, and the rest is done on numbers. Assumes nothing.
 use mathlib.Core.Path.{_≡_, refl, ap, _∙_}
 use Prim.Native.Nat.{ℕ, _/_, _^_, _-_, _%_, _+_, _*_}
 use mathlib.Core.Bool.{true, false}
@@ -20,39 +20,39 @@ use Rattle.spec.specs.NumberExamples.{most, all}
 
 -- ---- the numbers
 
--- The sign bit of axis i.
+-- This is the sign bit of axis i.
 abbrev bit : ℕ → ℕ → ℕ
 bit s i = s / 2 ^ (2 - i) % 2
 
--- The rows of each of the 48, each given by a number: 2 times the column of its unit, and 1 more where the unit is negative.
+-- These are the rows of each of the 48, each given by a number: 2 times the column of its unit, and 1 more where the unit is negative.
 unfoldable pub rowNumbers : List (List ℕ)
 rowNumbers = join (map (λ o. map (λ s. zip (λ i c. 2 * c + bit s i) (range 0 3) o) (range 0 8)) orders)
 
--- The number of the entry with the given rows.
+-- This is the number of the entry with the given rows.
 abbrev entryOf : List ℕ → ℕ
 entryOf rs = 8 * place eqList (map (λ r. r / 2) rs) orders + (getD rs 0 0 % 2 * 4 + getD rs 1 0 % 2 * 2 + getD rs 2 0 % 2)
 
--- The number of the entry that the product of two entries is, by their rows.
+-- This is the number of the entry that the product of two entries is, by their rows.
 abbrev productOf : List ℕ → List ℕ → ℕ
 productOf rs bs = entryOf (map (λ a. let b = getD bs (a / 2) 0 in 2 * (b / 2) + (a + b) % 2) rs)
 
 unfoldable pub products : List (List ℕ)
 products = map (λ rs. map (productOf rs) rowNumbers) rowNumbers
 
--- The columns of the entry with the given rows, each by a number: 2 times the row of its unit, and 1 more where the unit is negative.
+-- These are the columns of the entry with the given rows, each by a number: 2 times the row of its unit, and 1 more where the unit is negative.
 abbrev columnsOf : List ℕ → List ℕ
 columnsOf rs = map (λ c. let i = place eqb c (map (λ r. r / 2) rs) in 2 * i + getD rs i 0 % 2) (range 0 3)
 
 -- ---- the six rows
 
--- Minus x where b is 1, and x otherwise.
+-- Gives minus x where b is 1, and x otherwise.
 abbrev turned : ℕ → Float → Float
 turned b x = elim (eqb b 1) [ true ↦ neg x | false ↦ x ]
 
 unfoldable pub axes : List Vector
 axes = map (λ a. map (λ j. elim (eqb j (a / 2)) [ true ↦ turned (a % 2) oneF | false ↦ zeroF ]) (range 0 3)) (range 0 6)
 
--- The dots of the six rows with each other. A dot is one or minus one where both rows lie on the same axis, and 0 otherwise.
+-- These are the dots of the six rows with each other. A dot is one or minus one where both rows lie on the same axis, and 0 otherwise.
 pub axis-dots : map (λ r. map (dot r) axes) axes ≡ map (λ a. map (λ b. elim (eqb (a / 2) (b / 2)) [ true ↦ turned ((a + b) % 2) oneF | false ↦ zeroF ]) (range 0 6)) (range 0 6)
 unfolding all axes
 axis-dots = refl
@@ -64,7 +64,7 @@ closed = ap (λ t. map (λ rs. map (λ bs. map (λ a. map (λ c. getD (getD t a 
 
 -- ---- the table's rule and closure, "shown by one computed test over all entries"
 
--- The lists of three numbers below 3, in dictionary order. Of these, `unrepeated` keeps the lists that repeat no number.
+-- These are the lists of three numbers below 3, in dictionary order. Of these, `unrepeated` keeps the lists that repeat no number.
 unfoldable pub triples : List (List ℕ)
 triples = join (map (λ a. join (map (λ b. map (λ c. a ∷ b ∷ c ∷ []) (range 0 3)) (range 0 3))) (range 0 3))
 
@@ -72,15 +72,16 @@ unfoldable pub unrepeated : List (List ℕ) → List (List ℕ)
 unrepeated [] = []
 unrepeated (l ∷ ls) = elim (noRepeats eqb l) [ true ↦ l ∷ unrepeated ls | false ↦ unrepeated ls ]
 
--- What is said of a table t.
+-- This is what is said of a table t.
 pub record AxisOrderTable (t : List Matrix) : Type 0 where
-  -- "48 signed axis orders"
+  -- There are "48 signed axis orders".
   pub entries : length t ≡ 48
-  -- "p the order's dictionary rank from 0 to 5"
+  -- The orders stand so that p is "the order's dictionary rank from 0 to 5".
   pub dictionary : orders ≡ unrepeated triples
-  -- "entry 8 times p + s"
+  -- The matrix of order p with the signs s is "entry 8 times p + s".
   pub rule : map (λ p. map (λ s. getD t (8 * p + s) []) (range 0 8)) (range 0 6) ≡ map (λ p. map (axisOrder (getD orders p [])) (range 0 8)) (range 0 6)
-  -- "row i has its unit at the column the order names", and the unit is negative where the sign bit of axis i is 1. Each row is one of the six of `axes`.
+  -- "row i has its unit at the column the order names", and the unit is negative where the sign bit of axis i is 1. Each row is one of the six of
+  -- `axes`.
   pub rows : t ≡ map (map (λ a. getD axes a [])) rowNumbers
   -- Every product of two entries is an entry.
   pub multiplied : map (λ a. map (mulMat a) t) t ≡ map (map (λ j. getD t j [])) products
@@ -92,7 +93,7 @@ axis-order-table = record { entries = refl; dictionary = refl; rule = refl; rows
 
 -- ---- copies
 
--- The point (1,2,3). Its 48 copies follow, one for each order and each choice of signs.
+-- This is the point (1,2,3). Its 48 copies follow, one for each order and each choice of signs.
 abbrev abc : Vector
 abc = fin false 1 (pos 0) ∷ fin false 1 (pos 1) ∷ fin false 3 (pos 0) ∷ []
 
@@ -104,7 +105,7 @@ pub self : map (find cs) cs ≡ range 0 48
 unfolding all cs rowNumbers
 self = refl
 
--- The dots of the six rows with the copies. Each picks one of the copy's floats, or picks it and changes its sign.
+-- These are the dots of the six rows with the copies. Each picks one of the copy's floats, or picks it and changes its sign.
 pub copy-dots : map (λ r. map (dot r) cs) axes ≡ map (λ a. map (λ v. turned (a % 2) (getD v (a / 2) zeroF)) cs) (range 0 6)
 unfolding all cs axes rowNumbers
 copy-dots = refl
@@ -122,7 +123,7 @@ pub before : copyCall 3 abc (join (join axisOrders)) (replicate 144 zeroF) (repl
 unfolding most cs rowNumbers
 before = refl
 
--- What the call gives out, from the table's rows.
+-- This is what the call gives out, from the table's rows.
 abbrev out : List (List ℕ) → Answer × List Float × List ℕ
 out t = elim (holds eqb 48 (join t)) [ true ↦ (Refused Open 48, join cs, replicate 2304 65535) | false ↦ (Done 48, join cs, join t) ]
 
@@ -130,6 +131,6 @@ pub after : copyOut 48 axisOrders cs (replicate 144 zeroF) (replicate 2304 0) �
 unfolding copyOut copyTable copyRow written cs zip orders range join signed axisOrder axisOrders rowNumbers zeroF oneF neg products place eqList ofBits holds
 after = ap out rows
 
--- The case "(1,2,3) 48", which document 01 marks P, with the points and the table written out.
+-- This is the case "(1,2,3) 48", which document 01 marks P, with the points and the table written out.
 pub forty-eight : copyCall 3 abc (join (join axisOrders)) (replicate 144 zeroF) (replicate 2304 0) ≡ (Done 48, join cs, join products)
 forty-eight = before ∙ after

@@ -1,5 +1,5 @@
--- What document 01's definitions give on each smallest input where the Rust differs, for the rows of docs/DIFFERENCES.md, and whether the input is
--- clean (section 6).
+-- This file says what document 01's definitions give on each smallest input where the Rust differs, for the rows of docs/DIFFERENCES.md, and whether
+-- the input is clean (section 6).
 -- Assumes nothing.
 use mathlib.Core.Path.{_≡_, refl}
 use Prim.Native.Nat.{ℕ}
@@ -112,7 +112,7 @@ pub foundCopies : copyCall 2 (map (ofBits binary64) (0x0000000000000000 ∷ 0x40
 unfolding all
 foundCopies = refl
 
--- The vectors with the given bit patterns: a list of points, or the rows of a matrix.
+-- These are the vectors with the given bit patterns: a list of points, or the rows of a matrix.
 abbrev vecs : List (List ℕ) → List (List Float)
 vecs l = map (map (ofBits binary64)) l
 
@@ -122,7 +122,8 @@ identity = (0x3ff0000000000000 ∷ 0 ∷ []) ∷ (0 ∷ 0x3ff0000000000000 ∷ [
 abbrev threePoints : List (List ℕ)
 threePoints = (0 ∷ 0x4014000000000000 ∷ []) ∷ (0x3e75798ee2308c3a ∷ 0 ∷ []) ∷ (0xbe6ad7f29abcaf48 ∷ 0x4014000000000000 ∷ []) ∷ []
 
--- Two solids by which the readings of clean are told apart (docs/DECISIONS.md): the Rust has 6 types and 1 member of the first, and 2 members of the second.
+-- These are two solids by which the readings of clean are told apart (docs/DECISIONS.md): the Rust has 6 types and 1 member of the first, and 2
+-- members of the second.
 pub later-types : typesOf later ≡ some ((0 ∷ []) ∷ (0 ∷ 0 ∷ 1 ∷ []) ∷ (0 ∷ 1 ∷ 1 ∷ []) ∷ (0 ∷ []) ∷ [])
 unfolding evaluate
 later-types = refl
@@ -131,7 +132,8 @@ pub member-counts : map (λ c. search c >>= λ ms. passed (length ms)) (later �
 unfolding evaluate
 member-counts = refl
 
--- (0,5), (8e-8,0) and (−5e-8,5) are copied under the identity, with room for three copies. The third point is found among the copies, so that there are two.
+-- The points (0,5), (8e-8,0) and (−5e-8,5) are copied under the identity, with room for three copies. The third point is found among the copies, so
+-- that there are two.
 pub foundPoint : copyCall 2 (map (ofBits binary64) (join threePoints)) (map (ofBits binary64) (join identity)) (replicate 6 (ofBits binary64 0)) (replicate 3 7)
     ≡ (Done 2, map (ofBits binary64) (join (take 2 threePoints) ++ 0 ∷ 0 ∷ []), 0 ∷ 1 ∷ 7 ∷ [])
 unfolding all

@@ -1,4 +1,4 @@
--- Section "Trial solids", and each refusal that a sheet can meet, evaluated from the sheets' bytes.
+-- Section "Trial solids", and each refusal that a sheet can meet, are evaluated from the sheets' bytes.
 -- Assumes nothing.
 use mathlib.Core.Path.{_≡_, refl}
 use Prim.Native.Nat.{ℕ}
@@ -14,7 +14,8 @@ use Rattle.spec.specs.Eval.{evaluate}
 
 -- ---- sheets
 
--- The square (1,1), (−1,1), (−1,−1), (1,−1) with the edges 01, 12, 23, 03, in 85 bytes. `Trials` proves that this and the next sheets are read so.
+-- This is the square (1,1), (−1,1), (−1,−1), (1,−1) with the edges 01, 12, 23, 03, in 85 bytes. `Trials` proves that this and the next sheets are
+-- read so.
 abbrev pub square : List ℕ
 square =
     104 ∷ 1 ∷ 0 ∷ 16 ∷ 255 ∷ 192 ∷ 0 ∷ 0 ∷ 0 ∷ 0 ∷ 0 ∷ 0 ∷ 255 ∷ 192 ∷ 0 ∷ 0 ∷ 0 ∷ 0 ∷ 0 ∷ 2 ∷ 255 ∷ 192 ∷ 0 ∷ 0
@@ -22,7 +23,7 @@ square =
     ∷ 0 ∷ 0 ∷ 0 ∷ 0 ∷ 255 ∷ 192 ∷ 0 ∷ 0 ∷ 0 ∷ 0 ∷ 0 ∷ 2 ∷ 255 ∷ 192 ∷ 0 ∷ 0 ∷ 0 ∷ 0 ∷ 0 ∷ 0 ∷ 0 ∷ 128 ∷ 0 ∷ 1
     ∷ 0 ∷ 32 ∷ 2 ∷ 0 ∷ 128 ∷ 8 ∷ 1 ∷ 0 ∷ 48 ∷ 2 ∷ 0 ∷ 0 ∷ 12 ∷ []
 
--- The sheet of "that square, first coordinates doubled".
+-- This is the sheet of "that square, first coordinates doubled".
 abbrev pub doubled : List ℕ
 doubled =
     104 ∷ 1 ∷ 0 ∷ 17 ∷ 0 ∷ 0 ∷ 0 ∷ 0 ∷ 0 ∷ 0 ∷ 0 ∷ 0 ∷ 255 ∷ 192 ∷ 0 ∷ 0 ∷ 0 ∷ 0 ∷ 0 ∷ 3 ∷ 0 ∷ 0 ∷ 0 ∷ 0
@@ -30,7 +31,7 @@ doubled =
     ∷ 0 ∷ 0 ∷ 0 ∷ 1 ∷ 0 ∷ 0 ∷ 0 ∷ 0 ∷ 0 ∷ 0 ∷ 0 ∷ 2 ∷ 255 ∷ 192 ∷ 0 ∷ 0 ∷ 0 ∷ 0 ∷ 0 ∷ 0 ∷ 0 ∷ 128 ∷ 0 ∷ 1
     ∷ 0 ∷ 32 ∷ 2 ∷ 0 ∷ 128 ∷ 8 ∷ 1 ∷ 0 ∷ 48 ∷ 2 ∷ 0 ∷ 0 ∷ 12 ∷ []
 
--- The rhombus (2,0), (0,1), (−2,0), (0,−1), with the same edges.
+-- This is the rhombus (2,0), (0,1), (−2,0), (0,−1), with the same edges.
 abbrev pub rhombus : List ℕ
 rhombus =
     104 ∷ 1 ∷ 0 ∷ 17 ∷ 0 ∷ 0 ∷ 0 ∷ 0 ∷ 0 ∷ 0 ∷ 0 ∷ 0 ∷ 0 ∷ 0 ∷ 0 ∷ 0 ∷ 0 ∷ 0 ∷ 0 ∷ 0 ∷ 0 ∷ 0 ∷ 0 ∷ 0
@@ -38,7 +39,7 @@ rhombus =
     ∷ 0 ∷ 0 ∷ 0 ∷ 0 ∷ 0 ∷ 0 ∷ 0 ∷ 0 ∷ 0 ∷ 0 ∷ 0 ∷ 2 ∷ 255 ∷ 192 ∷ 0 ∷ 0 ∷ 0 ∷ 0 ∷ 0 ∷ 0 ∷ 0 ∷ 128 ∷ 0 ∷ 1
     ∷ 0 ∷ 32 ∷ 2 ∷ 0 ∷ 128 ∷ 8 ∷ 1 ∷ 0 ∷ 48 ∷ 2 ∷ 0 ∷ 0 ∷ 12 ∷ []
 
--- The vertex (1,2), a sheet for the case "R = 1".
+-- This is the vertex (1,2), a sheet for the case "R = 1".
 abbrev pub single : List ℕ
 single =
     40 ∷ 255 ∷ 192 ∷ 0 ∷ 0 ∷ 0 ∷ 0 ∷ 0 ∷ 1 ∷ 0 ∷ 0 ∷ 0 ∷ 0 ∷ 0 ∷ 0 ∷ 0 ∷ 0 ∷ []
@@ -60,10 +61,10 @@ kit-texts = refl
 
 -- ---- each refusal by its smallest sheet; 15 is never met, and 7, 12 and 13 are shown further below
 
--- The sheets are refused, in this order, because no field is whole, the last field is cut, a byte follows, a filling bit is 1, a byte follows after 64 bits;
--- R is 6, D is 5, a count is 0, a count is 2,049; a coordinate is infinite, or too large; a list has the length 0, a sub is not below its count, subs fall,
--- subs are equal; a vertex is in no list, and the same where 6 is met too; one edge alone lies between the top and a vertex; 2,048 elements are too many for
--- the workspace that `kit` lends; and by the search, because D is not R − 1, R is 1, or R is 0.
+-- The sheets are refused, in this order, because no field is whole, the last field is cut, a byte follows, a filling bit is 1, a byte follows after
+-- 64 bits; R is 6, D is 5, a count is 0, a count is 2,049; a coordinate is infinite, or too large; a list has the length 0, a sub is not below its
+-- count, subs fall, subs are equal; a vertex is in no list, and the same where 6 is met too; one edge alone lies between the top and a vertex; 2,048
+-- elements are too many for the workspace that `kit` lends; and by the search, because D is not R − 1, R is 1, or R is 0.
 pub refusals : map kitText (
     ([])
     ∷ take 84 square
@@ -114,7 +115,7 @@ pub refusals : map kitText (
 unfolding evaluate
 refusals = refl
 
--- A quadrangle so thin that the candidate of the first flag misses the quadrangle's own vertices.
+-- This is a quadrangle so thin that the candidate of the first flag misses the quadrangle's own vertices.
 abbrev pub sliver : List ℕ
 sliver =
     104 ∷ 1 ∷ 0 ∷ 17 ∷ 2 ∷ 61 ∷ 0 ∷ 0 ∷ 0 ∷ 0 ∷ 0 ∷ 0 ∷ 255 ∷ 192 ∷ 0 ∷ 0 ∷ 0 ∷ 0 ∷ 0 ∷ 1 ∷ 4 ∷ 173 ∷ 221 ∷ 0
@@ -137,14 +138,15 @@ whole = refl
 
 -- ---- more solids
 
--- The triangle (−1,0), (1,0), (0,1) with the edges 01, 12, 02. Its first edge passes through the origin, and the second edge changes places with it.
+-- This is the triangle (−1,0), (1,0), (0,1) with the edges 01, 12, 02. Its first edge passes through the origin, and the second edge changes places
+-- with it.
 abbrev pub triangle : List ℕ
 triangle =
     104 ∷ 0 ∷ 192 ∷ 14 ∷ 255 ∷ 192 ∷ 0 ∷ 0 ∷ 0 ∷ 0 ∷ 0 ∷ 0 ∷ 0 ∷ 0 ∷ 0 ∷ 0 ∷ 0 ∷ 0 ∷ 0 ∷ 0 ∷ 255 ∷ 192 ∷ 0 ∷ 0
     ∷ 0 ∷ 0 ∷ 0 ∷ 0 ∷ 0 ∷ 0 ∷ 0 ∷ 0 ∷ 0 ∷ 0 ∷ 0 ∷ 0 ∷ 0 ∷ 0 ∷ 0 ∷ 0 ∷ 0 ∷ 0 ∷ 0 ∷ 0 ∷ 255 ∷ 192 ∷ 0 ∷ 0
     ∷ 0 ∷ 0 ∷ 0 ∷ 0 ∷ 0 ∷ 128 ∷ 0 ∷ 1 ∷ 0 ∷ 32 ∷ 2 ∷ 0 ∷ 128 ∷ 8 ∷ 0 ∷ 0 ∷ 32 ∷ []
 
--- A regular tetrahedron, so that R is 4.
+-- This is a regular tetrahedron, so that R is 4.
 abbrev pub tetrahedron : List ℕ
 tetrahedron =
     140 ∷ 1 ∷ 0 ∷ 24 ∷ 1 ∷ 15 ∷ 252 ∷ 0 ∷ 0 ∷ 0 ∷ 0 ∷ 0 ∷ 0 ∷ 15 ∷ 252 ∷ 0 ∷ 0 ∷ 0 ∷ 0 ∷ 0 ∷ 0 ∷ 15 ∷ 252 ∷ 0
@@ -155,7 +157,7 @@ tetrahedron =
     ∷ 0 ∷ 128 ∷ 48 ∷ 2 ∷ 0 ∷ 64 ∷ 12 ∷ 0 ∷ 192 ∷ 0 ∷ 1 ∷ 0 ∷ 96 ∷ 6 ∷ 0 ∷ 0 ∷ 16 ∷ 4 ∷ 0 ∷ 48 ∷ 2 ∷ 0 ∷ 128 ∷ 40
     ∷ 1 ∷ 128 ∷ 48 ∷ 8 ∷ 1 ∷ 64 ∷ []
 
--- Six vertices that a mirror takes to one another within EPS, while it does not take edges to edges.
+-- These are six vertices that a mirror takes to one another within EPS, while it does not take edges to edges.
 abbrev pub crowded : List ℕ
 crowded =
     104 ∷ 1 ∷ 128 ∷ 24 ∷ 255 ∷ 128 ∷ 0 ∷ 0 ∷ 0 ∷ 0 ∷ 0 ∷ 0 ∷ 255 ∷ 224 ∷ 0 ∷ 0 ∷ 0 ∷ 0 ∷ 0 ∷ 2 ∷ 255 ∷ 128 ∷ 0 ∷ 0
@@ -179,7 +181,7 @@ solid = refl
 
 -- ---- the calls, whose outputs hold 7 and 2.0 before
 
--- The doubled square's types, in a workspace that just suffices, for E = 8 and I = 8. Cells past the answer keep their values.
+-- These are the doubled square's types, in a workspace that just suffices, for E = 8 and I = 8. Cells past the answer keep their values.
 pub types-given : typesCall doubled 320 128 (typesOld 9 13)
     ≡ (Done 3, record { elements = 0 ∷ 0 ∷ 0 ∷ 0 ∷ 0 ∷ 1 ∷ 0 ∷ 1 ∷ 7 ∷ []; types = 1 ∷ 0 ∷ 0 ∷ 4 ∷ 2 ∷ 0 ∷ 0 ∷ 2 ∷ 2 ∷ 1 ∷ 1 ∷ 2 ∷ 7 ∷ [] })
 unfolding evaluate
@@ -208,7 +210,7 @@ pub short-types : typesCall doubled 320 128 (typesOld 9 11) ≡ (Refused ShortSh
 unfolding evaluate
 short-types = refl
 
--- The square's eight members, row by row. Each output has one cell more than needed, and keeps it (0x4000.. is 2.0).
+-- These are the square's eight members, row by row. Each output has one cell more than needed, and keeps it (0x4000.. is 2.0).
 pub square-members : shown (searchCall square 4096 2048 (searchOld 33 33 9))
     ≡ (
       Done 8,
@@ -235,7 +237,7 @@ pub square-members : shown (searchCall square 4096 2048 (searchOld 33 33 9))
 unfolding evaluate
 square-members = refl
 
--- The square's four rotations.
+-- These are the square's four rotations.
 pub square-rotations : shown (rotationsCall square 4096 2048 (searchOld 16 16 4))
     ≡ (
       Done 4,

@@ -1,5 +1,5 @@
--- Section "Trial solids": "Cases marked P are proved jointly, one theorem over the lot." The theorem says of each sheet which solid it holds, by
--- what reading it gives, and what the calls and the program `kit` answer for it. The calls are lent what `kit` lends.
+-- This file has section "Trial solids": "Cases marked P are proved jointly, one theorem over the lot." The theorem says of each sheet which solid it
+-- holds, by what reading it gives, and what the calls and the program `kit` answer for it. The calls are lent what `kit` lends.
 -- Assumes nothing.
 use mathlib.Core.Path.{_≡_, refl, ap}
 use Prim.Native.Nat.{ℕ, _*_, _≤_, _<_}
@@ -46,11 +46,11 @@ three = fin false 3 (pos 0)
 abbrev four : Float
 four = fin false 1 (pos 2)
 
--- The binary64 nearest to 1e-7, by its bit pattern.
+-- This is the binary64 nearest to 1e-7, by its bit pattern.
 abbrev tenMillionth : Float
 tenMillionth = ofBits binary64 0x3e7a_d7f2_9abc_af48
 
--- R = 3 in two dimensions: four vertices, and the edges 01, 12, 23, 03.
+-- Here R = 3 in two dimensions, with four vertices, and the edges 01, 12, 23, 03.
 abbrev quadrangle : List (List Float) → Parsed
 quadrangle vertices = record {
   rank = 3;
@@ -60,7 +60,7 @@ quadrangle vertices = record {
   lists = ((0 ∷ 1 ∷ []) ∷ (1 ∷ 2 ∷ []) ∷ (2 ∷ 3 ∷ []) ∷ (0 ∷ 3 ∷ []) ∷ []) ∷ [];
 }
 
--- R = 2 in one dimension: two vertices, and no list.
+-- Here R = 2 in one dimension, with two vertices, and no list.
 abbrev segment : Float → Float → Parsed
 segment x y = record { rank = 2; dimension = 1; counts = 2 ∷ []; points = (x ∷ []) ∷ (y ∷ []) ∷ []; lists = [] }
 
@@ -82,61 +82,61 @@ members b = searchCall b workWords workFloats searchLent .0
 abbrev rotations : List ℕ → Answer
 rotations b = rotationsCall b workWords workFloats searchLent .0
 
--- What copying answers for the point p under some turns in d dimensions, with room for n points.
+-- This is what copying answers for the point p under some turns in d dimensions, with room for n points.
 abbrev copies : ℕ → ℕ → List Float → List Float → Answer
 copies d n p turns = copyCall d p turns (replicate (d * n) zeroF) (replicate (48 * n) 0) .0
 
--- The 48 signed axis orders, as a caller lends them.
+-- These are the 48 signed axis orders, as a caller lends them.
 abbrev turns48 : List Float
 turns48 = join (join axisOrders)
 
 -- ---- the cases
 
 pub record Trials : Type 0 where
-  -- "square (1,1), (−1,1), (−1,−1), (1,−1), edges 01, 12, 23, 03: 85 bytes"
+  -- The first case is "square (1,1), (−1,1), (−1,−1), (1,−1), edges 01, 12, 23, 03: 85 bytes".
   pub square-bytes : length square ≡ 85
   pub square-reads : readSheet square ≡ passed (quadrangle ((one ∷ one ∷ []) ∷ (neg one ∷ one ∷ []) ∷ (neg one ∷ neg one ∷ []) ∷ (one ∷ neg one ∷ []) ∷ []))
   pub square-kit : kitText square ≡ ascii "types 2\n1 0 0 4\n2 0 0 4\nmembers 8 confirmed 8 rotations 4\n"
-  -- "input past 8,192 bytes is refused 1"
+  -- The program's case is "input past 8,192 bytes is refused 1".
   pub long-kit : (b : List ℕ) → longest < length b → kitText b ≡ ascii "refused 1\n"
-  -- "that square, first coordinates doubled: edge types 0 and 1, two each; 4 members, 2 rotations"
+  -- The next case is "that square, first coordinates doubled: edge types 0 and 1, two each; 4 members, 2 rotations".
   pub doubled-reads : readSheet doubled ≡ passed (quadrangle ((two ∷ one ∷ []) ∷ (neg two ∷ one ∷ []) ∷ (neg two ∷ neg one ∷ []) ∷ (two ∷ neg one ∷ []) ∷ []))
   pub doubled-types : typesIn doubled
       ≡ (Done 3, record { elements = (0 ∷ 0 ∷ 0 ∷ 0 ∷ 0 ∷ 1 ∷ 0 ∷ 1 ∷ []) ++ replicate 248 7; types = (1 ∷ 0 ∷ 0 ∷ 4 ∷ 2 ∷ 0 ∷ 0 ∷ 2 ∷ 2 ∷ 1 ∷ 1 ∷ 2 ∷ []) ++ replicate 1012 7 })
   pub doubled-members : members doubled ≡ Done 4
   pub doubled-rotations : rotations doubled ≡ Done 2
-  -- "(2,0), (0,1), (−2,0), (0,−1): vertex types two and two, one edge type; 4 members"
+  -- The next case is "(2,0), (0,1), (−2,0), (0,−1): vertex types two and two, one edge type; 4 members".
   pub rhombus-reads : readSheet rhombus ≡ passed (quadrangle ((two ∷ zero ∷ []) ∷ (zero ∷ one ∷ []) ∷ (neg two ∷ zero ∷ []) ∷ (zero ∷ neg one ∷ []) ∷ []))
   pub rhombus-types : typesIn rhombus
       ≡ (Done 3, record { elements = (0 ∷ 1 ∷ 0 ∷ 1 ∷ 0 ∷ 0 ∷ 0 ∷ 0 ∷ []) ++ replicate 248 7; types = (1 ∷ 0 ∷ 0 ∷ 2 ∷ 1 ∷ 1 ∷ 1 ∷ 2 ∷ 2 ∷ 0 ∷ 0 ∷ 4 ∷ []) ++ replicate 1012 7 })
   pub rhombus-members : members rhombus ≡ Done 4
-  -- "R = 2 at −1 and 1: 2 members, 1 rotation."
+  -- The next case is "R = 2 at −1 and 1: 2 members, 1 rotation."
   pub dyad-reads : readSheet dyad ≡ passed (segment (neg one) one)
   pub dyad-members : members dyad ≡ Done 2
   pub dyad-rotations : rotations dyad ≡ Done 1
-  -- "At 0 and 1: 11."
+  -- The next case is "At 0 and 1: 11."
   pub lopsided-reads : readSheet lopsided ≡ passed (segment zero one)
   pub lopsided-members : members lopsided ≡ Refused Flat 0
-  -- "At −1e-7 and 1e-7: 10."
+  -- The next case is "At −1e-7 and 1e-7: 10."
   pub tiny-reads : readSheet tiny ≡ passed (segment (neg tenMillionth) tenMillionth)
   pub tiny-members : members tiny ≡ Refused Centred 0
-  -- "At 0 and 1e-7: 9, yet two vertex types"
+  -- The next case is "At 0 and 1e-7: 9, yet two vertex types".
   pub close-reads : readSheet close ≡ passed (segment zero tenMillionth)
   pub close-members : members close ≡ Refused DoubleCorner 0
   pub close-types : typesIn close
       ≡ (Done 2, record { elements = (0 ∷ 1 ∷ []) ++ replicate 254 7; types = (1 ∷ 0 ∷ 0 ∷ 1 ∷ 1 ∷ 1 ∷ 1 ∷ 1 ∷ []) ++ replicate 1016 7 })
-  -- "R = 1: no types; search 8" holds of every accepted sheet of that rank, on any workspace of at least 64 words and 64 floats, with any outputs. The
-  -- second field says what `kit` prints for such a sheet.
+  -- "R = 1: no types; search 8" holds of every accepted sheet of that rank, on any workspace of at least 64 words and 64 floats, with any outputs.
+  -- The second field says what `kit` prints for such a sheet.
   pub rank-one-calls : (b : List ℕ) (p : Parsed) → readSheet b ≡ passed p → p .rank ≡ 1 → (words floats : ℕ) → 64 ≤ words → 64 ≤ floats → NoProperRank b words floats
   pub rank-one-kit : (b : List ℕ) (p : Parsed) → readSheet b ≡ passed p → p .rank ≡ 1 → kitText b ≡ ascii "types 0\nrefused 8\n"
   -- The sheet of the one vertex (1,2) is among them.
   pub single-reads : readSheet single ≡ passed (record { rank = 1; dimension = 2; counts = []; points = (one ∷ two ∷ []) ∷ []; lists = [] })
   pub single-types : typesIn single ≡ (Done 0, typesLent)
   pub single-members : members single ≡ Refused NotFull 0
-  -- "root of 4 is 2; of 2 is 0x3FF6A09E667F3BCD"
+  -- The case of roots is "root of 4 is 2; of 2 is 0x3FF6A09E667F3BCD".
   pub root-of-4 : root four ≡ two
   pub root-of-2 : root two ≡ ofBits binary64 0x3FF6_A09E_667F_3BCD
-  -- "under the 48, (1,0,0) has 6 copies, (1,1,1) 8, (1,2,3) 48. A quarter turn alone on (1,0): 14"
+  -- The cases of copying are "under the 48, (1,0,0) has 6 copies, (1,1,1) 8, (1,2,3) 48. A quarter turn alone on (1,0): 14".
   pub six-copies : copies 3 6 (one ∷ zero ∷ zero ∷ []) turns48 ≡ Done 6
   pub eight-copies : copies 3 8 (one ∷ one ∷ one ∷ []) turns48 ≡ Done 8
   pub forty-eight-copies : copies 3 48 (one ∷ two ∷ three ∷ []) turns48 ≡ Done 48

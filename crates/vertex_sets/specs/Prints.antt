@@ -17,8 +17,8 @@ unfoldable pub printOf : List ℕ → ℕ
 printOf [] = zero
 printOf (v ∷ l) = v * v + printOf l
 
--- The prints of the elements of the proper ranks, for the solid that the words w hold, stand in `words` from `at` on: the element with the number g over all
--- ranks, which is firstAt sh r + e, has its print at word at + g.
+-- The prints of the elements of the proper ranks, for the solid that the words w hold, stand in `words` from `at` on: the element with the number g
+-- over all ranks, which is firstAt sh r + e, has its print at word at + g.
 pub record Printed (sh : Shape) (w : List ℕ) (at : ℕ) (words : List ℕ) : Type 0 where
   pub room : at + total sh ≤ length words
   pub prints : (r e : ℕ) → 1 ≤ r → r < sh .rank → e < sizeAt sh r → getD words (at + firstAt sh r + e) 0 ≡ printOf (vertices (absIn sh w) r e)
