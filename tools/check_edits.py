@@ -12,7 +12,7 @@ TOP = os.path.dirname(os.path.dirname(os.path.abspath(__file__)))
 
 
 def fault(edit):
-    """What is wrong with an edit, or an empty text where nothing is."""
+    """Says what is wrong with an edit, or an empty text where nothing is."""
     crate = os.path.dirname(os.path.dirname(edit))
     texts, path, old, pairs = {}, None, None, 0
     for line in open(edit, encoding="utf-8").read().splitlines():

@@ -14,7 +14,7 @@ static double matrices[1024];
 static uint16_t rows[8192];
 static uint8_t marks[512];
 
-/* Prints why a call was refused; says whether it was. */
+/* Prints why a call was refused, and says whether it was. */
 static int is_refused(uint64_t answer) {
     enum jidwaleb_refusal why = JIDWALEB_REFUSAL(answer);
     if (why == JIDWALEB_DONE) return 0;

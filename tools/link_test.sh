@@ -1,7 +1,7 @@
 #!/bin/sh
 # link_test.sh links the static library from C (include/) and from Rust (rust/), and holds what both print for the sample sheets to the samples'
 # .kit files; sheets of 8,192 bytes and more are among them. Where g++ and cargo are at hand it links from C++ too, and runs the tests and the doc
-# examples of rust/. Needs rt, cc and rustc. The last line counts.
+# examples of rust/. It needs rt, cc and rustc. The last line counts what was held.
 set -e
 cd "$(dirname "$0")/.."
 work=target/link

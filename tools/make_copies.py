@@ -37,7 +37,7 @@ OPEN = 65535
 # ---- the model
 
 def image(matrix, point):
-    """The image of a point, by dots that start with the first product and add the others by rising index."""
+    """Returns the image of a point, by dots that start with the first product and add the others by rising index."""
     result = []
     for row in matrix:
         total = row[0] * point[0]
@@ -48,7 +48,7 @@ def image(matrix, point):
 
 
 def find(points, q):
-    """The lowest number of a point within EPS on every axis, or None."""
+    """Returns the lowest number of a point within EPS on every axis, or None."""
     for k, p in enumerate(points):
         if all(abs(a - b) <= EPS for a, b in zip(p, q)):
             return k
@@ -60,7 +60,7 @@ def parted(numbers, size):
 
 
 def copying(points, matrices):
-    """All copies, and a row for each matrix with None for an image that is not among them."""
+    """Returns all copies, and a row for each matrix with None for an image that is not among them."""
     copies = []
     for p in points:
         if find(copies, p) is None:
@@ -72,7 +72,7 @@ def copying(points, matrices):
 
 
 def refused_early(d, points, turns):
-    """The first of the refusals 2, 1, 3 and 12, which are tested in that order, or 0."""
+    """Returns the first of the refusals 2, 1, 3 and 12, which are tested in that order, or 0."""
     if not 1 <= d <= 4:
         return 2
     if len(points) % d or len(turns) % (d * d):
@@ -85,7 +85,7 @@ def refused_early(d, points, turns):
 
 
 def answer(d, points, turns, copies_out, table_out, rust):
-    """The refusal's number or 0, the count, and the two outputs afterwards, where copies_out and table_out are what they held before."""
+    """Returns the refusal's number or 0, the count, and the two outputs afterwards, where copies_out and table_out are what they held before."""
     early = refused_early(d, points, turns)
     if early:
         return early, 0, copies_out, table_out
@@ -119,7 +119,7 @@ def oracle(program):
 # ---- the copyings
 
 def signed_orders(n):
-    """The signed orders of n axes, by dictionary order and then signs, first axis highest; 48 where n is 3."""
+    """Lists the signed orders of n axes, by dictionary order and then signs, first axis highest. There are 48 where n is 3."""
     for order in itertools.permutations(range(n)):
         for signs in itertools.product((1.0, -1.0), repeat=n):
             yield [signs[i] if j == order[i] else 0.0 for i in range(n) for j in range(n)]
@@ -151,7 +151,7 @@ def double_turn(j, k, n):
 
 
 def icosians():
-    """The 120 unit icosians, each as the matrix that multiplies by it from the left."""
+    """Lists the 120 unit icosians, each as the matrix that multiplies by it from the left."""
     golden = (1 + math.sqrt(5)) / 2
     units = [[s if i == k else 0.0 for i in range(4)] for k in range(4) for s in (1.0, -1.0)]
     units += [list(s) for s in itertools.product((0.5, -0.5), repeat=4)]
@@ -169,9 +169,9 @@ def identity(d):
 
 
 def twins(rng, d, n, pairs, axis, other):
-    """n points, of which some are twins that are 1.5e-7 apart on an axis, and a matrix that moves all points along it by 9e-8: forwards where the
-    other axis is at 1, and back where it is at -1. So the image of a lower twin, or of an upper one, is near both. Which of two twins has the lower
-    number is left to chance."""
+    """Returns n points, of which some are twins that are 1.5e-7 apart on an axis, and a matrix that moves all points along it by 9e-8: forwards where
+    the other axis is at 1, and back where it is at -1. So the image of a lower twin, or of an upper one, is near both. Which of two twins has the
+    lower number is left to chance."""
     points = []
     for k in range(n - pairs):
         p = [rng.uniform(-9, 9) for _ in range(d)]
@@ -185,7 +185,7 @@ def twins(rng, d, n, pairs, axis, other):
 
 
 def diagonal_twins(rng, n, pairs):
-    """The same for points of equal coordinates in two dimensions, so that a mistake of one axis for the other is seen."""
+    """Returns the same for points of equal coordinates in two dimensions, so that a mistake of one axis for the other is seen."""
     points = [[t, t] for t in (70 + 50 * (k + rng.random() / 2) / n for k in range(n - pairs))]
     points += [[x, y + 1.5e-7] for x, y in points[:pairs]]
     rng.shuffle(points)
@@ -197,7 +197,8 @@ def flat(lists):
 
 
 def cases():
-    """The dimension, the points, the turns, and how long the outputs are. None stands for what the answer takes, with 3 and 5 cells to spare."""
+    """Holds the dimension, the points, the turns, and how long the outputs are. None stands for what the answer takes, with 3 and 5 cells to
+    spare."""
     rng = random.Random(20261115)
     all48 = flat(signed_orders(3))
     ample = (None, None)
@@ -206,7 +207,7 @@ def cases():
     def one_of(limit):
         return round(rng.uniform(-limit, limit), rng.randrange(7))
 
-    # The 48 of the constant table.
+    # These are under the 48 of the constant table.
     for seed in ((1, 0, 0), (1, 1, 1), (1, 2, 3), (0, 0, 0), (1, 1, 0), (2, 1, 0), (1, 1, 2), (-0.0, 0.0, -5.0), (0.1, 0.2, 0.3), (1048576.0, 0.5, -3.0)):
         yield 3, [float(x) for x in seed], all48, *ample
     yield 3, [1.0, 0.0, 0.0, 1.0, 1.0, 1.0], all48, *ample
@@ -215,19 +216,19 @@ def cases():
     for n in (1, 2, 3):
         yield 3, [one_of(10) for _ in range(3 * n)], all48, *ample
     yield 3, [one_of(10) for _ in range(9)], flat([m for m in signed_orders(3) if determinant(m, 3) > 0]), *ample
-    # Two dimensions.
+    # These have two dimensions.
     for n in range(1, 13):
         yield 2, [1.0, 0.0], flat(cyclic(n)), *ample
     for n in (3, 5, 8):
         yield 2, [one_of(5) for _ in range(4)], flat(cyclic(n)), *ample
         yield 2, [one_of(5), one_of(5), 1.0, 0.0], flat(dihedral(n)), *ample
-    # One dimension, and the signs of zero.
+    # These have one dimension, and try the signs of zero.
     yield 1, [3.0], [1.0, -1.0], *ample
     yield 1, [0.0], [-1.0], *ample
     yield 1, [-0.0, 5.0, 0.0], [-1.0, 1.0], *ample
     yield 1, [5e-324, 2.0], [1.0, -1.0], *ample
     yield 1, [2.0], [0.0, 1.0], *ample
-    # Four dimensions.
+    # These have four dimensions.
     yield 4, [1.0, 0.0, 0.0, 0.0], flat(icosians()), *ample
     yield 4, [0.5, 0.25, 0.0, -1.0], flat(icosians()), *ample
     rotations = flat([m for m in signed_orders(4) if determinant(m, 4) > 0])
@@ -235,7 +236,7 @@ def cases():
         yield 4, [float(x) for x in seed], rotations, *ample
     for j, k, n in ((1, 1, 5), (1, 2, 5), (1, 3, 8)):
         yield 4, [one_of(3) for _ in range(8)], flat(double_turn(i * j, i * k, n) for i in range(n)), *ample
-    # Points that are near each other.
+    # These points are near each other.
     for gap in (0.5e-7, EPS, above):
         yield 1, [0.0, gap], [1.0], *ample
         yield 2, [0.0, 1.0, gap, 1.0, 0.0, 1.0 + gap], [1.0, 0.0, 0.0, 1.0], *ample
@@ -243,7 +244,7 @@ def cases():
     yield 1, [1e-7], [1.0, -1.0, 0.0], *ample
     yield 2, [0.0, 5.0, 8e-8, 0.0], [1.0, 0.0, 0.0, 1.0, 1.0, -1e-8, 0.0, 1.0], *ample
     yield 1, [0.0, 2e-7, 1e-7], [1.0], *ample
-    # Twins that are further apart than EPS and yet too close to count as lone, with images that are near both.
+    # These are twins that are further apart than EPS and yet too close to count as lone, with images that are near both.
     for d, n, pairs, axis, other in ((2, 40, 8, 1, 0), (2, 40, 16, 0, 1), (3, 40, 12, 2, 0), (4, 33, 10, 1, 3), (2, 300, 60, 1, 0)):
         points, moved = twins(rng, d, n, pairs, axis, other)
         yield d, points, identity(d), *ample
@@ -255,24 +256,24 @@ def cases():
     for n in (31, 32, 33):
         yield 2, [1.0, 0.0], flat(cyclic(n)), *ample
         yield 3, [rng.uniform(-9, 9) for _ in range(3 * n)], identity(3), *ample
-    # 256 and 2,048 copies, and one more, which is the origin.
+    # There are 256 and 2,048 copies, and one more, which is the origin.
     for seeds in (32, MOST // 8):
         points = [rng.uniform(-9, 9) for _ in range(2 * seeds)]
         yield 2, points, flat(cyclic(8)), 16 * seeds, 64 * seeds
         yield 2, points + [0.0, 0.0], flat(cyclic(8)), 16 * seeds + 2, 64 * seeds + 8
-    # Many seeds under the identity, some of them twice.
+    # There are many seeds under the identity, some of them twice.
     for d, n in ((1, 700), (2, 1000), (3, 257), (4, 256), (4, 800)):
         points = [rng.uniform(-1000, 1000) for _ in range(d * n)]
         yield d, points + points[:4 * d], identity(d), *ample
-    # Refusal 2, also where 1 would come next.
+    # Refusal 2 comes, also where 1 would come next.
     for d in (0, 5, 6, 8, 1 << 32, (1 << 64) - 1):
         yield d, [1.0] * 8, [1.0] * 64, 9, 9
         yield d, [1.0] * 7, [math.nan] * 3, 9, 9
-    # Refusal 1, also where 3 or 12 would come next.
+    # Refusal 1 comes, also where 3 or 12 would come next.
     for d, p, t in ((2, 3, 4), (2, 2, 5), (2, 2, 3), (3, 3, 8), (3, 4, 9), (4, 4, 15), (4, 5, 16), (2, 0, 1), (2, 1, 0)):
         yield d, [1.0] * p, [1.0] * t, 9, 9
     yield 2, [math.nan, 1.0, 1.0], [1.0] * 4, 9, 9
-    # Refusal 3, also where 12 would come next. At the limit itself it does not come.
+    # Refusal 3 comes, also where 12 would come next. At the limit itself it does not come.
     for x in (math.nan, math.inf, -math.inf, math.nextafter(LIMIT, 2e6), -math.nextafter(LIMIT, 2e6)):
         yield 2, [0.0, x], [1.0, 0.0, 0.0, 1.0], 9, 9
         yield 2, [0.0, 1.0], [1.0, 0.0, 0.0, x], 9, 9
@@ -280,10 +281,10 @@ def cases():
         yield 1, [], [x], 9, 9
     yield 2, [LIMIT, -LIMIT], [1.0, 0.0, 0.0, 1.0, -1.0, 0.0, 0.0, -1.0], *ample
     yield 1, [LIMIT], [LIMIT], 9, 9
-    # Refusal 12.
+    # Refusal 12 comes.
     for p, t in (([], []), ([1.0] * 3, []), ([], [1.0] * 9)):
         yield 3, p, t, 9, 9
-    # Refusal 13, and outputs that are just long enough.
+    # Refusal 13 comes, and does not where outputs are just long enough.
     for floats in (0, 1, 2, 3, 17, 18, 19, 20, 21):
         yield 3, [1.0, 0.0, 0.0], all48, floats, 288
     for cells in (0, 1, 287, 288, 289):
@@ -297,7 +298,7 @@ def cases():
     yield 1, [k + 0.5 for k in range(MOST // 2 + 1)], [1.0, -1.0], MOST + 2, 2 * MOST + 4
     yield 1, [k + 0.5 for k in range(MOST // 2)], [1.0, -1.0], MOST - 1, 2 * MOST
     yield 1, [k + 0.5 for k in range(MOST // 2)], [1.0, -1.0], MOST, 2 * MOST - 1
-    # Refusal 14, and 13 where both would come.
+    # Refusal 14 comes, and 13 where both would come.
     quarter = [0.0, -1.0, 1.0, 0.0]
     for floats, cells in ((9, 9), (2, 1), (2, 0), (1, 1)):
         yield 2, [1.0, 0.0], quarter, floats, cells

@@ -29,7 +29,7 @@ from pack_sheet import pack
 
 
 def together(parts):
-    """One solid of several that stand side by side."""
+    """Makes one solid of several that stand side by side."""
     points, lists = [], [[], [], []]
     for p, ls in parts:
         below = len(points)
@@ -42,7 +42,7 @@ def together(parts):
 
 
 def fan(n, m, at):
-    """A solid of m polygons of n sides on the same edges."""
+    """Makes a solid of m polygons of n sides on the same edges."""
     corner = ((1.0, 1.0), (-1.0, 1.0), (-1.0, -1.0), (1.0, -1.0))
     points = [(corner[k % 4][0] * (1 + k // 4), corner[k % 4][1], float(at % 32), float(at // 32)) for k in range(n)]
     edges = [sorted((k, (k + 1) % n)) for k in range(n)]
@@ -50,7 +50,7 @@ def fan(n, m, at):
 
 
 def split(n):
-    """A solid with a face for each two of four facets. Each polygon is in the faces of all but one pairing of the facets."""
+    """Makes a solid with a face for each two of four facets. Each polygon is in the faces of all but one pairing of the facets."""
     points, lists = together(([(0.0, 0.0, float(a), float(k)) for k in range(n)], [[sorted((k, (k + 1) % n)) for k in range(n)], [], []]) for a in range(3))
     faces = list(itertools.combinations(range(4), 2))
     pairings = [{(0, 1), (2, 3)}, {(0, 2), (1, 3)}, {(0, 3), (1, 2)}]
@@ -60,8 +60,8 @@ def split(n):
 
 
 def choices(n, m):
-    """A solid around a cycle of n edges, each of which is there twice. Each choice of one edge of each pair gives m equal faces, and each two neighbours
-    of these make a facet."""
+    """Makes a solid around a cycle of n edges, each of which is there twice. Each choice of one edge of each pair gives m equal faces, and each two
+    neighbours of these make a facet."""
     points = [(float(k), float(k % 2), 0.0, 0.0) for k in range(n)]
     edges = [sorted((k, (k + 1) % n)) for k in range(n) for _ in range(2)]
     faces = [[2 * k + b for k, b in enumerate(bits)] for bits in itertools.product((0, 1), repeat=n) for _ in range(m)]
@@ -80,7 +80,7 @@ def longest(n):
 
 
 def cubes(sizes):
-    """Cubes that close up. An element is given by a place and the axes along which it extends."""
+    """Makes cubes that close up. An element is given by a place and the axes along which it extends."""
     places = list(itertools.product(*map(range, sizes)))
     axes = [[s for s in itertools.product((0, 1), repeat=3) if sum(s) == k] for k in range(4)]
     number = [{e: i for i, e in enumerate(itertools.product(axes[k], places))} for k in range(4)]
@@ -97,8 +97,8 @@ def cubes(sizes):
 
 
 def cell24(at):
-    """The boundary of the 24-cell. The vertices have two coordinates of ±1, and a facet is the octahedron of those that are furthest in one of 24
-    directions."""
+    """Makes the boundary of the 24-cell. The vertices have two coordinates of ±1, and a facet is the octahedron of those that are furthest in one of
+    24 directions."""
     points = [p for p in itertools.product((-1, 0, 1), repeat=4) if sum(map(abs, p)) == 2]
     directions = [p for p in itertools.product((-1, 0, 1), repeat=4) if sum(map(abs, p)) in (1, 4)]
     octahedra = [frozenset(v for v in range(24) if sum(a * b for a, b in zip(points[v], u)) * (2 if sum(map(abs, u)) == 1 else 1) == 2) for u in directions]

@@ -1,9 +1,9 @@
 //! Makes the stored matrices that program float_replay answers to, with the arithmetic of the oracle's stand-in for nalgebra (document
 //! 01, section 1). tools/make_float_replay.sh builds and runs it once; the files are kept.
 //!
-//! For each matrix, on standard output, as numbers of eight bytes, highest byte first: the dimension and the entries' bit patterns row by
-//! row; then on standard error the answers: 1 and the inverse's patterns, or 0 where it is singular; the determinant; the product of the
-//! matrix with its own rows in falling order; the image of its first row. A NaN is written as 0x7ff8000000000000.
+//! All numbers have eight bytes, highest byte first. For each matrix, the dimension and the entries' bit patterns, row by row, go to standard
+//! output. The answers go to standard error: 1 and the inverse's patterns, or 0 where it is singular; the determinant; the product of the
+//! matrix with its own rows in falling order; and the image of its first row. A NaN is written as 0x7ff8000000000000.
 use nalgebra::DMatrix;
 use std::io::Write;
 
@@ -21,8 +21,8 @@ impl Random {
         (self.next() >> 11) as f64 / (1u64 << 53) as f64 * 2.0 - 1.0
     }
 
-    // By kind: any value in (-1, 1); small whole numbers, which tie and make singular matrices; values of wildly different size; zeros of
-    // both signs and units; small whole numbers among which NaN and infinities stand.
+    // The kinds are any value in (-1, 1); small whole numbers, which tie and make singular matrices; values of wildly different size; zeros of
+    // both signs and units; and small whole numbers among which NaN and infinities stand.
     fn entry(&mut self, kind: u64) -> f64 {
         match kind {
             0 => self.unit(),

@@ -35,20 +35,20 @@ from pack_sheet import pack
 from make_sheets import judge
 from search_model import EPS, SLIPS, Searched, answer, check_clean, clean, determinant, exchanged, first_inverse, unpack
 
-# what the program has room for, and what it fills each output with
+# The program has room for LIMITS, and fills each output with BEFORE.
 LIMITS = 8192, 16384, 2048, 20480, 32768, 2048
 BEFORE = lambda i: 0x7000000000000000 + i % 65536, lambda i: 60000 + i % 4096, lambda i: 2 + i % 250
 GOLDEN = (1 + math.sqrt(5)) / 2
-# of a digest
+# These are the numbers of a digest.
 BASE, PRIME = 1_000_003, (1 << 44) - 17
-# up to how many members a search is stored whole, and rotations
+# Searches, and rotations, are stored whole up to this many members.
 FEW = 48, 12
 
 
 # ---- building
 
 class Shape:
-    """Points, and the subs of the elements of ranks 2 to R - 1."""
+    """Holds points, and the subs of the elements of ranks 2 to R - 1."""
 
     def __init__(self, points, lists):
         self.points = [[float(x) for x in p] for p in points]
@@ -80,12 +80,12 @@ class Shape:
         return self.moved(lambda p: [x + b for x, b in zip(p, by)])
 
     def sunk(self, facet):
-        """Moved so that the middle of this facet is the origin."""
+        """Returns the solid moved so that the middle of this facet is the origin."""
         on = [self.points[v] for v in self.vertices(self.rank - 1, facet)]
         return self.shifted([-sum(axis) / len(on) for axis in zip(*on)])
 
     def renumbered(self, r, order):
-        """Element i of rank r becomes element order[i]."""
+        """Renumbers the elements of rank r, so that element i becomes element order[i]."""
         def put(old):
             new = [None] * len(old)
             for i, to in enumerate(order):
@@ -125,7 +125,7 @@ def polygon(n, step=1, radii=(1.0,), phase=0.0):
 
 
 def product(p, q):
-    """An element of rank i and one of rank j give one of rank i + j - 1."""
+    """Makes a product, in which an element of rank i and one of rank j give one of rank i + j - 1."""
     place, lists = {}, []
     for r in range(1, p.rank + q.rank - 1):
         pairs = [(i, e, r + 1 - i, f) for i in range(1, p.rank + 1) if 1 <= r + 1 - i <= q.rank
@@ -141,7 +141,7 @@ def prism(p, height=1.0):
 
 
 def cones(p, below, base, apexes):
-    """The elements below rank `below`, and over every element the cone to each apex."""
+    """Takes the elements below rank `below`, and over every element the cone to each apex."""
     def kept(r):
         return p.count(r) if r < below else 0
 
@@ -161,7 +161,7 @@ def bipyramid(p, up, down):
 
 
 def dihedron(p, height):
-    """A facet and its back."""
+    """Makes a solid of a facet and its back."""
     return Shape([a + [height] for a in p.points], p.lists + [[p.subs(p.rank, 0)] * 2])
 
 
@@ -176,7 +176,7 @@ def compound(*shapes):
 
 
 def pleated(p, facet):
-    """A polyhedron with this face's edges doubled, and a digon between each and its double."""
+    """Makes a polyhedron with this face's edges doubled, and a digon between each and its double."""
     edges, faces = [list(l) for l in p.lists[0]], [list(l) for l in p.lists[1]]
     old = faces[facet]
     faces[facet] = [len(edges) + k for k in range(len(old))]
@@ -185,14 +185,14 @@ def pleated(p, facet):
 
 
 def normal(points):
-    """Of the hyperplane through D points, by cofactors; None where they have no one hyperplane."""
+    """Returns the normal of the hyperplane through D points, by cofactors, or None where they have no one hyperplane."""
     edges = [[a - b for a, b in zip(p, points[0])] for p in points[1:]]
     n = [(-1) ** k * determinant([e[:k] + e[k + 1:] for e in edges]) for k in range(len(points))]
     return n if max(map(abs, n)) > 1e-9 else None
 
 
 def hull(points):
-    """The convex solid on these points, all of them vertices."""
+    """Makes the convex solid on these points, all of them vertices."""
     points = [[float(x) for x in p] for p in points]
     facets = set()
     for corners in itertools.combinations(range(len(points)), len(points[0])):
@@ -213,7 +213,7 @@ def hull(points):
 
 
 def signs(*xs):
-    """All changes of sign."""
+    """Lists all changes of sign."""
     return sorted({tuple(x * s for x, s in zip(xs, ss)) for ss in itertools.product((1, -1), repeat=len(xs))}, reverse=True)
 
 
@@ -226,7 +226,7 @@ def even_orders(points):
 
 
 def conjugate(points):
-    """The golden ratio's powers changed to those of its conjugate: the regular solids become stars on the same lists."""
+    """Changes the golden ratio's powers to those of its conjugate, by which the regular solids become stars on the same lists."""
     change = {0.0: 0.0, 1.0: 1.0, GOLDEN: 1 - GOLDEN, GOLDEN - 1: -GOLDEN}
     return [[math.copysign(1.0, x) * change[abs(x)] for x in p] for p in points]
 
@@ -236,14 +236,14 @@ def star(p):
 
 
 def great_dodecahedron(icosahedron):
-    """A pentagon round each vertex."""
+    """Makes a solid with a pentagon round each vertex."""
     edges = icosahedron.lists[0]
     near = [{w for e in edges if v in e for w in e if w != v} for v in range(12)]
     return Shape(icosahedron.points, [edges, [[k for k, e in enumerate(edges) if set(e) <= n] for n in near]])
 
 
 def tetrahemihexahedron():
-    """Three squares through the centre and four triangles, on the vertices of an octahedron."""
+    """Makes a solid of three squares through the centre and four triangles, on the vertices of an octahedron."""
     points = [[s if i == k else 0 for i in range(3)] for k in range(3) for s in (1, -1)]
     edges = [[a, b] for a in range(6) for b in range(a + 1, 6) if a // 2 != b // 2]
     squares = [[k for k, e in enumerate(edges) if axis not in (e[0] // 2, e[1] // 2)] for axis in range(3)]
@@ -252,8 +252,9 @@ def tetrahemihexahedron():
 
 
 def squares(height):
-    """Three squares at one height: on the first the square and the two bows of its corners. Each bow is one face with one of the others, which
-    are faces alone too. The quarter turn takes each face's corners to a face's corners, but one bow to the other: the subs tell."""
+    """Makes three squares at one height, with on the first the square and the two bows of its corners. Each bow is one face with one of the
+    others, which are faces alone too. The quarter turn takes each face's corners to a face's corners, but one bow to the other, which only the
+    subs tell."""
     flat = polygon(4), polygon(4).scaled(2), polygon(4, 1, (2.0,), 0.5)
     sides = [[[4 * k + i, 4 * k + (i + 1) % 4] for i in range(4)] for k in range(3)]
     one, other = [6, 7, 8, 9], [10, 11, 12, 13]
@@ -262,30 +263,30 @@ def squares(height):
 
 
 def bow(size, one, other):
-    """A crossed quadrilateral, its edges 0 and 2 as far as this from the origin."""
+    """Makes a crossed quadrilateral, whose edges 0 and 2 are as far as this from the origin."""
     a, b = one / math.sqrt(2), other / math.sqrt(2)
     return ring([(size + a, size - a), (a - size, -size - a), (size + b, b - size), (b - size, size + b)])
 
 
 def tangle():
-    """The eight lines of an octagram, each with two outer and two inner corners, joined in pairs: on the last line each outer one with the inner
-    one near it, else with the other. Neither distances nor types tell: turns take the first edge to an edge, and not every one of its type."""
+    """Makes the eight lines of an octagram, each with two outer and two inner corners, joined in pairs: on the last line each outer one with the
+    inner one near it, else with the other. Neither distances nor types tell: turns take the first edge to an edge, and not every one of its type."""
     inner = polygon(8, 1, (math.sqrt(2) * math.cos(3 * math.pi / 8),))
     pairs = [[[(k + 1) % 8, 8 + (k + side) % 8], [(k - 2) % 8, 8 + (k - side) % 8]] for k in range(8) for side in ([-1] if k < 7 else [1])]
     return Shape(polygon(8, 1, (1.0,), 0.5).points + inner.points, [sum(pairs, [])])
 
 
 def thin():
-    """A quadrilateral with corners 1.5 EPS apart, a triangle on three of its corners, and the triangle's mirror image; each with its back. The
-    mirror takes the quadrilateral onto a triangle, one corner twice."""
+    """Makes a quadrilateral with corners 1.5 EPS apart, a triangle on three of its corners, and the triangle's mirror image, each with its back.
+    The mirror takes the quadrilateral onto a triangle, with one corner twice."""
     return Shape([(-1, 1, 0.3), (-1, -1, 0.2), (-1, 0.75 * EPS, 0.5), (-1, -0.75 * EPS, 0.5), (1, 1, 0.3), (1, -1, 0.2), (1, 0, 0.5)],
                  [[[0, 2], [1, 2], [1, 3], [0, 3], [0, 2], [1, 2], [0, 1], [4, 6], [5, 6], [4, 5]],
                   [[0, 1, 2, 3]] * 2 + [[4, 5, 6]] * 2 + [[7, 8, 9]] * 2])
 
 
 def two_bows(first):
-    """Edges 0, 1 and 3 pass the origin at 0.5, 0.02 (or these two the other way round) and 1.04 EPS. The last two share a class exactly when the
-    one at 0.5 is listed before the one at 0.02, and the exchange, of edges 0 and 2, turns that order round."""
+    """Makes a solid whose edges 0, 1 and 3 pass the origin at 0.5, 0.02 (or these two the other way round) and 1.04 EPS. The last two share a class
+    exactly when the one at 0.5 is listed before the one at 0.02, and the exchange, of edges 0 and 2, turns that order round."""
     shape = compound(bow(2.0, 0.5 * EPS, 0.5 * EPS), bow(1.0, 0.02 * EPS, 1.04 * EPS), polygon(4).scaled(4))
     order = [4 * first, 4 - 4 * first, 8, 6]
     order += [e for e in range(12) if e not in order]
@@ -293,7 +294,7 @@ def two_bows(first):
 
 
 def turn(rng, d):
-    """An orthogonal matrix."""
+    """Returns an orthogonal matrix."""
     rows = []
     while len(rows) < d:
         v = [rng.uniform(-1, 1) for _ in range(d)]
@@ -309,7 +310,7 @@ def turn(rng, d):
 # ---- the solids
 
 def plane_solids(rng):
-    """Of rank 2 and 3."""
+    """Makes the solids of rank 2 and 3."""
     for ends in ((-1, 1), (1, -1), (-2, 3), (1, 2), (-1, 1 + 2e-7), (5, -5.00000001), (-1048576, 1048576), (1e-6, -1e-6), (0.1, -0.3)):
         yield dyad(*ends)
     yield from (polygon(n) for n in range(3, 13))
@@ -335,7 +336,7 @@ def plane_solids(rng):
 
 
 def round_solids():
-    """The convex ones of rank 4 by name, for others to be built on."""
+    """Makes the convex solids of rank 4 by name, for others to be built on."""
     half = math.sqrt(2) - 1
     icosahedron = hull(even_orders(signs(0.0, 1.0, GOLDEN)))
     return {
@@ -363,7 +364,7 @@ def disphenoid(a, b, c):
 
 
 def space_solids(rng, named):
-    """Of rank 4."""
+    """Makes the solids of rank 4."""
     yield from named.values()
     cube, tetrahedron, octahedron, icosahedron = (named[k] for k in ("cube", "tetrahedron", "octahedron", "icosahedron"))
     great = great_dodecahedron(icosahedron)
@@ -378,7 +379,7 @@ def space_solids(rng, named):
     yield from (bipyramid(polygon(n), 1.0, -1.0) for n in (3, 5, 6))
     yield bipyramid(polygon(4), 1.0, -2.0)
     yield bipyramid(polygon(7, 2), 1.5, -1.5)
-    # boxes, disphenoids: types that are coarser than the shape
+    # Boxes and disphenoids have types that are coarser than the shape.
     yield cube.scaled(1, 1, 2)
     yield cube.scaled(1, 2, 3)
     yield octahedron.scaled(1, 1, 2)
@@ -387,21 +388,21 @@ def space_solids(rng, named):
     yield disphenoid(1, 1, 1.4).relabelled(rng)
     yield disphenoid(1, 2, 3).turned(turn(rng, 3))
     yield disphenoid(1, 2, 3).scaled(100)
-    # compounds
+    # These are compounds.
     yield compound(tetrahedron, tetrahedron.scaled(-1))
     yield compound(cube, octahedron.scaled(2))
     yield compound(cube, cube.scaled(2))
     yield compound(cube, cube.turned([[math.sqrt(0.5), -math.sqrt(0.5), 0], [math.sqrt(0.5), math.sqrt(0.5), 0], [0, 0, 1]]))
     yield compound(disphenoid(1, 1, 1.4), disphenoid(1, 1, 1.4).scaled(-1))
     yield compound(tetrahedron, tetrahedron.turned(turn(rng, 3)), tetrahedron.turned(turn(rng, 3)))
-    # corners of more symmetry than the edges or the faces on them, beside a cube
+    # The corners have more symmetry than the edges or the faces on them, beside a cube.
     hemi, crossed = tetrahemihexahedron(), ring([(1, 1), (-1, 1), (1, -1), (-1, -1)])
     yield compound(cube.scaled(3), hemi)
     yield compound(cube.scaled(3), prism(crossed))
     yield compound(cube.scaled(3), dihedron(crossed, 0.5))
     yield compound(cube.scaled(3), pleated(cube, 0))
     yield compound(octahedron.scaled(5), cube, tetrahedron.scaled(0.5))
-    # facets through the origin
+    # These have facets through the origin.
     yield from (hemi, hemi.facet_first(3), hemi.renumbered(3, [6, 5, 4, 3, 2, 1, 0]), hemi.relabelled(rng), hemi.relabelled(rng), hemi.scaled(1, 2, 3))
     yield from (p.sunk(0) for p in (cube, tetrahedron, octahedron, named["cuboctahedron"], named["dodecahedron"], antiprism(4, 0.5)))
     yield prism(polygon(5)).sunk(0)
@@ -410,7 +411,7 @@ def space_solids(rng, named):
     yield from (pyramid(polygon(n), 0.0, 1.0).facet_first(n) for n in (3, 4, 6))
     yield compound(hemi, hemi.scaled(-2))
     yield compound(cube.sunk(0), octahedron.scaled(4))
-    # elements on the same vertices
+    # These have elements on the same vertices.
     yield from (pleated(cube, f) for f in (0, 3, 5))
     yield from (pleated(tetrahedron, f) for f in (0, 3))
     yield pleated(prism(polygon(5)), 0)
@@ -420,12 +421,12 @@ def space_solids(rng, named):
     yield pleated(cube, 0).relabelled(rng)
     yield from (dihedron(polygon(n), 0.5) for n in (3, 4, 6))
     yield dihedron(polygon(5, 2), -1.0)
-    # faces that the corners, and the edges among them, don't tell
+    # These have faces that the corners, and the edges among them, do not tell.
     yield from (squares(1.0), squares(-3.0).relabelled(rng))
 
 
 def four_solids(rng, named):
-    """Of rank 5."""
+    """Makes the solids of rank 5."""
     cube, tetrahedron, octahedron, icosahedron = (named[k] for k in ("cube", "tetrahedron", "octahedron", "icosahedron"))
     square, hemi = ring([(1, 1), (-1, 1), (-1, -1), (1, -1)]), tetrahemihexahedron()
     simplex = pyramid(tetrahedron, -1 / math.sqrt(5), 4 / math.sqrt(5))
@@ -446,7 +447,7 @@ def four_solids(rng, named):
     yield compound(sixteen, tesseract)
     yield prism(pleated(cube, 0), 1.0)
     yield dihedron(tetrahedron, 0.5)
-    # facet 0 through the origin
+    # Facet 0 goes through the origin.
     yield from (p.sunk(0) for p in (simplex, sixteen, tesseract, prism(tetrahedron), product(polygon(3), polygon(4))))
     yield tesseract.sunk(3).facet_first(3).turned(turn(rng, 4))
     yield simplex.sunk(2).facet_first(2).relabelled(rng).facet_first(1)
@@ -459,7 +460,7 @@ def four_solids(rng, named):
 
 
 def changed(rng, shapes):
-    """The same solids in other places, sizes and numberings."""
+    """Makes the same solids in other places, sizes and numberings."""
     for p in shapes:
         way = rng.randrange(5)
         if way < 3:
@@ -474,10 +475,10 @@ def changed(rng, shapes):
 # ---- the refusals
 
 def spoilt(named):
-    """Sheets that are refused, or just not, up to 11."""
+    """Makes sheets that are refused, or just not, up to 11."""
     cube, tetrahedron = named["cube"], named["tetrahedron"]
     square, above = polygon(4), math.nextafter(EPS, 1.0)
-    # before 8, and 8: also where 9 or 10 would come
+    # Refusals before 8 come, and 8, also where 9 or 10 would come.
     whole = cube.sheet()
     yield from (b"", whole[:-1], whole + b"\0", bytes([0xE0]), pack(2, 1, [[2e6], [1.0]], []))
     yield pack(3, 2, square.points, [[[0, 1], [1, 2], [2, 3], [3, 0]]])
@@ -493,7 +494,7 @@ def spoilt(named):
     yield pack(4, 4, [p + [0.5] for p in cube.points], cube.lists)
     yield pack(4, 0, [[]] * 8, cube.lists)
     yield pack(5, 3, [p[:3] for p in prism(tetrahedron).points], prism(tetrahedron).lists)
-    # 9, also before 10 and 11
+    # Refusal 9 comes, also before 10 and 11.
     yield from (compound(p, p).sheet() for p in (square, cube, prism(tetrahedron)))
     yield from (dyad(*ends).sheet() for ends in ((1, 1), (0, EPS), (0, above), (1, 1 + 5e-8), (0, 0)))
     for gap in (EPS, above):
@@ -501,7 +502,7 @@ def spoilt(named):
         yield ring([(0, 1), (1, -1), (gap, 1 + gap / 2), (-1, -1)]).sheet()
         yield compound(square, square.shifted((0.0, gap))).sheet()
         yield compound(tetrahedron, tetrahedron.shifted((gap / 2, 0.0, -gap))).sheet()
-    # 10, also before 11, and just not
+    # Refusal 10 comes, also before 11, and just does not.
     yield from (dyad(*ends).sheet() for ends in ((-EPS, EPS), (-above, EPS), (-0.6e-7, 0.6e-7)))
     yield ring([(1, 0), (-1, 0)]).sheet()
     yield ring([(1, 2), (-1, -2), (2, 4), (-2, -4)]).sheet()
@@ -510,7 +511,7 @@ def spoilt(named):
     yield dihedron(polygon(5), 2 * EPS).sheet()
     yield dihedron(tetrahedron, 0.0).sheet()
     yield from (prism(polygon(4)).scaled(1, 1, flat).sheet() for flat in (4e-8, 0.6e-7))
-    # 11: at the origin, collinear corners, a digon first, and an inverse past all floats
+    # Refusal 11 comes for a corner at the origin, collinear corners, a digon first, and an inverse past all floats.
     yield from (dyad(*ends).sheet() for ends in ((0, 1), (-0.0, 2), (1e-310, 1), (-3e-309, 1), (5e-324, -1), (6e-309, 1)))
     for x in (0.0, 1e-310, -1e-309, 6e-309, 1e-300):
         yield dihedron(ring([(0, 0), (1, 0), (2, x), (1, 3)]), 1.0).sheet()
@@ -521,7 +522,7 @@ def spoilt(named):
 
 
 def unclean(named):
-    """Near corners and near distances, where the model alone answers."""
+    """Makes solids with near corners and near distances, where the model alone answers."""
     yield compound(named["cube"].scaled(3), thin()).sheet()
     yield ring([(-9e-8, 1), (9e-8, 0), (1, 0)]).sheet()
     yield ring([(0, 1), (1, 0), (8e-8, -1), (-1, 0)]).sheet()
@@ -529,27 +530,27 @@ def unclean(named):
     yield dyad(1 + 0.9e-7, -1).sheet()
     yield ring([(1048576, 0), (1048576, 1e-308), (0, 1)]).sheet()
     yield polygon(21).sheet()
-    # distances that differ by just EPS, and one that is near two listed ones: the marks tell
+    # Distances differ by just EPS, and one is near two listed ones, which the marks tell.
     yield compound(polygon(4), ring([(5, 0), (0, EPS), (-5, 0), (0, -2 * EPS)])).sheet()
     yield compound(polygon(4), ring([(0, 2 * EPS), (3.6 * EPS, 0), (0, -2.8 * EPS), (-3.6 * EPS, 0)])).sheet()
-    # a corner just EPS off the line of the others; edges nearer than EPS whose listed distance is further
+    # A corner is just EPS off the line of the others, and edges nearer than EPS have a listed distance that is further.
     yield dihedron(ring([(2 * EPS, 0), (2 * EPS, 1), (EPS, 0.5)]), 0.0).sheet()
     yield polygon(3).scaled(1.5 * EPS).sheet()
-    # the mirror takes both triangles to the first: all elements go well, but the row repeats vertices
+    # The mirror takes both triangles to the first: all elements go well, but the row repeats vertices.
     folding = compound(polygon(4).scaled(3), polygon(3).shifted((0, -0.3 * EPS)), polygon(3).shifted((0, 0.8 * EPS)))
     yield from (p.sheet() for p in (folding, folding.scaled(1, -1)))
     yield compound(polygon(4).scaled(3), polygon(4).shifted((0, -0.3 * EPS)), polygon(4).shifted((0, 0.8 * EPS))).sheet()
-    # the order in which facets' distances are listed
+    # The order in which facets' distances are listed decides.
     yield from (two_bows(first).sheet() for first in (0, 1))
-    # members that shrink what parts the two: their rows repeat vertices
+    # Members shrink what parts the two, and their rows repeat vertices.
     for abc, apart in (((1, 1, 1.4), (0, 0, 1.2e-7)), ((1, 1, 0.5), (0, 1.2e-7, 0))):
         yield compound(disphenoid(*abc), disphenoid(*abc).shifted(apart)).sheet()
 
 
 def slivers(rng):
-    """Polygons so far from the origin that the first columns are nearly parallel and images are off by about EPS: of each kind some that no
-    flag passes, not even the first, some with the identity alone, and some with the mirror alone, thus with no rotation."""
-    # how many by rank, members and rotations
+    """Makes polygons so far from the origin that the first columns are nearly parallel and images are off by about EPS: of each kind some that
+    no flag passes, not even the first, some with the identity alone, and some with the mirror alone, thus with no rotation."""
+    # This says how many there are by rank, members and rotations.
     wanted = {(3, 0, 0): 8, (3, 1, 1): 5, (3, 1, 0): 6, (4, 0, 0): 5, (4, 2, 2): 2}
     while any(wanted.values()):
         far = 10.0 ** rng.uniform(2, 5)
@@ -566,7 +567,7 @@ def slivers(rng):
 
 
 def short_lengths(need):
-    """Outputs one short, empty, just enough, one member's worth; all beside enough in the others."""
+    """Lists outputs that are one short, empty, just enough, or one member's worth, all beside enough in the others."""
     m, r, k, n = *need, max(need[2], 1)
     yield from ((m, r, k), (m - 1, r, k), (m, r - 1, k), (m, r, k - 1), (0, r, k), (m, 0, k), (m, r, 0), (0, 0, 0))
     yield from ((m // n, r + 9, k + 9), (m // n - 1, r, k), (m + 9, r // n - 1, k + 9), (m, r // n, k), (m // 2, r, k), (m, r // 2 + 1, k))
@@ -590,7 +591,7 @@ class Oracle:
         self.program, self.asked = program, 0
 
     def members(self, sheet, call):
-        """Pairs of patterns and row, or the line that says why there are none."""
+        """Returns pairs of patterns and row, or the line that says why there are none."""
         out = subprocess.run([self.program, call], input=sheet, capture_output=True, check=True).stdout.decode().splitlines()
         self.asked += 1
         found = [l.removeprefix("member ").split(" | row ") for l in out if l.startswith("member ")]
@@ -598,8 +599,8 @@ class Oracle:
 
     @functools.cache
     def searched(self, sheet, solid):
-        """The model's answer, held against the Rust's where the solid is clean and document 01 does not refuse what the Rust takes: two vertices
-        in one place (9), and columns whose inverse is not finite (11)."""
+        """Returns the model's answer, held against the Rust's where the solid is clean and document 01 does not refuse what the Rust takes, which
+        it does with two vertices in one place (9), and columns whose inverse is not finite (11)."""
         found = Searched(solid)
         if not clean(solid) or found.refusal == 9 or found.refusal == 11 and first_inverse(exchanged(solid)) is not None:
             return found
@@ -612,8 +613,8 @@ class Oracle:
 
 
 def sheets(rng):
-    """Each with how it is to be lent outputs: as much as the answer takes and a few cells ("ample"); also just as much, and answered whole where
-    members are few ("whole"); or also in all the short ways ("short")."""
+    """Lists each sheet with how it is to be lent outputs: as much as the answer takes and a few cells ("ample"); also just as much, and
+    answered whole where members are few ("whole"); or also in all the short ways ("short")."""
     named = round_solids()
     plain = list(plane_solids(rng)) + list(space_solids(rng, named)) + list(four_solids(rng, named))
     small = [p for p in plain if p.rank < 5 or len(p.points) < 20]
@@ -633,7 +634,7 @@ def sheets(rng):
 
 
 def bench(sheet):
-    """The least workspace of a sheet that can be read, else some."""
+    """Returns the least workspace of a sheet that can be read, or else some workspace."""
     words, floats = 64, 64
     if judge(sheet) == 0 or judge(sheet) in (5, 6):
         solid = unpack(sheet)[2]
@@ -645,7 +646,7 @@ def bench(sheet):
 
 
 def records(rust, rng):
-    """Each a call's number, 2 more where it is to be answered whole; the sheet, and the lengths of what is lent."""
+    """Lists the calls, each as its number, with 2 more where it is to be answered whole, the sheet, and the lengths of what is lent."""
     ample = [1 << 30] * 3
 
     def needed(sheet, rotations):
@@ -667,7 +668,7 @@ def records(rust, rng):
 
 
 def lines(number, count, outputs):
-    """The answer whole: the outputs are just filled."""
+    """Gives the lines of an answer that is stored whole, where the outputs are just filled."""
     yield f"{number:05} {count:05}"
     for out, form, of in zip(outputs, ("016x", "05", "05"), (count, count, 1)):
         to_a_line = len(out) // of

@@ -31,7 +31,7 @@ class Refused(Exception):
 
 
 def judge(data, words=WORDS, floats=FLOATS):
-    """The refusal's number, or 0. The fields are judged as they come, then the end, 7, 5 and 6."""
+    """Returns the refusal's number, or 0. The fields are judged as they come, then the end, 7, 5 and 6."""
     bits = "".join(f"{b:08b}" for b in data)
     at = 0
 
@@ -165,7 +165,7 @@ def made():
 
 
 def cells():
-    """The boundary of the 4-simplex, R = 5, and its variants with an element in no list and with one sub more or less, at each rank."""
+    """Makes the boundary of the 4-simplex, R = 5, and its variants with an element in no list and with one sub more or less, at each rank."""
     of = [list(itertools.combinations(range(5), k)) for k in range(1, 5)]
     lists = [[[at.index(s) for s in itertools.combinations(e, len(e) - 1)] for e in up] for at, up in zip(of, of[1:])]
     lists = [[sorted(l) for l in ls] for ls in lists]
@@ -177,7 +177,7 @@ def cells():
         more = lists[:r] + [[sorted({*lists[r][0], lists[r][-1][-1]})] + lists[r][1:]] + lists[r + 1:]
         yield from (pack(5, 0, [()] * 5, ls) for ls in (spare, less, more))
     yield pack(5, 0, [()] * 5, lists[:2] + [lists[2][:-1]])
-    # Two triangles on the same edges, both of which are in each of n facets.
+    # There are two triangles on the same edges, both of which are in each of n facets.
     for n in (1, 2, 3):
         yield pack(5, 0, [()] * 3, [[[0, 1], [1, 2], [0, 2]], [[0, 1, 2]] * 2, [[0, 1]] * n])
 

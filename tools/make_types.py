@@ -35,7 +35,7 @@ EPS = 1e-7
 
 
 class Solid:
-    """A solid by its vertices' coordinates and, for each rank from 2 on, each element's subs."""
+    """Holds a solid by its vertices' coordinates and, for each rank from 2 on, each element's subs."""
 
     def __init__(self, points, lists, rank=None):
         self.points = [[float(x) for x in p] for p in points]
@@ -52,7 +52,7 @@ class Solid:
         return range(1, self.rank)
 
     def size(self):
-        """How many proper elements and how many stored entries there are."""
+        """Counts the proper elements and the stored entries."""
         return sum(self.count(r) for r in self.proper()), sum(len(l) for ls in self.lists for l in ls)
 
     def pack(self):
@@ -62,7 +62,7 @@ class Solid:
 # ---- the model
 
 def dot(a, b):
-    """The dot product, which starts with the first product and adds the others by rising index."""
+    """Returns the dot product, which starts with the first product and adds the others by rising index."""
     total = a[0] * b[0] if a else 0.0
     for x, y in zip(a[1:], b[1:]):
         total += x * y
@@ -74,7 +74,7 @@ def minus(a, b):
 
 
 def distance(points):
-    """The distance from the origin to the hull of these points."""
+    """Returns the distance from the origin to the hull of these points."""
     offset, basis = points[0], []
 
     def project(p):
@@ -97,7 +97,7 @@ def distance(points):
 
 
 def classes(s):
-    """The distance class of each proper element by rank, and whether the solid is clean."""
+    """Returns the distance class of each proper element by rank, and whether the solid is clean."""
     listed, distances, all_classes, below = [], [], {}, {}
     for r in s.proper():
         below[r] = [{i} if r == 1 else set().union(*(below[r - 1][e] for e in s.subs(r, i))) for i in range(s.count(r))]
@@ -113,13 +113,13 @@ def classes(s):
 
 
 def numbered(keys):
-    """Numbers from 0 by first appearance."""
+    """Numbers things from 0 by first appearance."""
     met = {}
     return [met.setdefault(k, len(met)) for k in keys]
 
 
 def types(s, by_rank):
-    """The types of each rank when the sweeps end."""
+    """Returns the types of each rank when the sweeps end."""
     state = {0: [0], s.rank: [0]}
     state.update({r: numbered(by_rank[r]) for r in s.proper()})
     sups = {r: [[] for _ in range(s.count(r))] for r in range(s.rank)}
@@ -147,7 +147,7 @@ def types(s, by_rank):
 
 
 def given(s, rust):
-    """The types of the elements and the table's cells."""
+    """Returns the types of the elements and the table's cells."""
     by_rank, clean = classes(s)
     state = types(s, by_rank)
     of = [t for r in s.proper() for t in state[r]]
@@ -174,7 +174,7 @@ def dyad(a, b):
 
 
 def polygon(n, radii=None, step=1):
-    """The polygon whose vertices lie at these distances, each `step` of the n parts of a full turn further than the one before."""
+    """Makes the polygon whose vertices lie at these distances, each `step` of the n parts of a full turn further than the one before."""
     radii = radii or [1.0] * n
     angles = [2 * math.pi * k * step / n for k in range(n)]
     return Solid([[r * math.cos(a), r * math.sin(a)] for r, a in zip(radii, angles)], [[[k, (k + 1) % n] for k in range(n)]])
@@ -197,7 +197,7 @@ def product(p, q):
 
 
 def cones(p, below, base, apexes):
-    """The elements below rank `below`, and the cone from each apex over every element."""
+    """Takes the elements below rank `below`, and the cone from each apex over every element."""
     def kept(r):
         return p.count(r) if r < below else 0
 
@@ -219,7 +219,7 @@ def bipyramid(p, up, down):
 
 
 def independent(vectors):
-    """How many of the vectors are linearly independent, by elimination."""
+    """Counts by elimination how many of the vectors are linearly independent."""
     rows, found = [list(v) for v in vectors], 0
     for c in range(len(rows[0]) if rows else 0):
         best = max(range(found, len(rows)), key=lambda k: abs(rows[k][c]), default=None)
@@ -234,7 +234,7 @@ def independent(vectors):
 
 
 def normal(vectors):
-    """A vector that is normal to d - 1 vectors of d coordinates, which is made of their minors with signs."""
+    """Returns a vector that is normal to d - 1 vectors of d coordinates, which is made of their minors with signs."""
     def minor(rows):
         return sum((-1) ** k * rows[0][k] * minor([r[:k] + r[k + 1:] for r in rows[1:]]) for k in range(len(rows))) if rows else 1.0
 
@@ -243,7 +243,7 @@ def normal(vectors):
 
 
 def hull(points):
-    """The convex hull of points that are all its vertices."""
+    """Makes the convex hull of points that are all its vertices."""
     points = [[float(x) for x in p] for p in points]
     d = len(points[0])
     facets = []
@@ -295,7 +295,7 @@ def scaled(s, by):
 
 
 def turned(s, rng):
-    """The solid turned by a random orthogonal matrix."""
+    """Returns the solid turned by a random orthogonal matrix."""
     d, rows = len(s.points[0]), []
     while len(rows) < d:
         v = [rng.gauss(0, 1) for _ in range(d)]
@@ -311,7 +311,7 @@ def shaken(s, rng, by):
 
 
 def relabelled(s, rng):
-    """The solid with the elements of each rank in another order."""
+    """Returns the solid with the elements of each rank in another order."""
     places = [list(range(s.count(r))) for r in s.proper()]
     for p in places:
         rng.shuffle(p)
@@ -324,7 +324,7 @@ def relabelled(s, rng):
 
 
 def plain():
-    """Solids in the position and order that they are made in."""
+    """Makes solids in the position and order that they are made in."""
     golden = (1 + math.sqrt(5)) / 2
     for a, b in ((-1, 1), (0, 1), (-EPS, EPS), (0, EPS), (0.25, 2)):
         yield dyad(a, b)
@@ -377,7 +377,7 @@ def plain():
 
 
 def unclean():
-    """Solids that are not clean, because a distance lies between two listed values that are both near to it."""
+    """Makes solids that are not clean, because a distance lies between two listed values that are both near to it."""
     for points in ((0, 1.2e-7, 0.6e-7), (0, 0.6e-7, 1.2e-7)):
         yield Solid([[x] for x in points], polygon(3).lists)
     for s in (polygon(30), product(polygon(12), dyad(-1, 1)), antiprism(10, 0.5)):
@@ -385,7 +385,7 @@ def unclean():
 
 
 def improper():
-    """Solids of rank 0 and of rank 1."""
+    """Makes solids of rank 0 and of rank 1."""
     yield Solid([], [], 0)
     yield Solid([[]], [], 1)
     yield Solid([[1, 2]], [], 1)

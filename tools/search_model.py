@@ -1,5 +1,5 @@
-"""Search and rotations as document 01 says them, sections 1 to 6 and the table: written from its sentences alone, in another language and
-another shape than the program. tools/make_searches.py answers by it. It also has section 6's "Clean", for solids and for copyings.
+"""This models search and rotations as document 01 says them, in sections 1 to 6 and the table. It is written from its sentences alone, in another
+language and another shape than the program. tools/make_searches.py answers by it. It also has section 6's "Clean", for solids and for copyings.
 
 A slip is a clause left out or changed, and makes another search: make_searches.py asks whether its stored calls tell each from the right one."""
 import functools
@@ -22,7 +22,7 @@ SLIPS = {
 
 
 class Solid:
-    """Lists of subs for ranks 0 to R, the least and the top among them."""
+    """Holds lists of subs for ranks 0 to R, the least and the top among them."""
 
     def __init__(self, points, subs):
         self.points, self.subs = points, subs
@@ -37,7 +37,7 @@ class Solid:
         return range(1, self.rank)
 
     def exchanged(self, facet):
-        """That facet changes places with facet 0; for R = 2 coordinates don't move, and vertices' lists are alike."""
+        """Lets that facet change places with facet 0. For R = 2 coordinates don't move, and vertices' lists are alike."""
         subs = [list(l) for l in self.subs]
         facets = subs[self.rank - 1]
         facets[0], facets[facet] = facets[facet], facets[0]
@@ -46,7 +46,7 @@ class Solid:
 
 @functools.cache
 def unpack(sheet):
-    """Rank, dimension and the solid (None where R < 2) of a sheet that passed preflight."""
+    """Returns rank, dimension and the solid (None where R < 2) of a sheet that passed preflight."""
     bits, at = "".join(f"{b:08b}" for b in sheet), 0
 
     def read(width):
@@ -67,7 +67,7 @@ def unpack(sheet):
 # ---- section 1
 
 def dot(a, b):
-    """Not by Python's sum, which does not round each sum."""
+    """Adds one by one, and not by Python's sum, which does not round each sum."""
     products = [x * y for x, y in zip(a, b)]
     return functools.reduce(operator.add, products) if products else 0.0
 
@@ -85,12 +85,12 @@ def image(matrix, p):
 
 
 def multiplied_by(a, b):
-    """The product of two matrices."""
+    """Returns the product of two matrices."""
     return [[dot(row, c) for c in zip(*b)] for row in a]
 
 
 def eliminated(matrix):
-    """The pivots, whether swaps were odd, and the inverse; the last is None where a pivot is 0."""
+    """Returns the pivots, whether swaps were odd, and the inverse. The last is None where a pivot is 0."""
     d = len(matrix)
     rows = [list(r) + [float(i == j) for j in range(d)] for i, r in enumerate(matrix)]
     pivots, odd = [], False
@@ -125,7 +125,7 @@ def determinant(matrix):
 # ---- sections 3 and 4
 
 def distance(points, dimension):
-    """From the origin to the hull of the points."""
+    """Returns the distance from the origin to the hull of the points."""
     offset, basis = points[0], []
 
     def project(p):
@@ -153,7 +153,7 @@ def distances(solid):
 
 @functools.cache
 def classes(solid):
-    """Each proper element's listed distance, by rank from 1, and the list."""
+    """Returns each proper element's listed distance, by rank from 1, and the list."""
     listed, all_classes = [], []
     for of_rank in distances(solid):
         all_classes.append([])
@@ -166,7 +166,7 @@ def classes(solid):
 
 
 def numbered(keys):
-    """Numbers from 0 by first appearance."""
+    """Numbers things from 0 by first appearance."""
     seen = {}
     return [seen.setdefault(k, len(seen)) for k in keys]
 
@@ -193,7 +193,7 @@ def types(solid):
 # ---- sections 5 and 6
 
 def flags(solid):
-    """Elements of ranks 0 to R, the vertex moving fastest."""
+    """Lists the flags as elements of ranks 0 to R, the vertex moving fastest."""
     def down(r, above):
         if r == 0:
             yield [0] + above
@@ -222,7 +222,8 @@ def find(points, q):
 
 
 class Setting:
-    """What stands when a search begins: the solid with its facets exchanged, its types, its first flag, and the inverse of that flag's columns."""
+    """Holds what stands when a search begins: the solid with its facets exchanged, its types, its first flag, and the inverse of that flag's
+    columns."""
 
     def __init__(self, searched, inverse):
         self.searched, self.types, self.first, self.inverse = searched, types(searched), next(flags(searched)), inverse
@@ -232,24 +233,24 @@ class Setting:
 
     @functools.cached_property
     def candidates(self):
-        """The matrices of the flags whose elements have the first flag's types, in flag order, members or not."""
+        """Lists the matrices of the flags whose elements have the first flag's types, in flag order, members or not."""
         return [multiplied_by(columns(self.searched, flag), self.inverse) for flag in flags(self.searched) if self.same_types(flag)]
 
 
 def exchanged(solid):
-    """The solid with its first facet further than EPS from the origin in the place of facet 0; None where no facet is."""
+    """Returns the solid with its first facet further than EPS from the origin in the place of facet 0, or None where no facet is."""
     far = [f for f, d in enumerate(distances(solid)[-1]) if d > EPS]
     return solid.exchanged(far[0]) if far else None
 
 
 def first_inverse(solid):
-    """The inverse of the first flag's columns; None where they are singular."""
+    """Returns the inverse of the first flag's columns, or None where they are singular."""
     return eliminated(columns(solid, next(flags(solid))))[2]
 
 
 @functools.cache
 def setting(solid):
-    """The number of the refusal (8 to 11), or the Setting."""
+    """Returns the number of the refusal (8 to 11), or the Setting."""
     if solid.dimension != solid.rank - 1:
         return 8
     if any(find(solid.points[:k], p) is not None for k, p in enumerate(solid.points)):
@@ -264,7 +265,7 @@ def setting(solid):
 
 
 class Searched:
-    """The refusal's number, or 0; the members' matrices and rows; and the solid of the marks."""
+    """Holds the refusal's number, or 0; the members' matrices and rows; and the solid of the marks."""
 
     def __init__(self, solid, slip=None):
         self.solid, self.slip, self.marked = solid, slip, solid
@@ -288,14 +289,14 @@ class Searched:
 # ---- section 6, "Clean": the definitions of crates/spec/specs/Clean.antt, under the same names
 
 def within_eps(x, y):
-    """"differ by at most EPS": the rounded difference, EPS included."""
+    """Tells whether two values "differ by at most EPS", by the rounded difference, EPS included."""
     return abs(x - y) <= EPS
 
 
 def transitive(values):
-    """".. is transitive among" the values. Rounding keeps the order of differences, so that values in rising order fall into runs, each value
-    within EPS of the one before it, and the test is transitive exactly when the first and the last value of each run differ by at most EPS.
-    The values have to be finite."""
+    """Tells whether that "is transitive among" the values. Rounding keeps the order of differences, so that values in rising order fall into runs,
+    each value within EPS of the one before it, and the test is transitive exactly when the first and the last value of each run differ by at most
+    EPS. The values have to be finite."""
     start = before = None
     for x in sorted(values):
         if before is None or not within_eps(x, before):
@@ -315,7 +316,7 @@ def all_finite(points):
 
 
 def clean_points(dimension, points, images):
-    """".. among coordinates and images on each axis, images are finite"."""
+    """Tells whether it is so "among coordinates and images on each axis, images are finite"."""
     return all_finite(images) and all(transitive(on_axis(points + images, k)) for k in range(dimension))
 
 
@@ -324,7 +325,7 @@ def images(matrices, points):
 
 
 def listed_by(taken):
-    """What is listed when each distance has been taken or has joined."""
+    """Returns what is listed when each distance has been taken or has joined."""
     listed = []
     for d in taken:
         if not any(abs(l - d) < EPS for l in listed):
@@ -333,19 +334,19 @@ def listed_by(taken):
 
 
 def clean_distances(taken):
-    """"no distance is ever nearer than EPS to two listed values": strictly nearer, and to two of the whole list."""
+    """Tells whether "no distance is ever nearer than EPS to two listed values", strictly nearer, and to two of the whole list."""
     listed = listed_by(taken)
     return all(sum(abs(l - d) < EPS for l in listed) < 2 for d in taken)
 
 
 def all_distances(solid):
-    """The distances of all proper elements, "by rising rank, then index"."""
+    """Lists the distances of all proper elements, "by rising rank, then index"."""
     return [d for of_rank in distances(solid) for d in of_rank]
 
 
 @functools.cache
 def clean(solid):
-    """Whether a solid of rank 2 or more is clean. The distances are asked as it was read and, in a search, once more with its facets exchanged;
+    """Tells whether a solid of rank 2 or more is clean. The distances are asked as it was read and, in a search, once more with its facets exchanged;
     the images are those of every vertex under every candidate. A search that is refused before it makes a candidate has neither images nor a
     second list."""
     if not clean_distances(all_distances(solid)):
@@ -358,7 +359,7 @@ def clean(solid):
 
 
 def copying(matrices, points):
-    """The copies, and the points that copying multiplies: those "not found among the copies"."""
+    """Returns the copies, and the points that copying multiplies: those "not found among the copies"."""
     copies, multiplied = [], []
     for p in points:
         if find(copies, p) is None:
@@ -370,7 +371,7 @@ def copying(matrices, points):
 
 
 def clean_copying(dimension, points, matrices):
-    """Whether a copying is clean: "In copying, the first two are meant of points, copies and images". The images are those of the points that
+    """Tells whether a copying is clean: "In copying, the first two are meant of points, copies and images". The images are those of the points that
     are multiplied, and those of the copies."""
     copies, multiplied = copying(matrices, points)
     return clean_points(dimension, points + copies, images(matrices, multiplied + copies))
@@ -381,7 +382,7 @@ def polygon(edges, points):
 
 
 def ring(*points):
-    """The polygon through these points in turn."""
+    """Makes the polygon through these points in turn."""
     n = len(points)
     return polygon([sorted((k, (k + 1) % n)) for k in range(n)], points)
 
@@ -399,18 +400,18 @@ def check_clean():
         assert transitive(xs) == by_triples(xs), xs
     for solid in (
         ring((1, 1), (-1, 1), (-1, -1), (1, -1)), ring((-1, 0), (1, 0), (0, 1)), dyad(-1, 1), dyad(-1, 1.00000009), dyad(5e-8, -1.2e-7),
-        # refused 9 to 11: document 01 refuses what the Rust takes, and that alone is the difference
+        # They are refused 9 to 11: document 01 refuses what the Rust takes, and that alone is the difference.
         dyad(0, 1e-7), dyad(-1e-7, 1e-7), dyad(1e-310, 1), dyad(1, 1),
     ):
         assert clean(solid), solid.points
     for solid in (
-        # distances near two listed values; the second and the last are so only when the list is whole
+        # Distances are near two listed values. The second and the last are so only when the list is whole.
         ring((0,), (1.2e-7,), (0.6e-7,)), ring((0,), (0.6e-7,), (1.2e-7,)), ring((0,), (1e-7,), (0.5e-7,)),
         ring((1, 0), (-0.50000003, 0.86602546), (-0.50000006, -0.86602551)),
-        # images near two vertices, the last under a candidate that is no member
+        # Images are near two vertices, the last under a candidate that is no member.
         dyad(1.1e-7, -0.5e-7), ring((-9e-8, 1), (9e-8, 0), (1, 0)), ring((0, 1), (1, 0), (8e-8, -1), (-1, 0)),
         ring((-1, -1), (1, -1), (4.5e-8, 1), (-6e-8, 1)),
-        # a distance near two values of the exchanged solid's list
+        # A distance is near two values of the exchanged solid's list.
         polygon([[0, 1], [2, 3], [4, 5], [1, 2], [3, 4], [0, 5]],
                 [(1, 9e-8), (-1, 9e-8), (2e-8, 1), (2e-8, -1), (2.00000013, 1.99999987), (-1.99999987, -2.00000013)]),
     ):
@@ -425,7 +426,7 @@ def check_clean():
 
 
 def mark(solid, row, slip=None):
-    """In the solid as read."""
+    """Returns the mark of a row in the solid as read."""
     of_class = classes(solid)[0]
     for r in solid.proper():
         if slip != "twins" and len({tuple(vs) for vs in solid.vertices[r]}) < len(solid.vertices[r]):
@@ -449,7 +450,7 @@ def mark(solid, row, slip=None):
 
 
 def answer(sheet, words, floats, lengths, rotations, searched):
-    """The refusal's number or 0, the count, and what the three outputs hold from the start on; `searched` gives the Searched of a sheet."""
+    """Returns the refusal's number or 0, the count, and what the three outputs hold from the start on; `searched` gives the Searched of a sheet."""
     number = judge(sheet, words, floats)
     if number:
         return number, 0, [], [], []

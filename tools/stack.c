@@ -61,7 +61,7 @@ struct measure {
     long most, answered;
 };
 
-/* The call's depth, into the greatest so far. */
+/* Puts the call's depth into the greatest so far. */
 static void take(struct measure *m) {
     long d = depth(m->call);
     if (d > m->most) m->most = d;
@@ -76,7 +76,7 @@ static int load(const char *path) {
     return 1;
 }
 
-/* 2,048 points of four dimensions under the identity; then 42 points of three under the 48 signed orders of the axes. */
+/* Copies 2,048 points of four dimensions under the identity, and then 42 points of three under the 48 signed orders of the axes. */
 static void copyings(struct measure *m) {
     static const int order[6][3] = {{0, 1, 2}, {0, 2, 1}, {1, 0, 2}, {1, 2, 0}, {2, 0, 1}, {2, 1, 0}};
     dimension = 4, points_length = 4 * 2048, turns_length = 16;

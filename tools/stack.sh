@@ -1,6 +1,6 @@
 #!/bin/sh
 # stack.sh prints how many bytes of stack each call of the static library takes, on the samples and on the largest sheets. tools/stack.c says how it is
-# measured. Needs rt, cc and python3.
+# measured. It needs rt, cc and python3.
 set -e
 cd "$(dirname "$0")/.."
 work=target/stack

@@ -1,4 +1,5 @@
-// Section 6 of document 01: a flag's columns and its candidate, and the parts of the test that a candidate has to pass (conc/symmetry.rs).
+// This crate has, of section 6 of document 01, a flag's columns and its candidate, and the parts of the test that a candidate has to pass
+// (conc/symmetry.rs).
 ghost use mathlib.Core.Path.{_≡_};
 ghost use mathlib.Core.Bool.{true};
 ghost use Prim.Native.Nat.{_+_, _*_, _≤_};
@@ -30,14 +31,14 @@ use lookup::found;
 use ranked::Shape;
 use ranked::lists;
 
-// Whether a float is neither an infinity nor a NaN.
+// Tells whether a float is neither an infinity nor a NaN.
 fn is_finite(x: f64) -> bool
     ensures { λ r. ⌜ r ≡ finite x ⌝ }
 {
     tolerance::magnitude(x) < 1.0 / 0.0
 }
 
-// Whether the first d entries are finite.
+// Tells whether the first d entries are finite.
 fn row_finite(v: [f64; DIMENSION], d: usize) -> bool
     requires { ⌜ d ≤ maxDimension ⌝ }
     ensures { λ r. ⌜ r ≡ every finite (take d v) ⌝ }
@@ -53,7 +54,7 @@ fn row_finite(v: [f64; DIMENSION], d: usize) -> bool
     true
 }
 
-// Whether every entry is finite. Refusal 11 asks this of the inverse.
+// Tells whether every entry is finite. Refusal 11 asks this of the inverse.
 pub fn all_finite(m: [[f64; DIMENSION]; DIMENSION], d: usize) -> bool
     requires { ⌜ d ≤ maxDimension ⌝ }
     ensures { λ r. ⌜ r ≡ allFinite (corner d m) ⌝ }
@@ -69,7 +70,7 @@ pub fn all_finite(m: [[f64; DIMENSION]; DIMENSION], d: usize) -> bool
     true
 }
 
-// Whether no vertex is within EPS of a later one on every axis. Refusal 9 asks this of the vertices.
+// Tells whether no vertex is within EPS of a later one on every axis. Refusal 9 asks this of the vertices.
 pub fn no_double(points: &[f64], d: usize, n: usize) -> bool
     requires { ⌜ (d ≤ maxDimension) × (n * d ≤ length (now points)) ⌝ }
     ensures { λ r. ⌜ r ≡ noRepeats near (parts n d (now (points .entry))) ⌝ }
@@ -88,7 +89,7 @@ pub fn no_double(points: &[f64], d: usize, n: usize) -> bool
     true
 }
 
-// Whether "its elements have the first flag's types". The type of element e of rank r stands at word low + starts[r] + e.
+// Tells whether "its elements have the first flag's types". The type of element e of rank r stands at word low + starts[r] + e.
 pub fn same_types(words: &[u32], low: usize, sh: Shape, flag: Flag, first: Flag) -> bool
     requires { ⌜ Held sh (take low (now words)) ⌝ }
     requires { ⌜ low + total sh ≤ length (now words) ⌝ }
@@ -139,7 +140,7 @@ pub fn row_of(
     true
 }
 
-// The flag after one round: "change ranks 1 to R−1 in turn".
+// Returns the flag after one round: "change ranks 1 to R−1 in turn".
 fn turned(w: &[u32], sh: Shape, flag: Flag) -> Flag
     requires { ⌜ Held sh (now w) ⌝ }
     requires { ⌜ diamond (absIn sh (now w)) ≡ true ⌝ }

@@ -9,7 +9,7 @@ use copying::axes;
 use float::bits;
 use spec::Answer;
 
-// The greatest number of floats of points, of turns and of copies, and of cells of a table, that a record may ask for.
+// These are the greatest numbers of floats of points, of turns and of copies, and of cells of a table, that a record may ask for.
 const POINTS: usize = 4096;
 
 const TURNS: usize = 4096;
@@ -18,7 +18,7 @@ const COPIES: usize = 8192;
 
 const CELLS: usize = 32768;
 
-// The number that stands for the end of the input. No record may ask for so much.
+// This is the number that stands for the end of the input. No record may ask for so much.
 const END: u64 = 0xffff_ffff_ffff_fffe;
 
 fn wide(x: u8) -> u64
@@ -33,7 +33,7 @@ fn half(a: u8, b: u8, c: u8, d: u8) -> u64
     wide(a) * 0x100_0000 + wide(b) * 0x1_0000 + wide(c) * 0x100 + wide(d)
 }
 
-// The next number of the input, or END.
+// Returns the next number of the input, or END.
 fn next() -> u64 {
     let mut b = [0u8; 8];
     let got = io::read_full(0, &mut b);
@@ -134,7 +134,7 @@ fn replay(
     write_answer(answer) && write_floats(copies) && write_cells(table)
 }
 
-// A length that the input asks for, or one above the limit where it asks for more than that.
+// Returns a length that the input asks for, or one above the limit where it asks for more than that.
 fn next_length(limit: usize) -> usize
     requires { ⌜ limit < 2 ^ 32 ⌝ }
 {

@@ -1,5 +1,5 @@
-// The trials of copying that section "Trial solids" of document 01 marks P, as calls of the library: "under the 48, (1,0,0) has 6 copies, (1,1,1)
-// 8, (1,2,3) 48. A quarter turn alone on (1,0): 14." What the paper says of the table is said here of the table that the library hands out.
+// These are the trials of copying that section "Trial solids" of document 01 marks P, as calls of the library: "under the 48, (1,0,0) has 6 copies,
+// (1,1,1) 8, (1,2,3) 48. A quarter turn alone on (1,0): 14." What the paper says of the table is said here of the table that the library hands out.
 // Each case lends its two outputs, whatever they hold. It promises that the answer and both outputs are those of the call, and what the answer is.
 ghost use mathlib.Core.Path.{_≡_};
 ghost use mathlib.Core.List.{[], _∷_, map};
@@ -16,14 +16,14 @@ use copying::axes;
 use float::DIMENSION;
 use spec::Answer;
 
-// The table. Each entry is made by the rule, and every product of two entries is an entry.
+// Returns the table. Each entry is made by the rule, and every product of two entries is an entry.
 pub fn axis_orders() -> [[[f64; DIMENSION]; DIMENSION]; 48]
     ensures { λ r. ⌜ AxisOrderTable (map (corner 3) r) ⌝ }
 {
     axes::axis_orders()
 }
 
-// The 48 matrices in the form in which a caller lends them to `copy`.
+// Returns the 48 matrices in the form in which a caller lends them to `copy`.
 fn turns() -> [f64; 432]
     ensures { λ r. ⌜ r ≡ join (join axisOrders) ⌝ }
 {

@@ -9,7 +9,7 @@ ghost use Rattle.spec.specs.Copying.{axisOrders};
 ghost use Rattle.float.specs.Reading.{corner, paddedRows};
 use float::DIMENSION;
 
-// The rows that occur: the unit of each axis, as it is and negated, and the fourth row, which no matrix of three dimensions uses.
+// These are the rows that occur: the unit of each axis, as it is and negated, and the fourth row, which no matrix of three dimensions uses.
 const X: [f64; DIMENSION] = [1.0, 0.0, 0.0, 0.0];
 
 const Y: [f64; DIMENSION] = [0.0, 1.0, 0.0, 0.0];
@@ -24,7 +24,7 @@ const NZ: [f64; DIMENSION] = [0.0, 0.0, -1.0, 0.0];
 
 const O: [f64; DIMENSION] = [0.0, 0.0, 0.0, 0.0];
 
-// The entries. Like every matrix they are rows of rows with room for four dimensions, and every cell past the third is 0.
+// These are the entries. Like every matrix they are rows of rows with room for four dimensions, and every cell past the third is 0.
 const AXIS_ORDERS: [[[f64; DIMENSION]; DIMENSION]; 48] = [
     [X, Y, Z, O],
     [X, Y, NZ, O],
@@ -76,7 +76,7 @@ const AXIS_ORDERS: [[[f64; DIMENSION]; DIMENSION]; 48] = [
     [NZ, NY, NX, O],
 ];
 
-// The table, with every cell of its matrices. It is made anew at each call, so a caller makes it once, in a local, and lends that.
+// Returns the table, with every cell of its matrices. It is made anew at each call, so a caller makes it once, in a local, and lends that.
 pub fn axis_orders() -> [[[f64; DIMENSION]; DIMENSION]; 48]
     ensures { λ r. ⌜ r ≡ map paddedRows axisOrders ⌝ }
 {
@@ -108,7 +108,8 @@ fn put_turns(table: &[[[f64; DIMENSION]; DIMENSION]], out: &mut [f64])
     }
 }
 
-// A lent table in the form in which `copy` takes its matrices, nine floats each. A caller keeps this in a local too, and lends it to every `copy`.
+// Returns a lent table in the form in which `copy` takes its matrices, nine floats each. A caller keeps this in a local too, and lends it to every
+// `copy`.
 pub fn axis_turns(table: &[[[f64; DIMENSION]; DIMENSION]; 48]) -> [f64; 432]
     ensures { λ r. ⌜ r ≡ join (join (map (corner 3) (now (table .entry)))) ⌝ }
 {

@@ -1,5 +1,5 @@
-// Section 7's copies: "A point not found among the copies is multiplied by every matrix in order; each image not found joins." The copies
-// stand one after another in a lent buffer, d floats each, and `limit` says how many of them there may be.
+// This module makes section 7's copies: "A point not found among the copies is multiplied by every matrix in order; each image not found joins." The
+// copies stand one after another in a lent buffer, d floats each, and `limit` says how many of them there may be.
 ghost use mathlib.Core.Path.{_≡_};
 ghost use Prim.Native.Nat.{_*_, _≤_};
 ghost use lib.ListN.{length, take, drop};
@@ -12,7 +12,7 @@ use float::matrix;
 use float::points;
 use float::points::Found;
 
-// How many copies there are, or the answer that there is no room for them all.
+// This says how many copies there are, or is the answer that there is no room for them all.
 pub enum Room {
     Fits(usize),
     Full,

@@ -1,4 +1,4 @@
-// The refusals that depend only on the dimension, the points and the matrices: "copying goes 2, 1, 3, 12".
+// This module has the refusals that depend only on the dimension, the points and the matrices: "copying goes 2, 1, 3, 12".
 ghost use mathlib.Core.Path.{_≡_};
 ghost use Rattle.spec.specs.Lists.{every};
 ghost use Rattle.spec.specs.Float.{inRange};
@@ -8,13 +8,13 @@ use float::DIMENSION;
 use float::points;
 use spec::Refusal;
 
-// Whether the points and matrices can be copied, or by which refusal they are turned down.
+// This says whether the points and matrices can be copied, or by which refusal they are turned down.
 pub enum Judgement {
     Passed,
     Refused(Refusal),
 }
 
-// Whether every float is finite and not too large.
+// Tells whether every float is finite and not too large.
 fn all_in_range(s: &[f64]) -> bool
     ensures { λ r. ⌜ r ≡ every inRange (now (s .entry)) ⌝ }
 {
@@ -29,7 +29,7 @@ fn all_in_range(s: &[f64]) -> bool
     true
 }
 
-// The four judgements, in their order. A refusal ends them, so each test may rely on the ones before it.
+// Makes the four judgements, in their order. A refusal ends them, so each test may rely on the ones before it.
 pub fn judged(d: usize, from: &[f64], turns: &[f64]) -> Judgement
     ensures { λ r. ⌜ judgementOf r ≡ judgeCopy d (now (from .entry)) (now (turns .entry)) ⌝ }
 {

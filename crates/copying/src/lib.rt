@@ -1,4 +1,4 @@
-// Section 7 of document 01: copying points under matrices, and the constant table of 48 signed axis orders.
+// This crate has section 7 of document 01: copying points under matrices, and the constant table of 48 signed axis orders.
 ghost use mathlib.Core.Path.{_≡_};
 ghost use Prim.Native.Nat.{_/_, _≤_, min};
 ghost use lib.ListN.{length};
@@ -17,7 +17,7 @@ mod rows;
 use joining::Room;
 use judging::Judgement;
 
-// How many points of d floats there is room for, but never more than 2,048, since "copies over 2,048" are refused.
+// Tells how many points of d floats there is room for, but never more than 2,048, since "copies over 2,048" are refused.
 fn room(floats: usize, d: usize) -> usize
     requires { ⌜ 1 ≤ d ⌝ }
     ensures { λ r. ⌜ r ≡ min maxCount (floats / d) ⌝ }

@@ -1,5 +1,5 @@
-// Section 7's table: "a table row per matrix gives each copy's image", by its number. Where some image is not among the copies, every cell of
-// the table is set to 65,535.
+// This module makes section 7's table: "a table row per matrix gives each copy's image", by its number. Where some image is not among the copies,
+// every cell of the table is set to 65,535.
 ghost use mathlib.Core.Path.{_≡_};
 ghost use mathlib.Core.Bool.{true};
 ghost use Prim.Native.Nat.{_*_, _/_, _≤_};
@@ -16,7 +16,7 @@ use float::points::Found;
 use lookup::PLACES;
 use lookup::found;
 
-// The number that fills a table when an image is not among the copies.
+// This is the number that fills a table when an image is not among the copies.
 const NONE: u16 = 65535;
 
 // Writes the row of matrix m over the n copies, and says whether every image is among them.

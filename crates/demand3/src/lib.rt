@@ -1,5 +1,5 @@
-// Demand 3 of the two calls that it needs, each run: a sheet's types with its members or its rotations, and what the promises of both calls say
-// together.
+// This crate has demand 3 of the two calls that it needs, each run: a sheet's types with its members or its rotations, and what the promises of both
+// calls say together.
 ghost use lib.ListN.{length};
 ghost use Rattle.spec.specs.Calls.{searchCall, rotationsCall};
 ghost use Rattle.spec.specs.Workspace.{Free};
@@ -7,7 +7,7 @@ ghost use Rattle.symmetry.specs.Tails.{outOf};
 ghost use Rattle.demand3.specs.Both.{BothCalls};
 use spec::Answer;
 
-// What the types call answered, and what the search or rotations call answered.
+// This is what the types call answered, and what the search or rotations call answered.
 pub struct Answers {
     pub types: Answer,
     pub members: Answer,

@@ -1,5 +1,5 @@
-// Section 3's last sentences: each proper element's distance, and its distance class. The coordinates stand in the first V * D of the lent floats.
-// Behind them is room for one listed value for each proper element, and behind that room stand the classes, one for each proper element.
+// This crate has section 3's last sentences: each proper element's distance, and its distance class. The coordinates stand in the first V * D of the
+// lent floats. Behind them is room for one listed value for each proper element, and behind that room stand the classes, one for each proper element.
 ghost use mathlib.Core.Path.{_≡_};
 ghost use mathlib.Core.List.{[], _∷_};
 ghost use Prim.Native.Nat.{_+_, _≤_, _<_};
@@ -14,7 +14,7 @@ use ranked::Shape;
 use ranked::vertices;
 use spec::MAX_COUNT;
 
-// How far the hull of the vertices of element e of rank r is from the origin.
+// Tells how far the hull of the vertices of element e of rank r is from the origin.
 pub fn element_distance(w: &[u32], sh: Shape, points: &[f64], r: usize, e: usize) -> f64
     requires { ⌜ Held sh (now w) ⌝ }
     requires { ⌜ (1 ≤ r) × (r ≤ sh .rank) × (e < sizeAt sh r) ⌝ }

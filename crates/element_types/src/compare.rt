@@ -1,4 +1,4 @@
-// Comparing keys that stand in lent words.
+// This module compares keys that stand in lent words.
 use ranked::lists::get;
 ghost use mathlib.Core.Path.{_≡_};
 ghost use Prim.Native.Nat.{ℕ, _+_, _≤_, _<_};

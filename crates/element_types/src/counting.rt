@@ -1,4 +1,4 @@
-// Counting "the number of types" over the proper ranks.
+// This module counts "the number of types" over the proper ranks.
 use ranked::Shape;
 use ranked::lists::get;
 ghost use mathlib.Core.Path.{_≡_};

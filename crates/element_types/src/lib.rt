@@ -1,4 +1,5 @@
-// The types of a solid's elements (conc/element_types.rs), held in lent words behind the solid's lists: one step at a rank, and a sweep of them.
+// This crate has the types of a solid's elements (conc/element_types.rs), held in lent words behind the solid's lists: one step at a rank, and a
+// sweep of them.
 
 pub mod compare;
 pub mod counting;

@@ -1,4 +1,4 @@
-// Sweeps: "A sweep is up at 1 to R−1, then down at R−1 to 1".
+// This module makes sweeps: "A sweep is up at 1 to R−1, then down at R−1 to 1".
 use crate::stepping::step_down;
 use crate::stepping::step_up;
 use ranked::Shape;

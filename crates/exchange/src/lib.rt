@@ -1,4 +1,4 @@
-// Section 6's exchange: facet f "changes places with facet 0; ridges' sups follow and are sorted".
+// This crate makes section 6's exchange: facet f "changes places with facet 0; ridges' sups follow and are sorted".
 use ranked::Shape;
 use ranked::store::derive_sups;
 ghost use mathlib.Core.Path.{_≡_};

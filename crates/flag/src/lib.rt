@@ -1,4 +1,5 @@
-// Section 5 of document 01 (abs/flag.rs): the first flag of a solid that lies in lent words, the flag after a given one, and a change at a rank.
+// This crate has section 5 of document 01 (abs/flag.rs): the first flag of a solid that lies in lent words, the flag after a given one, and a change
+// at a rank.
 ghost use mathlib.Core.Path.{_≡_};
 ghost use mathlib.Core.List.{_++_};
 ghost use Prim.Native.Nat.{suc, _+_, _-_, _*_, _≤_, _<_};
@@ -14,7 +15,7 @@ use ranked::Shape;
 use ranked::lists;
 use spec::MAX_RANK;
 
-// How many ranks the largest solid has, which are 0 to the greatest R.
+// The largest solid has this many ranks, which are 0 to the greatest R.
 pub const RANKS: usize = MAX_RANK + 1;
 
 // "A flag has one element a rank", listed by rank from 0 to the solid's R. The cells past R are not read.
@@ -22,26 +23,26 @@ pub struct Flag {
     pub elements: [usize; RANKS],
 }
 
-// Whether there is a flag after the given one.
+// This says whether there is a flag after the given one.
 pub enum Advance {
     More,
     Ended,
 }
 
-// The answer whether there is a flag after the given one, and beside it that flag, where there is one. An enum that held the flag's array would
-// leave every function over it to a proof by hand.
+// This is the answer whether there is a flag after the given one, and beside it that flag, where there is one. An enum that held the flag's array
+// would leave every function over it to a proof by hand.
 pub struct Next {
     pub advance: Advance,
     pub flag: Flag,
 }
 
-// What a look for an element other than a given one finds: that element, or nothing.
+// This is what a look for an element other than a given one finds: that element, or nothing.
 enum Other {
     Element(usize),
     Nothing,
 }
 
-// The first sub of element e of rank r.
+// Returns the first sub of element e of rank r.
 fn first_sub(w: &[u32], sh: Shape, r: usize, e: usize) -> usize
     requires { ⌜ Held sh (now w) ⌝ }
     requires { ⌜ (0 < r) × (r ≤ sh .rank) × (e < sizeAt sh r) ⌝ }
@@ -50,7 +51,7 @@ fn first_sub(w: &[u32], sh: Shape, r: usize, e: usize) -> usize
     lists::sub(w, sh, r, e, 0)
 }
 
-// The first entry y of the list at word i, other than e, that has x in its list at word base + 4 * y.
+// Returns the first entry y of the list at word i, other than e, that has x in its list at word base + 4 * y.
 fn other_at(w: &[u32], i: usize, base: usize, x: usize, e: usize) -> Other
     requires { ⌜ Lies (now w) i ⌝ }
     requires { ⌜ Each (now w) i base ⌝ }
@@ -70,7 +71,7 @@ fn other_at(w: &[u32], i: usize, base: usize, x: usize, e: usize) -> Other
     Other::Nothing
 }
 
-// The first element other than e between g, whose subs are at word i, and h, whose sups are at word j. The shorter of the two lists is gone
+// Returns the first element other than e between g, whose subs are at word i, and h, whose sups are at word j. The shorter of the two lists is gone
 // through, which for a ridge with two sups below a top with many subs is that of the sups.
 fn other_between(w: &[u32], i: usize, j: usize, base: usize, g: usize, h: usize, e: usize) -> Other
     requires { ⌜ Fork (now w) i j base g h ⌝ }
@@ -83,7 +84,7 @@ fn other_between(w: &[u32], i: usize, j: usize, base: usize, g: usize, h: usize,
     }
 }
 
-// The elements as they are at rank `from` and above, with first subs below it.
+// Returns the elements as they are at rank `from` and above, with first subs below it.
 fn down(w: &[u32], sh: Shape, start: [usize; RANKS], from: usize) -> [usize; RANKS]
     requires { ⌜ Held sh (now w) ⌝ }
     requires { ⌜ (from ≤ sh .rank) × (getD start from 0 < sizeAt sh from) ⌝ }
@@ -101,7 +102,7 @@ fn down(w: &[u32], sh: Shape, start: [usize; RANKS], from: usize) -> [usize; RAN
     elements
 }
 
-// How many entries of the list at word i stand before x, which is the length of the list where x is absent.
+// Counts the entries of the list at word i that stand before x, which is the length of the list where x is absent.
 fn place_at(w: &[u32], i: usize, x: usize) -> usize
     requires { ⌜ Lies (now w) i ⌝ }
     ensures { λ res. ⌜ res ≡ place eqb x (listAt (now (w .entry)) i) ⌝ }
@@ -117,8 +118,8 @@ fn place_at(w: &[u32], i: usize, x: usize) -> usize
     k
 }
 
-// The flag in which the element at rank r has moved on to the next sub of the one above, with first subs below it. Where that element is the last
-// sub, the answer is `Ended`.
+// Returns the flag in which the element at rank r has moved on to the next sub of the one above, with first subs below it. Where that element is the
+// last sub, the answer is `Ended`.
 fn moved_at(w: &[u32], sh: Shape, elements: [usize; RANKS], r: usize) -> Next
     requires { ⌜ Held sh (now w) ⌝ }
     requires { ⌜ (r < sh .rank) × (getD elements (suc r) 0 < sizeAt sh (suc r)) ⌝ }
@@ -181,7 +182,7 @@ impl Flag {
         Flag { elements: elements }
     }
 
-    // The flag after this one: "The iterator gives every flag once, the sub at rank 1 moving fastest."
+    // Returns the flag after this one: "The iterator gives every flag once, the sub at rank 1 moving fastest."
     pub fn next(self, w: &[u32], sh: Shape) -> Next
         requires { ⌜ Held sh (now w) ⌝ }
         requires { ⌜ IsFlag (absIn sh (now w)) (flagIn (sh .rank) self) ⌝ }

@@ -1,14 +1,14 @@
-// Floats from and to their bit patterns, for every pattern: the language's own conversions are undefined at a NaN.
+// This module makes floats from and to their bit patterns, for every pattern: the language's own conversions are undefined at a NaN.
 ghost use mathlib.Core.Path.{_≡_};
 ghost use lib.Ieee.{binary64, ofBits, toBits};
 ghost use Rattle.float.specs.Reading.{Alike};
 
-// The pattern of the one NaN that the definitions have.
+// This is the pattern of the one NaN that the definitions have.
 const NAN: u64 = 0x7ff8_0000_0000_0000;
-// The pattern of the positive infinity. Patterns above it, the sign apart, are those of NaNs.
+// This is the pattern of the positive infinity. Patterns above it, the sign apart, are those of NaNs.
 const INFINITY: u64 = 0x7ff0_0000_0000_0000;
 
-// The float of a pattern.
+// Returns the float of a pattern.
 pub fn from_pattern(n: u64) -> f64
     ensures { λ r. ⌜ r ≡ ofBits binary64 n ⌝ }
 {
@@ -18,7 +18,7 @@ pub fn from_pattern(n: u64) -> f64
     0.0 / 0.0
 }
 
-// The pattern of a float.
+// Returns the pattern of a float.
 pub fn pattern(x: f64) -> u64
     ensures { λ r. ⌜ r ≡ toBits binary64 x ⌝ }
 {
@@ -28,7 +28,7 @@ pub fn pattern(x: f64) -> u64
     f64::to_bits(x)
 }
 
-// Whether two floats are the same float, by their patterns. A zero and its negative are two floats, and the one NaN is the same as itself.
+// Tells whether two floats are the same float, by their patterns. A zero and its negative are two floats, and the one NaN is the same as itself.
 pub fn same(x: f64, y: f64) -> bool
     ensures { λ r. ⌜ Alike r x y ⌝ }
 {

@@ -15,7 +15,7 @@ use crate::tolerance;
 
 const WIDTH: usize = 2 * DIMENSION;
 
-// A working row: the row v of the matrix beside row i of the identity.
+// Returns a working row: the row v of the matrix beside row i of the identity.
 fn beside(v: [f64; DIMENSION], i: usize, d: usize) -> [f64; WIDTH]
     requires { ⌜ (d ≤ maxDimension) × (i < d) ⌝ }
     ensures { λ r. ⌜ take (d + d) r ≡ take d v ++ unit d i ⌝ }
@@ -30,7 +30,7 @@ fn beside(v: [f64; DIMENSION], i: usize, d: usize) -> [f64; WIDTH]
     r
 }
 
-// The working rows that the elimination begins with.
+// Returns the working rows that the elimination begins with.
 fn beside_identity(m: [[f64; DIMENSION]; DIMENSION], d: usize) -> [[f64; WIDTH]; DIMENSION]
     requires { ⌜ d ≤ maxDimension ⌝ }
     ensures { λ r. ⌜ leading d (d + d) r ≡ zip (λ x e. x ++ e) (corner d m) (identity d) ⌝ }
@@ -44,7 +44,7 @@ fn beside_identity(m: [[f64; DIMENSION]; DIMENSION], d: usize) -> [[f64; WIDTH];
     r
 }
 
-// The entry in row r and column c of the half that began as the matrix.
+// Returns the entry in row r and column c of the half that began as the matrix.
 fn entry(w: [[f64; WIDTH]; DIMENSION], r: usize, c: usize) -> f64
     requires { ⌜ (r < maxDimension) × (c < maxDimension) ⌝ }
     ensures { λ x. ⌜ x ≡ entry w r c ⌝ }
@@ -52,7 +52,7 @@ fn entry(w: [[f64; WIDTH]; DIMENSION], r: usize, c: usize) -> f64
     w[r][c]
 }
 
-// The row of the largest magnitude in column c, from row c down. A later row is taken only if strictly larger, which a NaN never is.
+// Returns the row of the largest magnitude in column c, from row c down. A later row is taken only if strictly larger, which a NaN never is.
 fn pivot_row(w: [[f64; WIDTH]; DIMENSION], c: usize, d: usize) -> usize
     requires { ⌜ (d ≤ maxDimension) × (c < d) ⌝ }
     ensures { λ r. ⌜ (r ≡ pivotRow (leading d (d + d) w) c) × (r < d) ⌝ }
@@ -68,7 +68,7 @@ fn pivot_row(w: [[f64; WIDTH]; DIMENSION], c: usize, d: usize) -> usize
     p
 }
 
-// The working rows with rows p and c in each other's place.
+// Returns the working rows with rows p and c in each other's place.
 fn swapped(w: [[f64; WIDTH]; DIMENSION], p: usize, c: usize) -> [[f64; WIDTH]; DIMENSION]
     requires { ⌜ (p < maxDimension) × (c < maxDimension) ⌝ }
     ensures { λ r. ⌜ r ≡ swapRows w p c ⌝ }
@@ -79,7 +79,7 @@ fn swapped(w: [[f64; WIDTH]; DIMENSION], p: usize, c: usize) -> [[f64; WIDTH]; D
     r
 }
 
-// "Divide the whole pivot row by the pivot", which is x.
+// The rule is "divide the whole pivot row by the pivot", which is x.
 fn row_divided(v: [f64; WIDTH], x: f64) -> [f64; WIDTH]
     ensures { λ r. ⌜ r ≡ divided v x ⌝ }
 {
@@ -92,7 +92,7 @@ fn row_divided(v: [f64; WIDTH], x: f64) -> [f64; WIDTH]
     r
 }
 
-// A row less its entry in column c times the pivot row, "product and difference each rounded".
+// Returns a row less its entry in column c times the pivot row, "product and difference each rounded".
 fn row_cleared(v: [f64; WIDTH], pivot: [f64; WIDTH], c: usize) -> [f64; WIDTH]
     requires { ⌜ c < maxDimension ⌝ }
     ensures { λ r. ⌜ r ≡ cleared c pivot v ⌝ }
@@ -106,7 +106,7 @@ fn row_cleared(v: [f64; WIDTH], pivot: [f64; WIDTH], c: usize) -> [f64; WIDTH]
     r
 }
 
-// What row r becomes when column c is cleared: the divided pivot row stays, and every other row is cleared by it.
+// Returns what row r becomes when column c is cleared: the divided pivot row stays, and every other row is cleared by it.
 fn row_next(v: [f64; WIDTH], pivot: [f64; WIDTH], r: usize, c: usize) -> [f64; WIDTH]
     requires { ⌜ c < maxDimension ⌝ }
     ensures { λ x. ⌜ x ≡ elim (eqb r c) [ true ↦ pivot | false ↦ cleared c pivot v ] ⌝ }
@@ -117,7 +117,7 @@ fn row_next(v: [f64; WIDTH], pivot: [f64; WIDTH], r: usize, c: usize) -> [f64; W
     row_cleared(v, pivot, c)
 }
 
-// The working rows with the divided pivot row at c and every other row cleared by it.
+// Returns the working rows with the divided pivot row at c and every other row cleared by it.
 fn rows_cleared(
     w: [[f64; WIDTH]; DIMENSION],
     pivot: [f64; WIDTH],
@@ -136,7 +136,7 @@ fn rows_cleared(
     x
 }
 
-// One column of the elimination, whose pivot x stands in row p: rows p and c are swapped, row c is divided, and the others are cleared.
+// Makes one column of the elimination, whose pivot x stands in row p: rows p and c are swapped, row c is divided, and the others are cleared.
 fn column(
     w: [[f64; WIDTH]; DIMENSION],
     p: usize,
@@ -152,7 +152,7 @@ fn column(
     rows_cleared(s, pivot, c, d)
 }
 
-// The half of a working row that began as a row of the identity.
+// Returns the half of a working row that began as a row of the identity.
 fn right_half(v: [f64; WIDTH], d: usize) -> [f64; DIMENSION]
     requires { ⌜ d ≤ maxDimension ⌝ }
     ensures { λ r. ⌜ r ≡ padded (drop d (take (d + d) v)) ⌝ }
@@ -166,7 +166,7 @@ fn right_half(v: [f64; WIDTH], d: usize) -> [f64; DIMENSION]
     r
 }
 
-// The right halves of the working rows. They are d rows of d entries, so that the matrix they make up can be read back from the array.
+// Returns the right halves of the working rows. They are d rows of d entries, so that the matrix they make up can be read back from the array.
 fn right_halves(w: [[f64; WIDTH]; DIMENSION], d: usize) -> [[f64; DIMENSION]; DIMENSION]
     requires { ⌜ d ≤ maxDimension ⌝ }
     ensures { λ r. ⌜ (r ≡ paddedRows (map (drop d) (leading d (d + d) w))) × (corner d r ≡ map (drop d) (leading d (d + d) w)) ⌝ }
@@ -180,7 +180,7 @@ fn right_halves(w: [[f64; WIDTH]; DIMENSION], d: usize) -> [[f64; DIMENSION]; DI
     r
 }
 
-// The product t of the pivots before column c, times one more. The first pivot is taken as it is and not multiplied by 1.0.
+// Returns the product t of the pivots before column c, times one more. The first pivot is taken as it is and not multiplied by 1.0.
 fn multiplied(t: f64, x: f64, c: usize) -> f64
     ensures { λ r. ⌜ r ≡ elim (eqb c 0) [ true ↦ x | false ↦ times t x ] ⌝ }
 {
@@ -190,7 +190,7 @@ fn multiplied(t: f64, x: f64, c: usize) -> f64
     t * x
 }
 
-// Whether the number of swaps is odd, once rows p and c have changed places. A row that changes places with itself is no swap.
+// Tells whether the number of swaps is odd, once rows p and c have changed places. A row that changes places with itself is no swap.
 fn parity(odd: bool, p: usize, c: usize) -> bool
     ensures { λ r. ⌜ r ≡ elim (eqb p c) [ true ↦ odd | false ↦ not odd ] ⌝ }
 {
@@ -200,7 +200,7 @@ fn parity(odd: bool, p: usize, c: usize) -> bool
     !odd
 }
 
-// The determinant, made from the product t of the pivots, which is negated where the number of swaps is odd.
+// Returns the determinant, made from the product t of the pivots, which is negated where the number of swaps is odd.
 fn signed(t: f64, odd: bool) -> f64
     ensures { λ r. ⌜ r ≡ elim odd [ true ↦ neg t | false ↦ t ] ⌝ }
 {
@@ -210,7 +210,7 @@ fn signed(t: f64, odd: bool) -> f64
     t
 }
 
-// The elimination, column after column. Where a pivot is zero the matrix is singular, so that it has no inverse and its determinant is 0. The
+// Makes the elimination, column after column. Where a pivot is zero the matrix is singular, so that it has no inverse and its determinant is 0. The
 // product that is handed back is that of the pivots, with its sign.
 pub fn eliminate(
     m: [[f64; DIMENSION]; DIMENSION],

@@ -1,4 +1,4 @@
-// The numbers of document 01, section 1: 64-bit floats, each operation rounded once; the tolerance, the root, vectors and matrices.
+// This crate has the numbers of document 01, section 1: 64-bit floats, each operation rounded once; the tolerance, the root, vectors and matrices.
 pub mod bits;
 pub mod elimination;
 pub mod matrix;
@@ -9,5 +9,5 @@ pub mod vector;
 
 use spec::MAX_DIMENSION;
 
-// The largest dimension. Every array is this wide, or twice as wide in the elimination.
+// This is the largest dimension. Every array is this wide, or twice as wide in the elimination.
 pub const DIMENSION: usize = MAX_DIMENSION;

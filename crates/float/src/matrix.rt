@@ -1,5 +1,5 @@
-// Matrices of a dimension d up to DIMENSION, as rows of rows. Of an argument, the first d entries of the first d rows are read. In a result,
-// every other cell holds 0.0.
+// This module has matrices of a dimension d up to DIMENSION, as rows of rows. Of an argument, the first d entries of the first d rows are read. In a
+// result, every other cell holds 0.0.
 ghost use mathlib.Core.Path.{_≡_};
 ghost use mathlib.Core.List.{map};
 ghost use Prim.Native.Nat.{_≤_, _<_};
@@ -12,7 +12,7 @@ use crate::DIMENSION;
 use crate::elimination;
 use crate::vector;
 
-// The image of v: each entry is the dot of a row of m and v.
+// Returns the image of v: each entry is the dot of a row of m and v.
 pub fn image(m: [[f64; DIMENSION]; DIMENSION], v: [f64; DIMENSION], d: usize) -> [f64; DIMENSION]
     requires { ⌜ d ≤ maxDimension ⌝ }
     ensures { λ r. ⌜ r ≡ padded (mulVec (corner d m) (take d v)) ⌝ }
@@ -26,7 +26,7 @@ pub fn image(m: [[f64; DIMENSION]; DIMENSION], v: [f64; DIMENSION], d: usize) ->
     r
 }
 
-// Column j of the matrix c, from its first row to its last.
+// Returns column j of the matrix c, from its first row to its last.
 fn column_of(c: [[f64; DIMENSION]; DIMENSION], j: usize, d: usize) -> [f64; DIMENSION]
     requires { ⌜ (d ≤ maxDimension) × (j < d) ⌝ }
     ensures { λ r. ⌜ r ≡ padded (map (λ row. getD row j zeroF) (corner d c)) ⌝ }
@@ -40,7 +40,7 @@ fn column_of(c: [[f64; DIMENSION]; DIMENSION], j: usize, d: usize) -> [f64; DIME
     r
 }
 
-// The matrix whose columns are the rows of c.
+// Returns the matrix whose columns are the rows of c.
 pub fn from_columns(c: [[f64; DIMENSION]; DIMENSION], d: usize) -> [[f64; DIMENSION]; DIMENSION]
     requires { ⌜ d ≤ maxDimension ⌝ }
     ensures { λ r. ⌜ r ≡ paddedRows (columns (corner d c)) ⌝ }
@@ -54,7 +54,7 @@ pub fn from_columns(c: [[f64; DIMENSION]; DIMENSION], d: usize) -> [[f64; DIMENS
     r
 }
 
-// The dots of v with each row of m.
+// Returns the dots of v with each row of m.
 fn dots(v: [f64; DIMENSION], m: [[f64; DIMENSION]; DIMENSION], d: usize) -> [f64; DIMENSION]
     requires { ⌜ d ≤ maxDimension ⌝ }
     ensures { λ r. ⌜ r ≡ padded (map (dot (take d v)) (corner d m)) ⌝ }
@@ -68,7 +68,7 @@ fn dots(v: [f64; DIMENSION], m: [[f64; DIMENSION]; DIMENSION], d: usize) -> [f64
     r
 }
 
-// The product of a and b: each entry is the dot of a row of a and a column of b.
+// Returns the product of a and b: each entry is the dot of a row of a and a column of b.
 pub fn product(
     a: [[f64; DIMENSION]; DIMENSION],
     b: [[f64; DIMENSION]; DIMENSION],
@@ -87,7 +87,7 @@ pub fn product(
     r
 }
 
-// The inverse. `regular` says whether there is one. Where there is none, every cell holds 0.0.
+// Returns the inverse. `regular` says whether there is one. Where there is none, every cell holds 0.0.
 pub fn inverse(
     m: [[f64; DIMENSION]; DIMENSION],
     d: usize,
@@ -100,7 +100,7 @@ pub fn inverse(
     elimination::eliminate(m, d, regular, &mut product)
 }
 
-// The product of the elimination's pivots, with its sign, or 0 where the matrix is singular.
+// Returns the product of the elimination's pivots, with its sign, or 0 where the matrix is singular.
 pub fn determinant(m: [[f64; DIMENSION]; DIMENSION], d: usize) -> f64
     requires { ⌜ d ≤ maxDimension ⌝ }
     ensures { λ r. ⌜ r ≡ determinant (corner d m) ⌝ }

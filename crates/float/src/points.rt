@@ -1,5 +1,5 @@
-// Points in a lent slice, d floats each, and finding one among them: "within EPS, EPS included, of a vertex on every axis (lowest number
-// taken)".
+// This module has points in a lent slice, d floats each, and finds one among them: "within EPS, EPS included, of a vertex on every axis (lowest
+// number taken)".
 ghost use mathlib.Core.Path.{_≡_};
 ghost use Prim.Native.Nat.{_+_, _*_, _≤_};
 ghost use lib.ListN.{length, take, drop};
@@ -12,23 +12,23 @@ use crate::DIMENSION;
 use crate::tolerance;
 use crate::vector;
 
-// The largest magnitude of a coordinate or a matrix entry.
+// This is the largest magnitude of a coordinate or a matrix entry.
 const LARGEST: f64 = 1048576.0;
 
-// What a look for a number finds: that number, or nothing.
+// This is what a look for a number finds: that number, or nothing.
 pub enum Found {
     At(usize),
     Nothing,
 }
 
-// Whether a float is finite and not too large. One comparison is enough, because neither a NaN nor an infinity is at most LARGEST.
+// Tells whether a float is finite and not too large. One comparison is enough, because neither a NaN nor an infinity is at most LARGEST.
 pub fn in_range(x: f64) -> bool
     ensures { λ r. ⌜ r ≡ inRange x ⌝ }
 {
     tolerance::magnitude(x) <= LARGEST
 }
 
-// Point v, handed back as the part of the slice that holds it.
+// Returns point v, handed back as the part of the slice that holds it.
 pub fn point(points: &[f64], d: usize, v: usize) -> &[f64]
     requires { ⌜ v * d + d ≤ length (now points) ⌝ }
     ensures { λ r. ⌜ now r ≡ take d (drop (v * d) (now (points .entry))) ⌝ }
@@ -38,7 +38,7 @@ pub fn point(points: &[f64], d: usize, v: usize) -> &[f64]
     &points[start..end]
 }
 
-// Point v, copied into an array.
+// Returns point v, copied into an array.
 pub fn loaded(points: &[f64], d: usize, v: usize) -> [f64; DIMENSION]
     requires { ⌜ (d ≤ maxDimension) × (v * d + d ≤ length (now points)) ⌝ }
     ensures { λ r. ⌜ take d r ≡ take d (drop (v * d) (now (points .entry))) ⌝ }
@@ -46,7 +46,7 @@ pub fn loaded(points: &[f64], d: usize, v: usize) -> [f64; DIMENSION]
     vector::load(point(points, d, v))
 }
 
-// Matrix j of those that stand one after another in the slice, each row by row.
+// Returns matrix j of those that stand one after another in the slice, each row by row.
 pub fn matrix_at(matrices: &[f64], d: usize, j: usize) -> [[f64; DIMENSION]; DIMENSION]
     requires { ⌜ (d ≤ maxDimension) × (j * (d * d) + d * d ≤ length (now matrices)) ⌝ }
     ensures { λ r. ⌜ corner d r ≡ parts d d (take (d * d) (drop (j * (d * d)) (now (matrices .entry)))) ⌝ }
@@ -60,7 +60,7 @@ pub fn matrix_at(matrices: &[f64], d: usize, j: usize) -> [[f64; DIMENSION]; DIM
     m
 }
 
-// Whether q is within EPS of p on every axis.
+// Tells whether q is within EPS of p on every axis.
 fn near(p: &[f64], q: [f64; DIMENSION]) -> bool
     requires { ⌜ length (now p) ≤ maxDimension ⌝ }
     ensures { λ r. ⌜ r ≡ near (now (p .entry)) (take (length (now (p .entry))) q) ⌝ }
@@ -76,8 +76,8 @@ fn near(p: &[f64], q: [f64; DIMENSION]) -> bool
     true
 }
 
-// Whether q is within EPS of point v on every axis. Most points differ on their first axis already, so that axis is compared before the
-// point's part of the slice is taken.
+// Tells whether q is within EPS of point v on every axis. Most points differ on their first axis already, so that axis is compared before the point's
+// part of the slice is taken.
 pub fn near_at(points: &[f64], d: usize, v: usize, q: [f64; DIMENSION]) -> bool
     requires { ⌜ (1 ≤ d) × (d ≤ maxDimension) × (v * d + d ≤ length (now points)) ⌝ }
     ensures { λ r. ⌜ r ≡ near (take d (drop (v * d) (now (points .entry)))) (take d q) ⌝ }
@@ -88,7 +88,7 @@ pub fn near_at(points: &[f64], d: usize, v: usize, q: [f64; DIMENSION]) -> bool
     false
 }
 
-// The lowest of the n points that is near q. Points without axes are near everything, so the first of them is found.
+// Returns the lowest of the n points that is near q. Points without axes are near everything, so the first of them is found.
 pub fn find(points: &[f64], d: usize, n: usize, q: [f64; DIMENSION]) -> Found
     requires { ⌜ (d ≤ maxDimension) × (n * d ≤ length (now points)) ⌝ }
     ensures { λ r. ⌜ r ≡ foundAt n (find (parts n d (now (points .entry))) (take d q)) ⌝ }

@@ -1,4 +1,4 @@
-// The square root of a 64-bit float, rounded to nearest, worked out with whole numbers.
+// This module has the square root of a 64-bit float, rounded to nearest, worked out with whole numbers.
 ghost use mathlib.Core.Path.{_≡_};
 ghost use mathlib.Core.Logic.{_⊎_};
 ghost use Prim.Native.Nat.{_+_, _*_, _^_, _≤_, _<_};
@@ -6,29 +6,30 @@ ghost use lib.Ieee.{binary64, ofBits};
 ghost use Rattle.spec.specs.Float.{root as rootOf, rootDown, rootUnits};
 ghost use Rattle.spec.specs.Root.{inUnits};
 
-// The bit pattern of the positive infinity. Below it are the patterns of the finite values.
+// This is the bit pattern of the positive infinity. Below it are the patterns of the finite values.
 const INFINITY: u64 = 0x7ff0_0000_0000_0000;
 
-// The whole part of a number's root, and what its square leaves of the number.
+// These are the whole part of a number's root, and what its square leaves of the number.
 struct Whole {
     root: u64,
     rest: u64,
 }
 
-// The number digits * 2^zeros.
+// This is the number digits * 2^zeros.
 struct Scaled {
     digits: u64,
     zeros: u64,
 }
 
-// The number 1 where a is at most b, and 0 otherwise. It is used as a number instead of in a branch, since a root's digits cannot be predicted.
+// Returns the number 1 where a is at most b, and 0 otherwise. It is used as a number instead of in a branch, since a root's digits cannot be
+// predicted.
 fn at_most(a: u64, b: u64) -> u64
     ensures { λ r. ⌜ ((r ≡ 1) × (a ≤ b)) ⊎ ((r ≡ 0) × (b < a)) ⌝ }
 {
     if a <= b { 1 } else { 0 }
 }
 
-// The root of n in 27 binary digits. For each of them, from the top, two digits of n are brought down.
+// Returns the root of n in 27 binary digits. For each of them, from the top, two digits of n are brought down.
 fn short_root(n: u64) -> Whole
     requires { ⌜ n < 2 ^ 54 ⌝ }
     ensures { λ r. ⌜ (r .root ≡ rootDown 27 n) × (r .root * r .root + r .rest ≡ n) ⌝ }
@@ -47,8 +48,8 @@ fn short_root(n: u64) -> Whole
     Whole { root, rest }
 }
 
-// The root of n * 2^52. Of its 53 digits, the upper 27 are the root of n. The lower 26 come from one division of what that root leaves by twice
-// the root, which gives them or one more.
+// Returns the root of n * 2^52. Of its 53 digits, the upper 27 are the root of n. The lower 26 come from one division of what that root leaves by
+// twice the root, which gives them or one more.
 fn long_root(n: u64) -> Whole
     requires { ⌜ (2 ^ 52 ≤ n) × (n < 2 ^ 54) ⌝ }
     ensures { λ r. ⌜ (r .root ≡ rootDown 53 (n * 2 ^ 52)) × (r .root * r .root + r .rest ≡ n * 2 ^ 52) ⌝ }
@@ -73,7 +74,7 @@ fn long_root(n: u64) -> Whole
     }
 }
 
-// The square of the root in units of 2^-1074, for the argument with the pattern b. It has 53 digits before the zeros.
+// Returns the square of the root in units of 2^-1074, for the argument with the pattern b. It has 53 digits before the zeros.
 fn argument(b: u64) -> Scaled
     requires { ⌜ (0 < b) × (b < 2047 * 2 ^ 52) ⌝ }
     ensures { λ r. ⌜ (2 ^ 52 ≤ r .digits) × (r .digits < 2 ^ 53) × (1022 ≤ r .zeros) × (r .zeros < 3120)
@@ -94,7 +95,7 @@ fn argument(b: u64) -> Scaled
     }
 }
 
-// The root's pattern, for the argument with the pattern b. The midpoint's square, root^2 + root + 1/4, is no whole number, so no tie comes
+// Returns the root's pattern, for the argument with the pattern b. The midpoint's square, root^2 + root + 1/4, is no whole number, so no tie comes
 // up. A root rounded up to 2^53 carries into the exponent's field, as it must.
 fn root_bits(b: u64) -> u64
     requires { ⌜ (0 < b) × (b < 2047 * 2 ^ 52) ⌝ }
@@ -107,7 +108,7 @@ fn root_bits(b: u64) -> u64
     dropped * 0x10_0000_0000_0000 + nearest
 }
 
-// "The root is the exact root rounded to nearest, ties to even". The root of a zero is that zero, and that of a number below zero is a NaN. A NaN
+// "The root is the exact root rounded to nearest, ties to even." The root of a zero is that zero, and that of a number below zero is a NaN. A NaN
 // fails both tests against zero, and is its own root. `EveryRoot` of crate `spec` says that the definition is IEEE 754's root, and its `root-facts`
 // says that the root of a finite x that is not negative is finite, not negative, and zero only at zero.
 pub fn root(x: f64) -> f64

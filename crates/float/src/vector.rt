@@ -1,4 +1,4 @@
-// Vectors, as slices of any length and as the first d entries of arrays.
+// This module has vectors, as slices of any length and as the first d entries of arrays.
 ghost use mathlib.Core.Path.{_≡_};
 ghost use Prim.Native.Nat.{_≤_, _-_};
 ghost use mathlib.Core.List.{_++_};
@@ -8,7 +8,7 @@ ghost use Rattle.spec.specs.Float.{zeroF, dot, zip, minus, norm};
 use crate::DIMENSION;
 use crate::root;
 
-// The dot product: the first product, to which the others are added by rising index. Of two empty slices it is 0.
+// Returns the dot product: the first product, to which the others are added by rising index. Of two empty slices it is 0.
 pub fn dot(a: &[f64], b: &[f64]) -> f64
     requires { ⌜ length (now a) ≡ length (now b) ⌝ }
     ensures { λ r. ⌜ r ≡ dot (now (a .entry)) (now (b .entry)) ⌝ }
@@ -25,7 +25,7 @@ pub fn dot(a: &[f64], b: &[f64]) -> f64
     t
 }
 
-// The dot product of the first d entries of two arrays.
+// Returns the dot product of the first d entries of two arrays.
 pub fn dot_of(a: [f64; DIMENSION], b: [f64; DIMENSION], d: usize) -> f64
     requires { ⌜ d ≤ maxDimension ⌝ }
     ensures { λ r. ⌜ r ≡ dot (take d a) (take d b) ⌝ }
@@ -33,7 +33,7 @@ pub fn dot_of(a: [f64; DIMENSION], b: [f64; DIMENSION], d: usize) -> f64
     dot(&a[..d], &b[..d])
 }
 
-// The slice a less the first entries of b, entry by entry. The entries past a's length are free.
+// Returns the slice a less the first entries of b, entry by entry. The entries past a's length are free.
 pub fn difference(a: &[f64], b: [f64; DIMENSION]) -> [f64; DIMENSION]
     requires { ⌜ length (now a) ≤ maxDimension ⌝ }
     ensures { λ r. ⌜ take (length (now (a .entry))) r ≡ zip minus (now (a .entry)) (take (length (now (a .entry))) b) ⌝ }
@@ -47,7 +47,7 @@ pub fn difference(a: &[f64], b: [f64; DIMENSION]) -> [f64; DIMENSION]
     r
 }
 
-// The slice's entries in an array, with zeros after them.
+// Returns the slice's entries in an array, with zeros after them.
 pub fn load(p: &[f64]) -> [f64; DIMENSION]
     requires { ⌜ length (now p) ≤ maxDimension ⌝ }
     ensures { λ r. ⌜ r ≡ now (p .entry) ++ replicate (maxDimension - length (now (p .entry))) zeroF ⌝ }

@@ -8,7 +8,7 @@ use float::DIMENSION;
 use float::bits;
 use float::matrix;
 
-// The number that stands for the end of the input, where a dimension would come.
+// This is the number that stands for the end of the input, where a dimension would come.
 const END: u64 = DIMENSION as u64 + 1;
 
 fn wide(x: u8) -> u64
@@ -23,7 +23,7 @@ fn half(a: u8, b: u8, c: u8, d: u8) -> u64
     wide(a) * 0x100_0000 + wide(b) * 0x1_0000 + wide(c) * 0x100 + wide(d)
 }
 
-// The next number of the input, or END.
+// Returns the next number of the input, or END.
 fn next() -> u64 {
     let mut b = [0u8; 8];
     let got = io::read_full(0, &mut b);
@@ -112,7 +112,7 @@ fn write_inverse(m: [[f64; DIMENSION]; DIMENSION], d: usize) -> bool
     write(0)
 }
 
-// The matrix with its rows in falling order.
+// Returns the matrix with its rows in falling order.
 fn turned(m: [[f64; DIMENSION]; DIMENSION], d: usize) -> [[f64; DIMENSION]; DIMENSION]
     requires { ⌜ d ≤ maxDimension ⌝ }
 {

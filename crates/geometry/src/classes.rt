@@ -1,4 +1,4 @@
-// Distance classes: the distances that joined the list, and which of them a distance takes.
+// This module has distance classes: the distances that joined the list, and which of them a distance takes.
 ghost use mathlib.Core.Path.{_≡_};
 ghost use Prim.Native.Nat.{_≤_, _<_};
 ghost use lib.ListN.{length, take};
@@ -7,26 +7,26 @@ ghost use Rattle.geometry.specs.Classes.{nearestOf, Takes, sameClass};
 use float::tolerance;
 use float::tolerance::Tolerance;
 
-// What a distance finds in the list: a listed value, or nothing.
+// This is what a distance finds in the list: a listed value, or nothing.
 pub enum Nearest {
     Listed(f64),
     Nothing,
 }
 
-// The value that a distance takes, and the length of the list afterwards.
+// These are the value that a distance takes, and the length of the list afterwards.
 pub struct Listing {
     pub value: f64,
     pub count: usize,
 }
 
-// Whether the distance x is "strictly nearer than EPS" to the listed value y.
+// Tells whether the distance x is "strictly nearer than EPS" to the listed value y.
 fn nearer(x: f64, y: f64) -> bool
     ensures { λ r. ⌜ r ≡ nearer x y ⌝ }
 {
     tolerance::magnitude(x - y) < Tolerance::EPS
 }
 
-// The smaller of a value and what was found behind it.
+// Returns the smaller of a value and what was found behind it.
 fn smaller(y: f64, found: Nearest) -> Nearest
     ensures { λ r. ⌜ nearestOf r ≡ smaller y (nearestOf found) ⌝ }
 {
@@ -42,7 +42,7 @@ fn smaller(y: f64, found: Nearest) -> Nearest
     }
 }
 
-// The smallest of the first n listed values that is strictly nearer to x than EPS. The scan goes from the last to the first, as the
+// Returns the smallest of the first n listed values that is strictly nearer to x than EPS. The scan goes from the last to the first, as the
 // definition does, so that of values that compare equal, such as the two zeros, the first is taken.
 pub fn listed_for(listed: &[f64], n: usize, x: f64) -> Nearest
     requires { ⌜ n ≤ length (now listed) ⌝ }
@@ -78,7 +78,7 @@ pub fn list_distance(listed: &mut [f64], n: usize, x: f64) -> Listing
     }
 }
 
-// Whether two listed values are one class, which means that they compare equal or that both are NaN.
+// Tells whether two listed values are one class, which means that they compare equal or that both are NaN.
 pub fn same_class(x: f64, y: f64) -> bool
     ensures { λ r. ⌜ r ≡ sameClass x y ⌝ }
 {

@@ -1,4 +1,4 @@
-// How far the hull of listed points is from the origin. The points stand one after another in a slice, d coordinates each.
+// This module tells how far the hull of listed points is from the origin. The points stand one after another in a slice, d coordinates each.
 ghost use mathlib.Core.Path.{_≡_};
 ghost use mathlib.Core.List.{map};
 ghost use Prim.Native.Nat.{ℕ, _+_, _*_, _≤_, _<_};
@@ -10,7 +10,7 @@ use crate::hull::Hull;
 use crate::hull::Joined;
 use float::points::point;
 
-// The list's number i, as an index.
+// Returns the list's number i, as an index.
 fn number(list: &[u16], i: usize) -> usize
     requires { ⌜ i < length (now list) ⌝ }
     ensures { λ r. ⌜ r ≡ getD (now (list .entry)) i 0 ⌝ }
@@ -18,8 +18,8 @@ fn number(list: &[u16], i: usize) -> usize
     list[i] as usize
 }
 
-// The distance of the hull of the points with the first n numbers of the list, taken in that order. Each point is handed on as the part of the
-// slice that holds it. The rule says "Stop at D vectors", and k counts those that joined.
+// Returns the distance of the hull of the points with the first n numbers of the list, taken in that order. Each point is handed on as the part of
+// the slice that holds it. The rule says "Stop at D vectors", and k counts those that joined.
 pub fn distance_of(points: &[f64], d: usize, list: &[u16], n: usize) -> f64
     requires { ⌜ (d ≤ maxDimension) × (0 < n) × (n ≤ length (now list)) × ((j : ℕ) → j < n → (getD (now list) j 0 + 1) * d ≤ length (now points)) ⌝ }
     ensures { λ r. ⌜ r ≡ distance d (hullOf d (map (pointAt d (now (points .entry))) (take n (now (list .entry))))) ⌝ }

@@ -1,5 +1,5 @@
-// Hulls of points, in a dimension d up to DIMENSION. The first d entries of the offset and of each vector of the basis count. A point is taken as
-// the part of the coordinate slice that holds it, and d is that part's length.
+// This module has hulls of points, in a dimension d up to DIMENSION. The first d entries of the offset and of each vector of the basis count. A point
+// is taken as the part of the coordinate slice that holds it, and d is that part's length.
 ghost use mathlib.Core.Path.{_≡_};
 ghost use mathlib.Core.List.{[], map};
 ghost use Prim.Native.Nat.{_+_, _*_, _≤_, _<_};
@@ -12,29 +12,30 @@ use float::DIMENSION;
 use float::tolerance::Tolerance;
 use float::vector;
 
-// The room for a basis, in which vector k stands at k * DIMENSION.
+// This is the room for a basis, in which vector k stands at k * DIMENSION.
 const ROOM: usize = DIMENSION * DIMENSION;
 
-// "The hull holds an offset (first vertex) and a basis of floats". The first `count` vectors of the basis are there.
+// "The hull holds an offset (first vertex) and a basis of floats." The first `count` vectors of the basis are there.
 pub struct Hull {
     pub offset: [f64; DIMENSION],
     pub basis: [f64; ROOM],
     pub count: usize,
 }
 
-// What adding a point answers: either a vector joined the basis, which had this length before it was divided by it, or nothing joined.
+// This is what adding a point answers: either a vector joined the basis, which had this length before it was divided by it, or nothing joined.
 pub enum Joined {
     Length(f64),
     Nothing,
 }
 
-// The hull after adding, with the answer beside it. An enum that held the hull's arrays would leave every function over it to a proof by hand.
+// This is the hull after adding, with the answer beside it. An enum that held the hull's arrays would leave every function over it to a proof by
+// hand.
 pub struct Added {
     pub hull: Hull,
     pub joined: Joined,
 }
 
-// "q += b times s", on as many entries as b has. The entries past them are free.
+// The step is "q += b times s", on as many entries as b has. The entries past them are free.
 fn moved(q: [f64; DIMENSION], b: &[f64], s: f64) -> [f64; DIMENSION]
     requires { ⌜ length (now b) ≤ maxDimension ⌝ }
     ensures { λ r. ⌜ take (length (now (b .entry))) r ≡ zip (λ x y. plus x (times y s)) (take (length (now (b .entry))) q) (now (b .entry)) ⌝ }
@@ -48,7 +49,7 @@ fn moved(q: [f64; DIMENSION], b: &[f64], s: f64) -> [f64; DIMENSION]
     r
 }
 
-// The basis with v divided by l as its vector k.
+// Returns the basis with v divided by l as its vector k.
 fn with_vector(basis: [f64; ROOM], k: usize, v: [f64; DIMENSION], l: f64, d: usize) -> [f64; ROOM]
     requires { ⌜ (d ≤ maxDimension) × (k < maxDimension) ⌝ }
     ensures { λ r. ⌜ (take (k * maxDimension) r ≡ take (k * maxDimension) basis) × (take d (drop (k * maxDimension) r) ≡ map (λ x. over x l) (take d v)) ⌝ }
@@ -64,7 +65,7 @@ fn with_vector(basis: [f64; ROOM], k: usize, v: [f64; DIMENSION], l: f64, d: usi
 }
 
 impl Hull {
-    // The hull of one point, which is the offset. The basis has no vector yet.
+    // Returns the hull of one point, which is the offset. The basis has no vector yet.
     pub fn empty(p: &[f64]) -> Hull
         requires { ⌜ length (now p) ≤ maxDimension ⌝ }
         ensures { λ r. ⌜ hullIn (length (now (p .entry))) r ≡ record { offset = now (p .entry); basis = [] } ⌝ }
@@ -101,7 +102,7 @@ impl Hull {
         q
     }
 
-    // What is left of p beside its projection: "v = p − projection".
+    // Returns what is left of p beside its projection: "v = p − projection".
     pub fn rest(self, p: &[f64]) -> [f64; DIMENSION]
         requires { ⌜ (length (now p) ≤ maxDimension) × (self .count ≤ maxDimension) ⌝ }
         ensures { λ r. ⌜ take (length (now (p .entry))) r ≡ rest (hullIn (length (now (p .entry))) self) (now (p .entry)) ⌝ }

@@ -1,7 +1,7 @@
-// The public calls over C's interface, for the static library. A slice goes as a pointer and then a length, in its elements; the caller lends
-// every buffer. A call answers one number: the refusal's number of document 01's table, or 0, times 2^32, plus the count of what it gave
-// out (types; members and copies, at 13 those that fitted). The count is below 2^32, so that a caller reads both back (`Decoded`). What a call
-// writes is what its definition in crate `spec` says, and what demand 3 says of the types and the members holds of the cells, rows and marks here.
+// This crate has the public calls over C's interface, for the static library. A slice goes as a pointer and then a length, in its elements; the
+// caller lends every buffer. A call answers one number: the refusal's number of document 01's table, or 0, times 2^32, plus the count of what it gave
+// out (types; members and copies, at 13 those that fitted). The count is below 2^32, so that a caller reads both back (`Decoded`). What a call writes
+// is what its definition in crate `spec` says, and what demand 3 says of the types and the members holds of the cells, rows and marks here.
 ghost use mathlib.Core.Path.{_≡_};
 ghost use lib.ListN.{length};
 ghost use Rattle.spec.specs.Calls.{typesCall, searchCall, rotationsCall};
@@ -30,8 +30,8 @@ fn code(answer: Answer) -> u64
     }
 }
 
-// Section 4: takes a sheet, and gives out the type of each proper element and the types' records. The workspace lent as words and floats is free
-// afterwards.
+// This is the call of section 4: it takes a sheet, and gives out the type of each proper element and the types' records. The workspace lent as words
+// and floats is free afterwards.
 #[no_mangle]
 pub extern "C" fn jidwaleb_types(
     sheet: &[u8],
@@ -52,8 +52,8 @@ pub extern "C" fn jidwaleb_types(
     code(types::element_types(sheet, words, floats, of, table))
 }
 
-// Section 6: takes a sheet, and gives out its symmetries, each with its matrix, the vertices that it takes the vertices to, and its mark. The
-// workspace lent as words and floats is free afterwards.
+// This is the call of section 6: it takes a sheet, and gives out its symmetries, each with its matrix, the vertices that it takes the vertices to,
+// and its mark. The workspace lent as words and floats is free afterwards.
 #[no_mangle]
 pub extern "C" fn jidwaleb_search(
     sheet: &[u8],
@@ -95,7 +95,7 @@ pub extern "C" fn jidwaleb_rotations(
     code(search::rotations(sheet, words, floats, matrices, rows, marks))
 }
 
-// Section 7: takes points and matrices, row by row, and gives out the copies and their table.
+// This is the call of section 7: it takes points and matrices, row by row, and gives out the copies and their table.
 #[no_mangle]
 pub extern "C" fn jidwaleb_copy(
     dimension: u64,

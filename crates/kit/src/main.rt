@@ -1,5 +1,5 @@
-// Document 01's program `kit`: reads a sheet from standard input and prints its types and what the search found, or the refusal. The text grows
-// in one buffer, the types first.
+// Document 01's program `kit` reads a sheet from standard input and prints its types and what the search found, or the refusal. The text grows in one
+// buffer, the types first.
 ghost use mathlib.Core.Path.{_≡_};
 ghost use Prim.Native.Nat.{_+_, _*_, _≤_};
 ghost use lib.ListN.{length, take};
@@ -14,27 +14,27 @@ use spec::Refusal;
 use text::counting;
 use text::lines;
 
-// The longest input that is read as a sheet: "input past 8,192 bytes is refused 1".
+// This is the longest input that is read as a sheet: "input past 8,192 bytes is refused 1".
 const LONGEST: usize = 8192;
 
-// The workspace that `kit` lends to both calls.
+// This is the workspace that `kit` lends to both calls.
 const WORDS: usize = 4096;
 
 const FLOATS: usize = 2048;
 
-// The outputs that it lends to the types call.
+// These are the outputs that it lends to the types call.
 const ELEMENTS: usize = 256;
 
 const TYPES: usize = 256;
 
-// The outputs that it lends to the search.
+// These are the outputs that it lends to the search.
 const MATRICES: usize = 1024;
 
 const ROWS: usize = 8192;
 
 const MARKS: usize = 512;
 
-// The longest text: the line that counts the types has at most 27 bytes, a type's 24, and the last line 91.
+// This is the longest text: the line that counts the types has at most 27 bytes, a type's 24, and the last line 91.
 const TEXT: usize = 6262;
 
 // Writes the lines of the n types that the table begins with. Cells have 16 bits, so the buffer has room for these lines and for the last one too.

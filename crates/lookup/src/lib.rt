@@ -1,7 +1,7 @@
-// Finding a point among listed points that are apart: "within EPS, EPS included, on every axis (lowest number taken)", fast for many points.
-// A table guesses the number. A guess that is near the point sought is the lowest near it if it has that point's very bits, because the points
-// are apart. It is the only one near, and so the lowest, if the points are lone, which means that no two of them are within WIDE on every axis.
-// A wrong guess costs only time, so all that is said of the table is that its numbers are numbers of points.
+// This crate finds a point among listed points that are apart: "within EPS, EPS included, on every axis (lowest number taken)", fast for many points.
+// A table guesses the number. A guess that is near the point sought is the lowest near it if it has that point's very bits, because the points are
+// apart. It is the only one near, and so the lowest, if the points are lone, which means that no two of them are within WIDE on every axis. A wrong
+// guess costs only time, so all that is said of the table is that its numbers are numbers of points.
 ghost use mathlib.Core.Path.{_≡_};
 ghost use mathlib.Core.Bool.{true, false};
 ghost use Prim.Native.Nat.{ℕ, _+_, _*_, _≤_, _<_};
@@ -18,20 +18,20 @@ use float::points;
 use float::points::Found;
 use spec::MAX_COUNT;
 
-// How many places the table has, which is twice as many as there can be points.
+// The table has this many places, which is twice as many as there can be points.
 pub const PLACES: usize = 2 * MAX_COUNT;
-// How many places in a row are looked at, from the first one on.
+// This many places in a row are looked at, from the first one on.
 const TRIES: usize = 16;
-// The number that stands in a free place.
+// This is the number that stands in a free place.
 const FREE: u16 = 65535;
 // Fewer points than this are compared one by one, without a guess.
 const FEW: usize = 32;
-// More than twice EPS, so that two points further apart than this on an axis are never both near a third.
+// This is more than twice EPS, so that two points further apart than this on an axis are never both near a third.
 const WIDE: f64 = 0.0000002384185791015625;
 // This is added to a coordinate, so that a zero and the values that rounding turns it into have one exponent.
 const SHIFT: f64 = 3.1415926;
 
-// The first place for a point. Rounding errors change the low bits of a coordinate, so these are dropped, after an offset has been added that
+// Returns the first place for a point. Rounding errors change the low bits of a coordinate, so these are dropped, after an offset has been added that
 // keeps the usual coordinates far from the values at which a higher bit changes.
 fn place(q: [f64; DIMENSION], d: usize) -> usize
     requires { ⌜ d ≤ maxDimension ⌝ }
@@ -64,7 +64,7 @@ fn keep(table: &mut [u16; PLACES], at: usize, k: usize)
     }
 }
 
-// The table of the n points. An empty table, or `lone` always false, would give the same answers and take longer, which no proof can show and
+// Returns the table of the n points. An empty table, or `lone` always false, would give the same answers and take longer, which no proof can show and
 // the benchmark does (tools/bench.sh).
 pub fn places(points: &[f64], d: usize, n: usize) -> [u16; PLACES]
     requires { ⌜ (d ≤ maxDimension) × (n ≤ maxCount) × (n * d ≤ length (now points)) ⌝ }
@@ -80,7 +80,7 @@ pub fn places(points: &[f64], d: usize, n: usize) -> [u16; PLACES]
     table
 }
 
-// Whether a difference is at most WIDE.
+// Tells whether a difference is at most WIDE.
 fn is_small(x: f64) -> bool
     ensures { λ r. ⌜ r ≡ le (absF x) wideF ⌝ }
 {
@@ -90,7 +90,7 @@ fn is_small(x: f64) -> bool
     false
 }
 
-// Whether q is further than WIDE from p on some axis.
+// Tells whether q is further than WIDE from p on some axis.
 fn is_far(p: &[f64], q: [f64; DIMENSION]) -> bool
     requires { ⌜ length (now p) ≤ maxDimension ⌝ }
     ensures { λ r. ⌜ (r ≡ true → within wideF (now (p .entry)) (take (length (now (p .entry))) q) ≡ false) ⌝ }
@@ -106,7 +106,7 @@ fn is_far(p: &[f64], q: [f64; DIMENSION]) -> bool
     false
 }
 
-// Whether no point before point k is within WIDE of it on every axis.
+// Tells whether no point before point k is within WIDE of it on every axis.
 fn is_clear(points: &[f64], d: usize, k: usize) -> bool
     requires { ⌜ (d ≤ maxDimension) × (k * d + d ≤ length (now points)) ⌝ }
     ensures { λ r. ⌜ (r ≡ true → Clear d (now (points .entry)) k k) ⌝ }
@@ -123,7 +123,7 @@ fn is_clear(points: &[f64], d: usize, k: usize) -> bool
     true
 }
 
-// Whether no two of the n points are within WIDE on every axis.
+// Tells whether no two of the n points are within WIDE on every axis.
 pub fn is_lone(points: &[f64], d: usize, n: usize) -> bool
     requires { ⌜ (d ≤ maxDimension) × (n ≤ maxCount) × (n * d ≤ length (now points)) ⌝ }
     ensures { λ r. ⌜ (r ≡ true → Lone (parts n d (now (points .entry)))) ⌝ }
@@ -139,7 +139,7 @@ pub fn is_lone(points: &[f64], d: usize, n: usize) -> bool
     true
 }
 
-// Whether q has the bits of p on every axis.
+// Tells whether q has the bits of p on every axis.
 fn same_bits(p: &[f64], q: [f64; DIMENSION]) -> bool
     requires { ⌜ length (now p) ≤ maxDimension ⌝ }
     ensures { λ r. ⌜ (r ≡ true → now (p .entry) ≡ take (length (now (p .entry))) q) ⌝ }
@@ -155,7 +155,7 @@ fn same_bits(p: &[f64], q: [f64; DIMENSION]) -> bool
     true
 }
 
-// Whether point k is near q and is known to be the lowest that is, because the points are lone or because it is q itself.
+// Tells whether point k is near q and is known to be the lowest that is, because the points are lone or because it is q itself.
 fn is_hit(points: &[f64], d: usize, k: usize, lone: bool, q: [f64; DIMENSION]) -> bool
     requires { ⌜ (1 ≤ d) × (d ≤ maxDimension) × (k * d + d ≤ length (now points)) ⌝ }
     ensures { λ r. ⌜ (r ≡ true → Hit lone (take d (drop (k * d) (now (points .entry)))) (take d q)) ⌝ }
@@ -173,7 +173,7 @@ fn wide(x: u16) -> usize {
     x as usize
 }
 
-// The point near q, if the table tells it. `Nothing` says only that the table does not tell it.
+// Returns the point near q, if the table tells it. `Nothing` says only that the table does not tell it.
 fn guess(
     points: &[f64],
     d: usize,
@@ -201,7 +201,7 @@ fn guess(
     Found::Nothing
 }
 
-// The lowest of the n points that is near q.
+// Returns the lowest of the n points that is near q.
 pub fn found(
     points: &[f64],
     d: usize,

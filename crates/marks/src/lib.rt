@@ -1,5 +1,5 @@
-// Section 6's mark. It says whether a row, which gives the vertex that each vertex goes to, carries every element of the solid in lent words to
-// an element of its rank and distance class, subs exactly onto subs. An element's image is found by the images of its subs, one rank after
+// This crate has section 6's mark. It says whether a row, which gives the vertex that each vertex goes to, carries every element of the solid in lent
+// words to an element of its rank and distance class, subs exactly onto subs. An element's image is found by the images of its subs, one rank after
 // another, so that no vertex set has to be made.
 ghost use mathlib.Core.Path.{_≡_};
 ghost use mathlib.Core.Bool.{true, false};
@@ -24,10 +24,10 @@ use ranked::Shape;
 use ranked::lists;
 use spec::MAX_COUNT;
 
-// The mark of a confirmed row: "The mark (added) is confirmed, 1".
+// This is the mark of a confirmed row: "The mark (added) is confirmed, 1".
 const CONFIRMED: u8 = 1;
 
-// The number in cell k.
+// Returns the number in cell k.
 fn cell(cells: &[u16], k: usize) -> usize
     requires { ⌜ k < length (now cells) ⌝ }
     ensures { λ x. ⌜ x ≡ getD (now (cells .entry)) k 0 ⌝ }
@@ -35,7 +35,7 @@ fn cell(cells: &[u16], k: usize) -> usize
     cells[k] as usize
 }
 
-// Whether the row holds only numbers of vertices, and none of them twice. A rank has at most 2,048 elements.
+// Tells whether the row holds only numbers of vertices, and none of them twice. A rank has at most 2,048 elements.
 fn is_permutation(row: &[u16]) -> bool
     requires { ⌜ length (now row) ≤ maxCount ⌝ }
     ensures { λ res. ⌜ res ≡ permutes (now (row .entry)) ⌝ }
@@ -57,7 +57,7 @@ fn is_permutation(row: &[u16]) -> bool
     true
 }
 
-// Whether each entry f of the list at word i goes to an entry of the list at word j. Cell base + f says where f goes.
+// Tells whether each entry f of the list at word i goes to an entry of the list at word j. Cell base + f says where f goes.
 fn lands(w: &[u32], goes: &[u16], base: usize, i: usize, j: usize) -> bool
     requires { ⌜ Lies (now w) i × Lies (now w) j ⌝ }
     requires { ⌜ ((f : ℕ) → In f (listAt (now w) i) → base + f < length (now goes)) ⌝ }
@@ -76,7 +76,7 @@ fn lands(w: &[u32], goes: &[u16], base: usize, i: usize, j: usize) -> bool
     true
 }
 
-// Whether the list at word i goes exactly onto the list at word j.
+// Tells whether the list at word i goes exactly onto the list at word j.
 fn is_onto(w: &[u32], goes: &[u16], base: usize, i: usize, j: usize) -> bool
     requires { ⌜ Lies (now w) i × Lies (now w) j ⌝ }
     requires { ⌜ ((f : ℕ) → In f (listAt (now w) i) → base + f < length (now goes)) ⌝ }
@@ -88,7 +88,7 @@ fn is_onto(w: &[u32], goes: &[u16], base: usize, i: usize, j: usize) -> bool
     lands(w, goes, base, i, j)
 }
 
-// The first entry g of the list at word j such that the list at word i goes exactly onto the list at word up + 4 * g.
+// Returns the first entry g of the list at word j such that the list at word i goes exactly onto the list at word up + 4 * g.
 fn first_onto(w: &[u32], goes: &[u16], base: usize, i: usize, j: usize, up: usize) -> Found
     requires { ⌜ Lies (now w) i × Lies (now w) j × Each (now w) j up ⌝ }
     requires { ⌜ ((f : ℕ) → In f (listAt (now w) i) → base + f < length (now goes)) ⌝ }
@@ -108,7 +108,7 @@ fn first_onto(w: &[u32], goes: &[u16], base: usize, i: usize, j: usize, up: usiz
     Found::Nothing
 }
 
-// Where element e of rank r + 1 goes, by where the elements of rank r go.
+// Tells where element e of rank r + 1 goes, by where the elements of rank r go.
 fn rise(w: &[u32], sh: Shape, goes: &[u16], r: usize, e: usize) -> Found
     requires { ⌜ Held sh (now w) ⌝ }
     requires { ⌜ (suc r ≤ sh .rank) × (e < sizeAt sh (suc r)) × (total sh ≤ length (now goes)) ⌝ }
@@ -125,7 +125,7 @@ fn rise(w: &[u32], sh: Shape, goes: &[u16], r: usize, e: usize) -> Found
     first_onto(w, goes, base, i, j, 4 * up)
 }
 
-// Where element e of rank r goes. A vertex goes where the row says, and any other element where its subs go.
+// Tells where element e of rank r goes. A vertex goes where the row says, and any other element where its subs go.
 fn reach(w: &[u32], sh: Shape, row: &[u16], goes: &[u16], r: usize, e: usize) -> Found
     requires { ⌜ Row sh (now w) (now row) ⌝ }
     requires { ⌜ Rank sh (now w) (now row) (now goes) r × (e < sizeAt sh r) ⌝ }
@@ -137,7 +137,8 @@ fn reach(w: &[u32], sh: Shape, row: &[u16], goes: &[u16], r: usize, e: usize) ->
     rise(w, sh, goes, r - 1, e)
 }
 
-// Where the class of element e of rank r stands in the floats of a solid with v vertices. That is behind the coordinates and the list of distances.
+// Tells where the class of element e of rank r stands in the floats of a solid with v vertices. That is behind the coordinates and the list of
+// distances.
 fn class_cell(sh: Shape, v: usize, r: usize, e: usize) -> usize
     requires { ⌜ (r < 7) × (sh .rank < 7) × (firstAt sh 1 ≤ firstAt sh (sh .rank)) × (firstAt sh 1 ≤ firstAt sh r) ⌝ }
     requires { ⌜ v * sh .dimension + proper sh + (before sh r + e) < 2 ^ 64 ⌝ }
@@ -149,7 +150,7 @@ fn class_cell(sh: Shape, v: usize, r: usize, e: usize) -> usize
     v * d + (first[rank] - first[1]) + (first[r] - first[1] + e)
 }
 
-// Whether elements e and g of rank r share a distance class, in a solid with v vertices.
+// Tells whether elements e and g of rank r share a distance class, in a solid with v vertices.
 fn one_class(sh: Shape, floats: &[f64], v: usize, r: usize, e: usize, g: usize) -> bool
     requires { ⌜ (r < 7) × (sh .rank < 7) × (firstAt sh 1 ≤ firstAt sh (sh .rank)) × (firstAt sh 1 ≤ firstAt sh r) ⌝ }
     requires { ⌜ (v * sh .dimension + proper sh + (before sh r + e) < length (now floats))
@@ -162,7 +163,7 @@ fn one_class(sh: Shape, floats: &[f64], v: usize, r: usize, e: usize, g: usize) 
     classes::same_class(floats[a], floats[b])
 }
 
-// Where element e of rank r goes if it is carried, which is to an element of its class.
+// Tells where element e of rank r goes if it is carried, which is to an element of its class.
 fn image_of(
     w: &[u32],
     sh: Shape,
@@ -185,7 +186,7 @@ fn image_of(
     Found::Nothing
 }
 
-// Whether every element of rank r, which has n elements, is carried. If so, the cells say where each goes.
+// Tells whether every element of rank r, which has n elements, is carried. If so, the cells say where each goes.
 fn carry_rank(
     w: &[u32],
     sh: Shape,
@@ -214,7 +215,7 @@ fn carry_rank(
     true
 }
 
-// Whether every proper element is carried.
+// Tells whether every proper element is carried.
 fn carry_all(w: &[u32], sh: Shape, floats: &[f64], row: &[u16], goes: &mut [u16]) -> bool
     requires { ⌜ Row sh (now w) (now row) × ClassesIn sh (now w) (now floats) × (total sh ≤ length (now goes)) ⌝ }
     ensures { λ res. ⌜ res
@@ -234,7 +235,7 @@ fn carry_all(w: &[u32], sh: Shape, floats: &[f64], row: &[u16], goes: &mut [u16]
     true
 }
 
-// The mark of a row, which is 1 if the row is confirmed and 0 if not. `apart` says whether no two elements of a rank have one vertex set. The
+// Returns the mark of a row, which is 1 if the row is confirmed and 0 if not. `apart` says whether no two elements of a rank have one vertex set. The
 // cells of `goes`, one for each element, are free before and after.
 pub fn mark(w: &[u32], sh: Shape, floats: &[f64], apart: bool, row: &[u16], goes: &mut [u16]) -> u8
     requires { ⌜ Held sh (now w) × ClassesIn sh (now w) (now floats) ⌝ }

@@ -1,5 +1,5 @@
-// The marks of a list of rows. A row that is the product of two confirmed rows is confirmed, because the symmetries of a solid are a group. So
-// nearly every row of a search is settled by comparing it with a product, and only the others are followed element by element.
+// This crate gives the marks of a list of rows. A row that is the product of two confirmed rows is confirmed, because the symmetries of a solid are a
+// group. So nearly every row of a search is settled by comparing it with a product, and only the others are followed element by element.
 use float::points::Found;
 use marks::mark;
 use ranked::Shape;
@@ -15,23 +15,23 @@ ghost use Rattle.marks.specs.Rows.{concrete};
 ghost use Rattle.products.specs.Products.{composed};
 ghost use Rattle.products.specs.Marking.{markIn, Markable, rowAt, Factored, Below};
 
-// How many places the table has.
+// The table has this many places.
 const PLACES: usize = 16384;
-// How many places in a row are looked at, from the first one on.
+// This many places in a row are looked at, from the first one on.
 const TRIES: usize = 4;
-// The number that stands in a free place or slot.
+// This is the number that stands in a free place or slot.
 const FREE: u16 = 65535;
-// How many of a row's first entries decide its place.
+// This many of a row's first entries decide its place.
 const ENTRIES: usize = 8;
-// How many slots there are. Each but slot 0 has room for one generator; slot 0 holds the places of a row's own first entries.
+// There are this many slots. Each but slot 0 has room for one generator; slot 0 holds the places of a row's own first entries.
 const SLOTS: usize = 16;
-// How many cells the slots have. A slot holds its generator's number and then the places.
+// The slots have this many cells. A slot holds its generator's number and then the places.
 const CELLS: usize = SLOTS * (ENTRIES + 1);
 
 // For fewer rows than this no table is made, since it would cost more than it saves.
 const FEW: usize = 16;
 
-// Row k, handed back as the part of the slice that holds it.
+// Returns row k, handed back as the part of the slice that holds it.
 fn row_at(rows: &[u16], v: usize, k: usize) -> &[u16]
     requires { ⌜ k * v + v ≤ length (now rows) ⌝ }
     ensures { λ r. ⌜ now r ≡ rowAt v (now (rows .entry)) k ⌝ }
@@ -51,7 +51,7 @@ fn wide(x: u16) -> usize
     x as usize
 }
 
-// The entry at p, or 0 where p is past the end.
+// Returns the entry at p, or 0 where p is past the end.
 fn entry(row: &[u16], p: usize) -> u16 {
     if p < row.len() {
         return row[p];
@@ -67,7 +67,7 @@ fn mixed(h: u64, x: u16) -> u64
     t * 0x9e37_79b1 / 0x10_0000
 }
 
-// The first place for the row whose first entries are those that this row has where slot j says.
+// Returns the first place for the row whose first entries are those that this row has where slot j says.
 fn place(row: &[u16], cells: &[u16; CELLS], j: usize) -> usize
     requires { ⌜ j < 16 ⌝ }
     ensures { λ r. ⌜ r < 16384 ⌝ }
@@ -111,7 +111,7 @@ fn keep(v: usize, rows: &[u16], m: u8, k: usize, cells: &[u16; CELLS], guesses: 
     store(guesses, at, k);
 }
 
-// The slots before there is any generator.
+// Returns the slots before there is any generator.
 fn none() -> [u16; CELLS] {
     let mut cells = [FREE; CELLS];
     let mut i: usize = 0;
@@ -122,7 +122,7 @@ fn none() -> [u16; CELLS] {
     cells
 }
 
-// The first free slot after slot 0.
+// Returns the first free slot after slot 0.
 fn free_slot(cells: &[u16; CELLS]) -> Found
     ensures { λ r. ⌜ Below 16 r ⌝ }
 {
@@ -171,7 +171,7 @@ fn join(v: usize, rows: &[u16], m: u8, k: usize, cells: &mut [u16; CELLS])
     note(row_at(rows, v, k), cells, j);
 }
 
-// Whether the row is the product of g and then a.
+// Tells whether the row is the product of g and then a.
 fn is_product(row: &[u16], a: &[u16], g: &[u16]) -> bool
     requires { ⌜ (length (now row) ≡ length (now g)) × (length (now a) ≡ length (now g)) ⌝ }
     ensures { λ r. ⌜ (r ≡ true → now (row .entry) ≡ composed (now (a .entry)) (now (g .entry))) ⌝ }
@@ -191,7 +191,7 @@ fn is_product(row: &[u16], a: &[u16], g: &[u16]) -> bool
     true
 }
 
-// Whether row k is the product of row g and then row a, both of which were confirmed before it.
+// Tells whether row k is the product of row g and then row a, both of which were confirmed before it.
 fn is_factored(v: usize, rows: &[u16], marks: &[u8], k: usize, g: usize, a: usize) -> bool
     requires { ⌜ (k * v + v ≤ length (now rows)) × (k ≤ length (now marks)) ⌝ }
     ensures { λ r. ⌜ (r ≡ true → Factored v (now (rows .entry)) (now (marks .entry)) k) ⌝ }
@@ -211,7 +211,7 @@ fn is_factored(v: usize, rows: &[u16], marks: &[u8], k: usize, g: usize, a: usiz
     is_product(row_at(rows, v, k), row_at(rows, v, a), row_at(rows, v, g))
 }
 
-// Whether row k is found to be the product of the generator of slot j and then a row of the table.
+// Tells whether row k is found to be the product of the generator of slot j and then a row of the table.
 fn is_met(
     v: usize,
     rows: &[u16],
@@ -237,7 +237,7 @@ fn is_met(
     false
 }
 
-// Whether row k is found to be a product of two rows that were confirmed before it.
+// Tells whether row k is found to be a product of two rows that were confirmed before it.
 fn is_known(
     v: usize,
     rows: &[u16],
@@ -262,7 +262,7 @@ fn is_known(
     false
 }
 
-// The mark of row k. `done` are the marks of the rows before it.
+// Returns the mark of row k. `done` are the marks of the rows before it.
 fn mark_next(
     w: &[u32],
     sh: Shape,

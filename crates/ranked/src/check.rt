@@ -1,4 +1,5 @@
-// Refusals 5, "loose", and 6, "mitre", of a solid that lies in lent words: the sups that lie beside the lists say what an element is in.
+// This module judges refusals 5, "loose", and 6, "mitre", of a solid that lies in lent words: the sups that lie beside the lists say what an element
+// is in.
 use crate::Shape;
 use crate::lists::count_at;
 use crate::lists::entry_at;

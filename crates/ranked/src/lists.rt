@@ -1,4 +1,4 @@
-// Lists at offsets in lent words, read one word at a time, and the subs of the solid that they hold.
+// This module reads lists at offsets in lent words, one word at a time, and the subs of the solid that they hold.
 use crate::Shape;
 ghost use mathlib.Core.Path.{_≡_};
 ghost use Prim.Native.Nat.{_+_, _*_, _^_, _≤_, _<_};
@@ -9,7 +9,7 @@ ghost use Rattle.spec.specs.Types.{subs};
 ghost use Rattle.ranked.specs.Words.{sizeAt, listAt, absIn, Held};
 ghost use Rattle.ranked.specs.Reading.{Lies};
 
-// The word at p.
+// Returns the word at p.
 pub fn get(w: &[u32], p: usize) -> usize
     requires { ⌜ p < length (now w) ⌝ }
     ensures { λ r. ⌜ r ≡ getD (now (w .entry)) p 0 ⌝ }
@@ -17,7 +17,7 @@ pub fn get(w: &[u32], p: usize) -> usize
     w[p] as usize
 }
 
-// How many entries the list at word i has.
+// Counts the entries of the list at word i.
 pub fn count_at(w: &[u32], i: usize) -> usize
     requires { ⌜ Lies (now w) i ⌝ }
     ensures { λ r. ⌜ r ≡ length (listAt (now (w .entry)) i) ⌝ }
@@ -25,7 +25,7 @@ pub fn count_at(w: &[u32], i: usize) -> usize
     get(w, i + 1)
 }
 
-// Entry k of the list at word i.
+// Returns entry k of the list at word i.
 pub fn entry_at(w: &[u32], i: usize, k: usize) -> usize
     requires { ⌜ Lies (now w) i ⌝ }
     requires { ⌜ k < length (listAt (now w) i) ⌝ }
@@ -35,7 +35,7 @@ pub fn entry_at(w: &[u32], i: usize, k: usize) -> usize
     get(w, start + k)
 }
 
-// The word that says where the list of element e's subs starts, in a rank that starts at `first`; the next word is its length.
+// Returns the word that says where the list of element e's subs starts, in a rank that starts at `first`; the next word is its length.
 pub fn subs_at(first: usize, e: usize) -> usize
     requires { ⌜ 4 * (first + e) + 2 < 2 ^ 64 ⌝ }
     ensures { λ r. ⌜ r ≡ 4 * (first + e) ⌝ }
@@ -43,7 +43,7 @@ pub fn subs_at(first: usize, e: usize) -> usize
     4 * (first + e)
 }
 
-// The same word for the list of its sups.
+// Returns the same word for the list of its sups.
 pub fn sups_at(first: usize, e: usize) -> usize
     requires { ⌜ 4 * (first + e) + 2 < 2 ^ 64 ⌝ }
     ensures { λ r. ⌜ r ≡ 4 * (first + e) + 2 ⌝ }
@@ -51,7 +51,7 @@ pub fn sups_at(first: usize, e: usize) -> usize
     4 * (first + e) + 2
 }
 
-// Whether the list at word i holds x.
+// Tells whether the list at word i holds x.
 pub fn holds_at(w: &[u32], i: usize, x: usize) -> bool
     requires { ⌜ Lies (now w) i ⌝ }
     ensures { λ r. ⌜ r ≡ holds eqb x (listAt (now (w .entry)) i) ⌝ }
@@ -67,7 +67,7 @@ pub fn holds_at(w: &[u32], i: usize, x: usize) -> bool
     false
 }
 
-// Sub k of element e of rank r.
+// Returns sub k of element e of rank r.
 pub fn sub(w: &[u32], sh: Shape, r: usize, e: usize, k: usize) -> usize
     requires { ⌜ Held sh (now w) ⌝ }
     requires { ⌜ (r ≤ sh .rank) × (e < sizeAt sh r) × (k < length (subs (absIn sh (now w)) r e)) ⌝ }

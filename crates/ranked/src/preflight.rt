@@ -1,4 +1,4 @@
-// Refusals 1 to 7 of a sheet. "Fields are judged as they come .., then 1 for the end, 7, 5, 6."
+// This module judges refusals 1 to 7 of a sheet. "Fields are judged as they come .., then 1 for the end, 7, 5, 6."
 use crate::STARTS;
 use crate::Shape;
 use crate::check::is_bound;
@@ -41,7 +41,7 @@ fn unready(why: Refusal) -> Ready
     }
 }
 
-// Whether the workspace has room for a solid of so many proper elements and list entries. If it has not, refusal 7 is answered.
+// Tells whether the workspace has room for a solid of so many proper elements and list entries. If it has not, refusal 7 is answered.
 fn is_roomy(elements: usize, entries: usize, words: usize, floats: usize) -> bool
     requires { ⌜ (elements < 2 ^ 32) × (entries < 2 ^ 32) ⌝ }
     ensures { λ r. ⌜ r ≡ leb (16 * (elements + entries + 4)) words && leb (8 * (elements + 8)) floats ⌝ }

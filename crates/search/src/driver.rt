@@ -33,7 +33,8 @@ ghost use Rattle.symmetry.specs.Listing.{answerOf};
 ghost use Rattle.symmetry.specs.Searching.{Parted};
 ghost use Rattle.search.specs.Reading.{callOf};
 
-// The answer once the members are listed: refusal 13 where they are too many for the outputs, 12 where there is none, and otherwise their number.
+// Returns the answer once the members are listed: refusal 13 where they are too many for the outputs, 12 where there is none, and otherwise their
+// number.
 fn answer_of(l: Listing) -> Answer
     ensures { λ r. ⌜ r ≡ answerOf (l .short) (l .count) ⌝ }
 {
@@ -47,7 +48,7 @@ fn answer_of(l: Listing) -> Answer
     Answer::Done(n)
 }
 
-// From the inverse on, where only refusals 12 and 13 are left: the members are listed, each with its matrix and row, and then their marks are
+// Goes on from the inverse, where only refusals 12 and 13 are left: the members are listed, each with its matrix and row, and then their marks are
 // written, for which the facets go back to their places.
 fn from_inverse(
     words: &mut [u32],
@@ -98,8 +99,8 @@ fn from_inverse(
     answer_of(l)
 }
 
-// From the judgement behind refusal 11 on: the first columns need an inverse whose entries are finite. The words hold the exchanged solid and its
-// types.
+// Goes on from the judgement behind refusal 11: the first columns need an inverse whose entries are finite. The words hold the exchanged solid and
+// its types.
 fn from11(
     words: &mut [u32],
     low: usize,
@@ -140,7 +141,7 @@ fn from11(
     )
 }
 
-// From the judgement behind refusal 15 on: the types have to settle. The words hold the solid in which facet f and facet 0 have changed places.
+// Goes on from the judgement behind refusal 15: the types have to settle. The words hold the solid in which facet f and facet 0 have changed places.
 fn from15(
     words: &mut [u32],
     low: usize,
@@ -166,7 +167,7 @@ fn from15(
     }
 }
 
-// From the judgement behind refusal 10 on: some facet has to be far from the origin, and the first such facet changes places with facet 0.
+// Goes on from the judgement behind refusal 10: some facet has to be far from the origin, and the first such facet changes places with facet 0.
 fn from10(
     words: &mut [u32],
     low: usize,
@@ -194,7 +195,7 @@ fn from10(
     }
 }
 
-// From the judgement behind refusal 9 on: no two vertices may be within EPS of each other on every axis.
+// Goes on from the judgement behind refusal 9: no two vertices may be within EPS of each other on every axis.
 fn from9(
     words: &mut [u32],
     low: usize,
@@ -220,7 +221,7 @@ fn from9(
     Answer::Refused(Refusal::DoubleCorner, 0)
 }
 
-// From the judgement behind refusal 8 on: the solid that preflight left in the workspace needs R at least 2 and D = R−1.
+// Goes on from the judgement behind refusal 8: the solid that preflight left in the workspace needs R at least 2 and D = R−1.
 fn from8(
     words: &mut [u32],
     low: usize,

@@ -1,4 +1,4 @@
-// The tests behind refusals 8, 10 and 11.
+// This module has the tests behind refusals 8, 10 and 11.
 use candidates::all_finite;
 use candidates::columns;
 use distances::element_distance;
@@ -23,13 +23,13 @@ ghost use Rattle.ranked.specs.Words.{sizeAt, absIn, Held};
 ghost use Rattle.distances.specs.Solids.{solidOn, coordinates};
 ghost use Rattle.search.specs.Reading.{farOf, regular};
 
-// The first facet that is further than EPS from the origin, or the answer that there is none.
+// This is the first facet that is further than EPS from the origin, or the answer that there is none.
 pub enum Far {
     Facet(usize),
     Nothing,
 }
 
-// Whether refusal 8, "search with R < 2 or D ≠ R−1", does not apply.
+// Tells whether refusal 8, "search with R < 2 or D ≠ R−1", does not apply.
 pub fn is_full(sh: Shape) -> bool
     ensures { λ r. ⌜ r ≡ leb 2 (sh .rank) && eqb (sh .dimension) (sh .rank - 1) ⌝ }
 {
@@ -39,7 +39,7 @@ pub fn is_full(sh: Shape) -> bool
     false
 }
 
-// "The first facet (rank R−1) whose hull is further than EPS from the origin". The raw distance decides, not the listed one.
+// Finds "the first facet (rank R−1) whose hull is further than EPS from the origin". The raw distance decides, not the listed one.
 pub fn first_far(w: &[u32], sh: Shape, points: &[f64]) -> Far
     requires { ⌜ Held sh (now w) ⌝ }
     requires { ⌜ 2 ≤ sh .rank ⌝ }
@@ -59,7 +59,7 @@ pub fn first_far(w: &[u32], sh: Shape, points: &[f64]) -> Far
     Far::Nothing
 }
 
-// The inverse of the first flag's columns. `found` says whether there is one.
+// Returns the inverse of the first flag's columns. `found` says whether there is one.
 pub fn first_inverse(
     w: &[u32],
     sh: Shape,
@@ -78,7 +78,7 @@ pub fn first_inverse(
     matrix::inverse(columns(w, sh, points, first), d, found)
 }
 
-// Whether refusal 11, "first columns singular, or a non-finite inverse", does not apply.
+// Tells whether refusal 11, "first columns singular, or a non-finite inverse", does not apply.
 pub fn is_regular(found: bool, inverse: [[f64; DIMENSION]; DIMENSION], d: usize) -> bool
     requires { ⌜ d ≤ maxDimension ⌝ }
     ensures { λ b. ⌜ b ≡ regular (ifRegular found (corner d inverse)) ⌝ }

@@ -1,5 +1,5 @@
-// Section 6's calls (conc/symmetry.rs: `get_symmetry_group`, `get_rotation_group`): a sheet's symmetries, each with its matrix, its row and its
-// mark.
+// This crate has section 6's calls (conc/symmetry.rs: `get_symmetry_group`, `get_rotation_group`): a sheet's symmetries, each with its matrix, its
+// row and its mark.
 use spec::Answer;
 ghost use mathlib.Core.Path.{_≡_};
 ghost use lib.ListN.{length};

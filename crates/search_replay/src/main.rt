@@ -13,7 +13,7 @@ ghost use lib.ListN.{length};
 use float::bits;
 use spec::Answer;
 
-// The longest sheet, the largest workspace and the longest outputs that a record may ask for.
+// These are the longest sheet, the largest workspace and the longest outputs that a record may ask for.
 const BYTES: usize = 8192;
 
 const WORDS: usize = 16384;
@@ -30,7 +30,7 @@ const BASE: u64 = 1_000_003;
 
 const PRIME: u64 = 17_592_186_044_399;
 
-// What stands at the end of the input: no record may ask for so much.
+// This is what stands at the end of the input: no record may ask for so much.
 const END: u64 = 0xffff_ffff_ffff_fffe;
 
 fn wide(x: u8) -> u64

@@ -8,8 +8,8 @@ ghost use Rattle.spec.specs.Lists.{place};
 ghost use Rattle.geometry.specs.Classes.{sameClass};
 ghost use Rattle.settling.specs.Start.{repCells, Fitting, ByClass};
 
-// The place of the first element with the class x among the m elements whose numbers the words from `reps` on hold, or m where none has it. The
-// class of element g is cell from + g.
+// Returns the place of the first element with the class x among the m elements whose numbers the words from `reps` on hold, or m where none has it.
+// The class of element g is cell from + g.
 fn find_class(words: &[u32], reps: usize, m: usize, cells: &[f64], from: usize, x: f64) -> usize
     requires { ⌜ reps + m ≤ length (now words) ⌝ }
     requires { ⌜ ((j : ℕ) → j < m → from + getD (now words) (reps + j) 0 < length (now cells)) ⌝ }

@@ -9,13 +9,14 @@ ghost use Rattle.ranked.specs.Words.{Held};
 ghost use Rattle.distances.specs.Solids.{proper};
 ghost use Rattle.settling.specs.Settle.{Started, Settles};
 
-// How the sweeps ended: one of them left the number of types unchanged, or all that are allowed were done and the types were still changing.
+// This says how the sweeps ended: one of them left the number of types unchanged, or all that are allowed were done and the types were still
+// changing.
 pub enum Ending {
     Settled,
     Changing,
 }
 
-// The number E of document 01: "E counts proper elements".
+// Returns the number E of document 01: "E counts proper elements".
 fn proper_count(sh: Shape) -> usize
     requires { ⌜ ((w : List ℕ) × Held sh w) ⌝ }
     ensures { λ n. ⌜ n ≡ proper sh ⌝ }
@@ -28,8 +29,8 @@ fn proper_count(sh: Shape) -> usize
     first[rank] - first[1]
 }
 
-// Sweeps from the start until one leaves the number of types unchanged. If they are still changing, that is refusal 15, "E + 2 sweeps done, still
-// changing".
+// Goes on with sweeps from the start until one leaves the number of types unchanged. If they are still changing, that is refusal 15, "E + 2 sweeps
+// done, still changing".
 pub fn settle(words: &mut [u32], low: usize, sh: Shape) -> Ending
     requires { ⌜ Started sh low (now words) ⌝ }
     ensures { λ r. ⌜ Settles sh low (now (words .entry)) (now (words .exit)) r ⌝ }

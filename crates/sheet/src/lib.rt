@@ -1,4 +1,4 @@
-// Section 2's sheet: this crate reads its bits and judges refusals 1 to 4 in one pass, which uses no workspace.
+// This crate reads the bits of section 2's sheet and judges refusals 1 to 4 in one pass, which uses no workspace.
 ghost use mathlib.Core.Path.{_≡_};
 ghost use Prim.Native.Nat.{ℕ, _+_, _-_, _*_, _/_, _^_, _≤_, _<_};
 ghost use lib.ListN.{length, getD, take};
@@ -17,11 +17,11 @@ use spec::MAX_ENTRIES;
 use spec::MAX_RANK;
 use spec::Refusal;
 
-// The greatest number of proper ranks that a solid can have.
+// This is the greatest number of proper ranks that a solid can have.
 pub const PROPER: usize = MAX_RANK - 1;
 
-// What a sheet says beside its coordinates and lists: R, D, the counts of ranks 1 to R - 1 and zeros after them, the sum of the counts (E) and
-// the number of list entries (I).
+// This is what a sheet says beside its coordinates and lists: R, D, the counts of ranks 1 to R - 1 and zeros after them, the sum of the counts (E)
+// and the number of list entries (I).
 pub struct Header {
     pub rank: usize,
     pub dimension: usize,
@@ -41,20 +41,20 @@ pub struct Judgement {
     pub header: Header,
 }
 
-// Where a reading ends: the bit at which the next field starts, or a refusal.
+// This says where a reading ends: the bit at which the next field starts, or a refusal.
 enum Place {
     At(usize),
     Refused(Refusal),
 }
 
-// Where the reading of the counts ends, with the counts read and their sum; these are zeros where the sheet is refused.
+// This says where the reading of the counts ends, with the counts read and their sum; these are zeros where the sheet is refused.
 struct Counted {
     place: Place,
     counts: [usize; PROPER],
     elements: usize,
 }
 
-// Where the reading of lists ends, with the number of their entries.
+// This says where the reading of lists ends, with the number of their entries.
 enum Listed {
     At(usize, usize),
     Refused(Refusal),
@@ -98,7 +98,7 @@ fn on_board(pattern: u64) -> bool
     pattern % 0x8000_0000_0000_0000 <= 0x4130_0000_0000_0000
 }
 
-// The result of reading counts where the sheet is refused.
+// Returns the result of reading counts where the sheet is refused.
 fn uncounted(why: Refusal) -> Counted
     ensures { λ r. ⌜ r ≡ countedOf (judged.refused why) ⌝ }
 {
@@ -315,7 +315,7 @@ fn body(
     }
 }
 
-// The judgement where a sheet is refused.
+// Returns the judgement where a sheet is refused.
 fn refused(why: Refusal) -> Judgement
     ensures { λ r. ⌜ r ≡ judgementOf (judged.refused why) ⌝ }
 {

@@ -3,7 +3,8 @@
 // on the largest sheets (tools/make_largest.py). In the gate it runs once, on the sheet that has every count at its limit.
 use sheet::Verdict;
 
-// Room for the longest sheet there is, and the workspace of the largest solid: 16 * (8,192 + 24,576 + 4) words and 8 * (8,192 + 8) floats.
+// There is room for the longest sheet there is, and for the workspace of the largest solid: 16 * (8,192 + 24,576 + 4) words and 8 * (8,192 + 8)
+// floats.
 const BYTES: usize = 131072;
 
 const WORDS: usize = 524352;

@@ -1,9 +1,9 @@
-// Replays stored sheets: reads records of a length in four bytes, highest first, and a sheet of that length, and writes the number of its
-// refusal among 1 to 7, or 0 where it is accepted, a line each. tools/make_sheets.py made stdin and stdout.
+// Replays stored sheets: reads records of a length in four bytes, highest first, and a sheet of that length, and writes a line for
+// each with the number of its refusal among 1 to 7, or 0 where it is accepted. tools/make_sheets.py made stdin and stdout.
 ghost use Prim.Native.Nat.{_<_, _^_};
 use sheet::Verdict;
 
-// The length of the longest sheet, and the sizes of the lent workspace.
+// These are the length of the longest sheet, and the sizes of the lent workspace.
 const BYTES: usize = 65536;
 
 const WORDS: usize = 65536;

@@ -1,9 +1,9 @@
-// What a public call answers: document 01's table of preflight answers as an enum. The rest of this crate consists of definitions (specs/) and of theorems
-// about them (proofs/).
+// This crate says what a public call answers: document 01's table of preflight answers as an enum. The rest of this crate consists of definitions
+// (specs/) and of theorems about them (proofs/).
 ghost use mathlib.Core.Path.{_≡_};
 ghost use Rattle.spec.specs.Refusal.{number};
 
-// Section 2's limits as the programs have them. specs/Limits.antt has them for the definitions.
+// These are section 2's limits as the programs have them. specs/Limits.antt has them for the definitions.
 pub const MAX_RANK: usize = 5;
 
 pub const MAX_DIMENSION: usize = 4;
@@ -12,7 +12,7 @@ pub const MAX_COUNT: usize = 2048;
 
 pub const MAX_ENTRIES: usize = 8192;
 
-// A refusal, named by its word in the table.
+// A refusal is named by its word in the table.
 pub enum Refusal {
     CutSheet,
     Format,
@@ -31,15 +31,15 @@ pub enum Refusal {
     Unsettled,
 }
 
-// Either the call is done, and the number says how many types, members or copies there are; or it is refused, and the number says how many members or points
-// were kept.
+// Either the call is done, and the number says how many types, members or copies there are; or it is refused, and the number says how many
+// members or points were kept.
 pub enum Answer {
     Done(usize),
     Refused(Refusal, usize),
 }
 
 impl Refusal {
-    // The refusal's number in the table.
+    // Returns the refusal's number in the table.
     pub fn number(self) -> u32
         ensures { λ r. ⌜ r ≡ number self ⌝ }
     {

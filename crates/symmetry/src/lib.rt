@@ -1,4 +1,5 @@
-// Section 6 of document 01: the members of a solid in lent words, flag by flag (conc/symmetry.rs). The calls are in crate `search`.
+// This crate has, of section 6 of document 01, the members of a solid in lent words, flag by flag (conc/symmetry.rs). The calls are in crate
+// `search`.
 
 pub mod listing;
 mod writing;

@@ -1,4 +1,4 @@
-// Listing the members of a solid, one flag after another.
+// This module lists the members of a solid, one flag after another.
 ghost use mathlib.Core.Path.{_≡_};
 ghost use mathlib.Core.Bool.{true};
 ghost use Prim.Native.Nat.{_≤_};
@@ -33,14 +33,14 @@ use ranked::Shape;
 use spec::MAX_COUNT;
 use vertex_sets::examples::examples_go;
 
-// What trying a flag came to: it gives no member that is listed, its member was written, or there is no room for it.
+// This is what trying a flag came to: it gives no member that is listed, its member was written, or there is no room for it.
 pub enum Tried {
     Skipped,
     Added,
     Short,
 }
 
-// How many members are listed, and whether one more had no room.
+// This says how many members are listed, and whether one more had no room.
 pub struct Listing {
     pub count: usize,
     pub short: bool,
@@ -78,9 +78,9 @@ fn has_room(d: usize, v: usize, floats: usize, entries: usize, left: usize) -> b
     0 < left
 }
 
-// Whether a candidate passes the test that each vertex image is found and that each type's example goes to an element. If so, its row is written.
-// Whether the flag's elements have the first flag's types is tested before (in `try_flag`), so that a flag that fails this is spared its columns and
-// their product.
+// Tells whether a candidate passes the test that each vertex image is found and that each type's example goes to an element. If so, its row is
+// written. Whether the flag's elements have the first flag's types is tested before (in `try_flag`), so that a flag that fails this is spared its
+// columns and their product.
 fn passes(
     words: &[u32],
     low: usize,

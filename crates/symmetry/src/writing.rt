@@ -1,4 +1,4 @@
-// Writing a member's cells to the front of the part of each output that lies after the finished members.
+// This module writes a member's cells to the front of the part of each output that lies after the finished members.
 ghost use mathlib.Core.Path.{_≡_};
 ghost use Prim.Native.Nat.{_*_, _≤_};
 ghost use lib.ListN.{length, take};

@@ -1,4 +1,4 @@
-// Counting what the line of members says.
+// This module counts what the line of members says.
 ghost use mathlib.Core.Path.{_≡_};
 ghost use Prim.Native.Nat.{_*_, _≤_, _<_, _^_};
 ghost use lib.ListN.{length, take};

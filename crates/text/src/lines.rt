@@ -1,4 +1,4 @@
-// The lines that `kit` prints.
+// This module has the lines that `kit` prints.
 ghost use mathlib.Core.Path.{_≡_};
 ghost use Prim.Native.Nat.{_+_, _*_, _≤_, _<_};
 ghost use lib.ListN.{length, getD, take};

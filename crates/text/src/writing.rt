@@ -1,4 +1,4 @@
-// What every line is made of: given bytes, and numbers in decimal.
+// This module puts what every line is made of: given bytes, and numbers in decimal.
 ghost use mathlib.Core.Path.{_≡_};
 ghost use mathlib.Core.List.{_++_};
 ghost use Prim.Native.Nat.{_+_, _≤_, _<_};

@@ -20,8 +20,8 @@ ghost use Rattle.element_types.specs.State.{stateIn, Countable};
 ghost use Rattle.types.specs.Cells.{cellsOf, Listable};
 ghost use Rattle.types.specs.Call.{handedOut};
 
-// The number E of proper elements, which are those from the first vertex on and below the top: "E counts proper elements". Where R = 0 the top stands
-// first, and there are none.
+// Returns the number E of proper elements, which are those from the first vertex on and below the top: "E counts proper elements". Where R = 0 the
+// top stands first, and there are none.
 fn proper_count(sh: Shape) -> usize
     requires { ⌜ sh .rank < 7 ⌝ }
     ensures { λ n. ⌜ n ≡ proper sh ⌝ }

@@ -1,4 +1,4 @@
-// The types call (conc/element_types.rs): a sheet's elements by their types, and the table of the types.
+// This crate has the types call (conc/element_types.rs): a sheet's elements by their types, and the table of the types.
 use ranked::Shape;
 use ranked::preflight::preflight;
 use settling::settled::Ending;

@@ -5,7 +5,7 @@
 ghost use Prim.Native.Nat.{_<_, _^_};
 use spec::Answer;
 
-// The largest lengths that a record may ask for.
+// These are the largest lengths that a record may ask for.
 const BYTES: usize = 8192;
 
 const WORDS: usize = 65536;

@@ -1,4 +1,4 @@
-// The first clause of the mark: "no two elements of a rank have one vertex set".
+// This module has the first clause of the mark: "no two elements of a rank have one vertex set".
 use crate::finding::is_found;
 use crate::printing::print_of;
 use ranked::Shape;

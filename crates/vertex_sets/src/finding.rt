@@ -1,4 +1,4 @@
-// Finding out whether a list of vertices is the vertex set of some element of a rank.
+// This module finds out whether a list of vertices is the vertex set of some element of a rank.
 use crate::printing::print_of;
 use ranked::Shape;
 use ranked::lists::get;

@@ -1,5 +1,5 @@
-// Section 6's vertex sets: whether a list of vertices is some element's, whether two elements have the same set, and whether the types' examples go
-// to elements.
+// This crate has section 6's vertex sets: whether a list of vertices is some element's, whether two elements have the same set, and whether the
+// types' examples go to elements.
 
 pub mod apart;
 pub mod examples;
