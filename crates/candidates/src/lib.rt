@@ -184,7 +184,7 @@ pub fn columns(w: &[u32], sh: Shape, points: &[f64], flag: Flag) -> [[f64; DIMEN
     matrix::from_columns(rows, d)
 }
 
-// "Candidate: columns times the inverse of the first flag's."
+// The candidate is "columns times the inverse of the first flag's".
 pub fn candidate(
     w: &[u32],
     sh: Shape,

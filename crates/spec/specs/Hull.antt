@@ -57,7 +57,7 @@ hullOf d (p ∷ ps) = addAll d (record { offset = p; basis = [] }) ps
 unfoldable pub origin : ℕ → Vector
 origin d = replicate d zeroF
 
--- "Distance: norm of origin − projection of origin."
+-- This is the "norm of origin − projection of origin".
 unfoldable pub distance : ℕ → Hull → Float
 distance d h = norm (rest h (origin d))
 

@@ -62,7 +62,7 @@ pub record Setting : Type 0 where
   pub types : State
   pub inv : Matrix
 
--- "Candidate: columns times the inverse of the first flag's."
+-- The candidate is "columns times the inverse of the first flag's".
 unfoldable pub candidate : Setting → Flag → Matrix
 candidate w F = mulMat (flagColumns (w .searched) F) (w .inv)
 

@@ -125,11 +125,11 @@ module _ (b : List ℕ) where
     more ← lists (d ∷ counts)
     done (ls ∷ more)
 
-  -- The end of the sheet. Refusal 1 comes where "bytes follow, or a filling bit is 1".
+  -- Reads the end of the sheet. Refusal 1 comes where "bytes follow, or a filling bit is 1".
   unfoldable pub end : Reader (Unit {0})
   end i = judge CutSheet (ltb (8 * length b - i) 8 && eqb (field b i (8 * length b - i)) 0) i
 
-  -- The whole sheet: "R, 3 bits; dimension D, 3; for each proper rank its count, 12. Then each vertex's D coordinates .. Then .. each element's
+  -- Reads the whole sheet: "R, 3 bits; dimension D, 3; for each proper rank its count, 12. Then each vertex's D coordinates .. Then .. each element's
   -- list".
   unfoldable pub sheet : Reader Parsed
   sheet = do

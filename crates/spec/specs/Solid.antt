@@ -1,4 +1,4 @@
--- Section 2: the solid that a sheet says, and the preflight answers 7, 5 and 6.
+-- This file has section 2: the solid that a sheet says, and the preflight answers 7, 5 and 6.
 -- Assumes nothing.
 use Prim.Native.Nat.{ℕ, zero, suc, _+_, _-_, _*_}
 use mathlib.Core.Bool.{Bool, true, false, not, _&&_}
@@ -12,12 +12,12 @@ use Rattle.spec.specs.Types.{Solid, top, size, subs, sups, properRanks, 
 use Rattle.spec.specs.Judged.{Judged, _>>=_, _>>_, judge, passed}
 use Rattle.spec.specs.Sheet.{Parsed, readSheet}
 
--- The lists of the proper ranks: "A vertex has the least element as sub", and ranks 2 to R - 1 have the sheet's lists.
+-- These are the lists of the proper ranks: "A vertex has the least element as sub", and ranks 2 to R - 1 have the sheet's lists.
 unfoldable pub properLists : List ℕ → List (List (List ℕ)) → List (List (List ℕ))
 properLists [] lists = []
 properLists (n ∷ counts) lists = replicate n (0 ∷ []) ∷ lists
 
--- The solid with one rank more, which has one element: "the top has all of rank R−1".
+-- This is the solid with one rank more, which has one element: "the top has all of rank R−1".
 unfoldable pub withTop : Solid → Solid
 withTop s = s ++ ((range 0 (size s (top s)) ∷ []) ∷ [])
 
@@ -38,7 +38,7 @@ roomy s words floats = leb (16 * (elements s + entries s + 4)) words && leb (8 *
 unfoldable pub bound : Solid → Bool
 bound s = every (λ r. every (λ e. ltb 0 (length (sups s r e))) (range 0 (size s r))) (range 1 (top s - 2))
 
--- The elements of rank r between g, one rank above, and h, one rank below.
+-- Lists the elements of rank r between g, one rank above, and h, one rank below.
 unfoldable pub between : Solid → ℕ → ℕ → ℕ → List ℕ
 between s r g h = keep (λ f. holds eqb h (subs s r f)) (subs s (suc r) g)
 
@@ -47,13 +47,13 @@ between s r g h = keep (λ f. holds eqb h (subs s r f)) (subs s (suc r) g)
 unfoldable pub diamond : Solid → Bool
 diamond s = every (λ r. every (λ g. every (λ f. every (λ h. eqb (length (between s r g h)) 2) (subs s r f)) (subs s (suc r) g)) (range 0 (size s (suc r)))) (properRanks s)
 
--- A solid together with its vertices' coordinates in D dimensions.
+-- A solid goes together with its vertices' coordinates in D dimensions.
 pub record Concrete : Type 0 where
   pub dimension : ℕ
   pub points : List (List Float)
   pub abs : Solid
 
--- The solid of a sheet that no refusal stops: "then 1 for the end, 7, 5, 6".
+-- This is the solid of a sheet that no refusal stops: "then 1 for the end, 7, 5, 6".
 unfoldable pub preflight : List ℕ → ℕ → ℕ → Judged Concrete
 preflight b words floats = do
   p ← readSheet b

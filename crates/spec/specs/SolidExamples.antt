@@ -1,4 +1,4 @@
--- Solids as lists, evaluated with distance classes that are given by hand: the square, the prism over a triangle, and the two smallest solids.
+-- Solids as lists are evaluated with distance classes that are given by hand: the square, the prism over a triangle, and the two smallest solids.
 -- Assumes nothing.
 use mathlib.Core.Path.{_≡_, refl}
 use mathlib.Core.Bool.{true, false}
@@ -25,7 +25,7 @@ pub square-types : result square alike ≡ some ((0 ∷ []) ∷ (0 ∷ 0 ∷ 0 �
 unfolding result settle sweep sweepSteps play step keys key start startAt typeCount elements properRanks sups subs distinct renumber count holds eqList range keep sum without place
 square-types = refl
 
--- The square's eight flags, in which each edge's two vertices come in turn.
+-- These are the square's eight flags, in which each edge's two vertices come in turn.
 pub square-flags : flags square
     ≡ (0 ∷ 0 ∷ 0 ∷ 0 ∷ [])
     ∷ (0 ∷ 1 ∷ 0 ∷ 0 ∷ [])
@@ -58,7 +58,7 @@ pub prism-types : result prism alike
 unfolding result settle sweep sweepSteps play step keys key start startAt typeCount elements properRanks sups subs distinct renumber count holds eqList range keep sum without place
 prism-types = refl
 
--- The mark on the square: the quarter turn and a mirror pass, and a swap of two neighbours does not.
+-- On the square the mark decides: the quarter turn and a mirror pass, and a swap of two neighbours does not.
 pub quarter : marked square alike (1 ∷ 2 ∷ 3 ∷ 0 ∷ []) ≡ true
 unfolding marked carriesElement goes image vertexSets vertices reach inOrder join noRepeats every properRanks subs holds eqList range keep place
 quarter = refl
@@ -75,7 +75,7 @@ pub turned-prism : marked prism alike (4 ∷ 3 ∷ 5 ∷ 1 ∷ 0 ∷ 2 ∷ []) �
 unfolding marked carriesElement goes image vertexSets vertices reach inOrder join noRepeats every properRanks subs holds eqList range keep place
 turned-prism = refl
 
--- What the square's types call gives out: two types, each with its rank, number, example and count.
+-- This is what the square's types call gives out: two types, each with its rank, number, example and count.
 pub square-element-types : elementTypes square ((0 ∷ []) ∷ (0 ∷ 0 ∷ 0 ∷ 0 ∷ []) ∷ (0 ∷ 0 ∷ 0 ∷ 0 ∷ []) ∷ (0 ∷ []) ∷ [])
     ≡ record { rank = 1; number = 0; example = 0; count = 4 } ∷ record { rank = 2; number = 0; example = 0; count = 4 } ∷ []
 unfolding elementTypes elementTypesAt join properRanks distinct without count range place
@@ -96,7 +96,7 @@ pub dot-types : result dot alike ≡ some ((0 ∷ []) ∷ (0 ∷ []) ∷ [])
 unfolding result settle sweep sweepSteps play step keys key start startAt typeCount elements properRanks sups subs distinct renumber count holds eqList range keep sum without place
 dot-types = refl
 
--- The rectangle, whose edges lie at two distances, and the rhombus, whose corners do.
+-- These are the rectangle, whose edges lie at two distances, and the rhombus, whose corners do.
 abbrev pub sides : Classes
 sides r e = getD (getD ([] ∷ [] ∷ (5 ∷ 9 ∷ 5 ∷ 9 ∷ []) ∷ []) r []) e 0
 

@@ -1,4 +1,4 @@
--- Statements about the sups of any solid (section 2), and about the sups of the ridges after the exchange of facets (section 6).
+-- These are statements about the sups of any solid (section 2), and about the sups of the ridges after the exchange of facets (section 6).
 -- Assumes nothing.
 use mathlib.Core.Path.{_≡_}
 use mathlib.Core.Logic.{_≢_, _↔_}

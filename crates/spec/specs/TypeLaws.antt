@@ -1,5 +1,5 @@
--- Statements about section 4: the numbers after any list of steps, what the start and each step do, what the types call gives out, and that refusal
--- 15 never comes.
+-- These are statements about section 4: the numbers after any list of steps, what the start and each step do, what the types call gives out, and that
+-- refusal 15 never comes.
 -- Assumes nothing.
 use mathlib.Core.Path.{_≡_}
 use mathlib.Core.Logic.{_≢_, _⊎_, _↔_}
@@ -24,7 +24,7 @@ use Rattle.spec.specs.Calls.{TypesOut, typesCall, SearchOut, searchCall,
 
 -- ---- numbers
 
--- How many types a rank's elements have.
+-- Counts the types that a rank's elements have.
 unfoldable pub inUse : State → ℕ → ℕ
 inUse S r = length (distinct eqb (typesAt S r))
 
@@ -38,22 +38,22 @@ pub record Numbered (s : Solid) (S : State) (r : ℕ) : Type 0 where
 
 -- ---- the start, and one step
 
--- How many neighbours of type t the step x finds at e.
+-- Counts the neighbours of type t that the step x finds at e.
 unfoldable pub ofType : Solid → State → Step → ℕ → ℕ → ℕ
 ofType s S x t e = count eqb t (map (typeOf S (next x)) (neighbours s x e))
 
--- What the step x does to the state S.
+-- This is what the step x does to the state S.
 pub record Stepped (s : Solid) (S : State) (x : Step) : Type 0 where
   -- The step tells apart exactly what section 4 says: "two elements there still share a type exactly when they shared one and, for every type of rank
   -- r−1, have as many subs of it. Step down: the same with sups and rank r+1".
   pub share : (e f : ℕ) → e < size s (at x) → f < size s (at x)
       → (typeOf (step s S x) (at x) e ≡ typeOf (step s S x) (at x) f)
       ↔ ((typeOf S (at x) e ≡ typeOf S (at x) f) × ((t : ℕ) → In t (typesAt S (next x)) → ofType s S x t e ≡ ofType s S x t f))
-  -- "Other ranks keep theirs".
+  -- "Other ranks keep theirs."
   pub others : (r : ℕ) → r ≢ at x → typesAt (step s S x) r ≡ typesAt S r
 
 pub record StepLaws (s : Solid) (cls : Classes) : Type 0 where
-  -- "Start: elements of a proper rank share a type exactly when they share a distance class".
+  -- "Start: elements of a proper rank share a type exactly when they share a distance class."
   pub at-start : (r e f : ℕ) → Proper s r → e < size s r → f < size s r → (typeOf (start s cls) r e ≡ typeOf (start s cls) r f) ↔ (cls r e ≡ cls r f)
   -- After any list of steps at proper ranks, one more step at a proper rank does what section 4 says.
   pub stepped : (xs : List Step) → AllProper s xs → (x : Step) → Proper s (at x) → Stepped s (play s (start s cls) xs) x
@@ -73,7 +73,7 @@ pub record Described (s : Solid) (z : State) (r : ℕ) (k : ElementType) : Type 
   pub lowest : (e : ℕ) → e < k .example → typeOf z r e ≢ k .number
   pub counted : k .count ≡ count eqb (k .number) (typesAt z r)
 
--- What holds of the types that are given out for one rank.
+-- This is what holds of the types that are given out for one rank.
 pub record RankLaws (s : Solid) (z : State) (r : ℕ) : Type 0 where
   pub numbered : Numbered s z r
   -- They are exactly the types in use, in order.
@@ -83,11 +83,11 @@ pub record RankLaws (s : Solid) (z : State) (r : ℕ) : Type 0 where
   pub sums : sum (map (λ k. k .count) (elementTypesAt z r)) ≡ size s r
 
 pub record TypeLaws : Type 0 where
-  -- The numbers after any list of steps, and "at the start too", which is the case of the empty list.
+  -- The numbers are so after any list of steps, and "at the start too", which is the case of the empty list.
   pub steps : (s : Solid) (cls : Classes) (xs : List Step) → AllProper s xs → (r : ℕ) → Numbered s (play s (start s cls) xs) r
-  -- The types given out at each rank, where z is the result of any solid.
+  -- The types given out at each rank obey these laws, where z is the result of any solid.
   pub ranks : (c : Concrete) (z : State) → typesOf c ≡ some z → (r : ℕ) → RankLaws (c .abs) z r
-  -- The rank and number of each type given out, over the proper ranks, rising.
+  -- Over the proper ranks, the rank and number of each type given out rise.
   pub listed : (c : Concrete) (z : State) → typesOf c ≡ some z
       → map {B = ℕ × ℕ} (λ k. (k .rank, k .number)) (elementTypes (c .abs) z) ≡ join (map (λ r. map (λ t. (r, t)) (range 0 (inUse z r))) (properRanks (c .abs)))
 

@@ -1,4 +1,4 @@
--- Section 2's solids as plain lists, and section 4: the types of a solid's elements, by steps and sweeps.
+-- This file has section 2's solids as plain lists, and section 4: the types of a solid's elements, by steps and sweeps.
 -- Assumes nothing.
 use Prim.Native.Nat.{ℕ, zero, suc, pred, _+_, _-_}
 use mathlib.Core.Bool.{Bool, true, false, _&&_}
@@ -10,41 +10,41 @@ use Rattle.spec.specs.Lists.{distinct, place, renumber, count, holds, eq
 
 -- ---- solids
 
--- For each rank from 0 to R and each of its elements, the list of the element's subs by their numbers: "Subs of an element lie one rank below, sups
--- one above".
+-- A solid has, for each rank from 0 to R and each of its elements, the list of the element's subs by their numbers: "Subs of an element lie one rank
+-- below, sups one above".
 abbrev pub Solid : Type 0
 Solid = List (List (List ℕ))
 
--- The number of "the top rank R".
+-- This is the number of "the top rank R".
 abbrev pub top : Solid → ℕ
 top s = length s - 1
 
--- How many elements a rank has.
+-- Counts the elements of a rank.
 abbrev pub size : Solid → ℕ → ℕ
 size s r = length (getD s r [])
 
 unfoldable pub subs : Solid → ℕ → ℕ → List ℕ
 subs s r e = getD (getD s r []) e []
 
--- The elements one rank above that have e as a sub: "Sups are derived, rising".
+-- Lists the elements one rank above that have e as a sub: "Sups are derived, rising".
 unfoldable pub sups : Solid → ℕ → ℕ → List ℕ
 sups s r e = keep (λ f. holds eqb e (subs s (suc r) f)) (range 0 (size s (suc r)))
 
--- The list of the proper ranks: "ranks 1 to R−1 are proper".
+-- This is the list of the proper ranks: "ranks 1 to R−1 are proper".
 unfoldable pub properRanks : Solid → List ℕ
 properRanks s = range 1 (top s - 1)
 
--- The number E: "E counts proper elements".
+-- This is the number E: "E counts proper elements".
 unfoldable pub elements : Solid → ℕ
 elements s = sum (map (λ r. size s r) (properRanks s))
 
--- The distance class of each element (section 3) as a number, by rank and then by element. Only those of proper elements are read.
+-- This is the distance class of each element (section 3) as a number, by rank and then by element. Only those of proper elements are read.
 abbrev pub Classes : Type 0
 Classes = ℕ → ℕ → ℕ
 
 -- ---- states
 
--- "State: a type number for each element", by rank and then by element.
+-- A state is "a type number for each element", by rank and then by element.
 abbrev pub State : Type 0
 State = List (List ℕ)
 
@@ -54,8 +54,8 @@ typesAt S r = getD S r []
 abbrev pub typeOf : State → ℕ → ℕ → ℕ
 typeOf S r e = getD (typesAt S r) e 0
 
--- How many types there are over the proper ranks, which is "the number of types" that sweeps compare. Ranks 0 and R always have one type each, so
--- they need not be counted.
+-- Counts the types over the proper ranks, which is "the number of types" that sweeps compare. Ranks 0 and R always have one type each, so they need
+-- not be counted.
 unfoldable pub typeCount : Solid → State → ℕ
 typeCount s S = sum (map (λ r. length (distinct eqb (typesAt S r))) (properRanks s))
 
@@ -64,8 +64,8 @@ typeCount s S = sum (map (λ r. length (distinct eqb (typesAt S r))) (properRank
 abbrev pub isProper : Solid → ℕ → Bool
 isProper s r = ltb 0 r && ltb r (top s)
 
--- "Start: elements of a proper rank share a type exactly when they share a distance class"; "ranks 0 and R have type 0 only"; "numbers go from 0 in
--- each rank by first appearance, at the start too".
+-- The start goes by "Start: elements of a proper rank share a type exactly when they share a distance class"; "ranks 0 and R have type 0 only";
+-- "numbers go from 0 in each rank by first appearance, at the start too".
 unfoldable pub startAt : Solid → Classes → ℕ → List ℕ
 startAt s cls r = elim (isProper s r) [ true ↦ renumber eqb (map (cls r) (range 0 (size s r))) | false ↦ replicate (size s r) 0 ]
 
@@ -79,7 +79,8 @@ pub data Step : Type 0 where
   up : ℕ → Step
   down : ℕ → Step
 
--- The rank that a step is at; then the rank that it looks to, r−1 or r+1; and then an element's neighbours there, which are its subs or its sups.
+-- These are the rank that a step is at; then the rank that it looks to, r−1 or r+1; and then an element's neighbours there, which are its subs or its
+-- sups.
 abbrev pub at : Step → ℕ
 at (up r) = r
 at (down r) = r
@@ -92,35 +93,35 @@ abbrev pub neighbours : Solid → Step → ℕ → List ℕ
 neighbours s (up r) e = subs s r e
 neighbours s (down r) e = sups s r e
 
--- What a step tells elements apart by: "two elements there still share a type exactly when they shared one and, for every type of rank r−1, have as
--- many subs of it. Step down: the same with sups and rank r+1". For an element of type t with the neighbours es this is t and, for every type in the
--- list `types`, which holds the types of the rank looked to, how many of es have that type.
+-- This is what a step tells elements apart by: "two elements there still share a type exactly when they shared one and, for every type of rank r−1,
+-- have as many subs of it. Step down: the same with sups and rank r+1". For an element of type t with the neighbours es this is t and, for every type
+-- in the list `types`, which holds the types of the rank looked to, how many of es have that type.
 unfoldable pub key : List ℕ → ℕ → List ℕ → List ℕ
 key types t es = t ∷ map (λ k. count eqb k (map (λ e. getD types e 0) es)) (distinct eqb types)
 
--- The keys of the elements of the step's rank, and then the state after it: "Other ranks keep theirs; numbers go from 0 in each rank by first
--- appearance".
+-- These are the keys of the elements of the step's rank, and then the state after it: "Other ranks keep theirs; numbers go from 0 in each rank by
+-- first appearance".
 unfoldable pub keys : Solid → State → Step → List (List ℕ)
 keys s S x = map (λ e. key (typesAt S (next x)) (typeOf S (at x) e) (neighbours s x e)) (range 0 (size s (at x)))
 
 unfoldable pub step : Solid → State → Step → State
 step s S x = set S (at x) (renumber eqList (keys s S x))
 
--- The state after steps that are taken one after another.
+-- This is the state after steps that are taken one after another.
 unfoldable pub play : Solid → State → List Step → State
 play s S [] = S
 play s S (x ∷ xs) = play s (step s S x) xs
 
 -- ---- sweeps
 
--- "A sweep is up at 1 to R−1, then down at R−1 to 1".
+-- "A sweep is up at 1 to R−1, then down at R−1 to 1."
 unfoldable pub sweepSteps : Solid → List Step
 sweepSteps s = map up (properRanks s) ++ map down (reverse (properRanks s))
 
 unfoldable pub sweep : Solid → State → State
 sweep s S = play s S (sweepSteps s)
 
--- "Sweeps end when one leaves the number of types unchanged". This is the state that such a sweep gives, or `none` where n sweeps are done before one
+-- "Sweeps end when one leaves the number of types unchanged." This is the state that such a sweep gives, or `none` where n sweeps are done before one
 -- does.
 unfoldable pub settle : Solid → ℕ → State → Option State
 settle s zero S = none
@@ -134,7 +135,7 @@ result s cls = settle s (elements s + 1) (sweep s (start s cls))
 
 -- ---- what is given out
 
--- "The result gives the type of each proper element, by rising rank and index".
+-- "The result gives the type of each proper element, by rising rank and index."
 unfoldable pub given : Solid → State → List ℕ
 given s z = join (map (typesAt z) (properRanks s))
 

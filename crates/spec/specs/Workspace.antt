@@ -1,4 +1,4 @@
--- What document 01 leaves free, and what holds of it all the same.
+-- This file says what document 01 leaves free, and what holds of it all the same.
 -- Assumes nothing.
 use Prim.Native.Nat.{ℕ}
 use mathlib.Core.List.{List}
