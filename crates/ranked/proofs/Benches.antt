@@ -8,7 +8,7 @@ use native.Mathlib.Omega.{arith}
 use lib.ListN.{length, take, replicate, length-replicate}
 use lib.Seq.{take-take}
 use lib.Ieee.{Float}
-use Rattle.spec.specs.Limits.{maxCount}
+use Rattle.spec.specs.Limits.{maxElements}
 use Rattle.spec.specs.Types.{Solid, top, size, properRanks, elements}
 use Rattle.spec.specs.Float.{zeroF}
 use Rattle.spec.specs.Solid.{entries}
@@ -129,7 +129,7 @@ module _ {sh : Shape} {ws : List ℕ} {fs : List Float} (b : Bench sh ws fs) whe
         b .words,
       )
 
-  pub elements-few : total sh ≤ 4 * maxCount + 2
+  pub elements-few : total sh ≤ maxElements
   elements-few = b .stored .small
 
   pub low-small : sh .low < 2 ^ 32

@@ -7,7 +7,7 @@ use mathlib.Core.List.{List, [], _∷_, _++_, map}
 use lib.ListN.{length, getD, take, replicate}
 use lib.Dec.{leb, ltb}
 use lib.Ieee.{Float, binary64, ofBits}
-use Rattle.spec.specs.Limits.{maxRank, maxCount}
+use Rattle.spec.specs.Limits.{maxRank, maxElements}
 use Rattle.spec.specs.Lists.{join, range}
 use Rattle.spec.specs.Bits.{field}
 use Rattle.spec.specs.Types.{Solid, top, size}
@@ -77,8 +77,8 @@ pub record Shaped (sh : Shape) : Type 0 where
   pub start : firstAt sh 0 ≡ 0
   pub least : firstAt sh 1 ≡ 1
   pub some : (r : ℕ) → r ≤ sh .rank → firstAt sh r < firstAt sh (suc r)
-  -- There are at most the least element, the top and four proper ranks.
-  pub small : total sh ≤ 4 * maxCount + 2
+  -- A solid has so many elements at most.
+  pub small : total sh ≤ maxElements
 
 -- Counts the elements of the ranks 2, 3, .. that have lists.
 abbrev pub listSizes : Shape → ℕ → ℕ
@@ -159,8 +159,8 @@ pub record Kept (p : Parsed) (sh : Shape) (ws : List ℕ) (fs : List Float) : Ty
   pub rank : sh .rank ≡ p .rank
   pub dimension : sh .dimension ≡ p .dimension
   pub shape : sh ≡ shapeOf (said p)
-  -- There are at most the least element, the top and four proper ranks.
-  pub small : total sh ≤ 4 * maxCount + 2
+  -- A solid has so many elements at most.
+  pub small : total sh ≤ maxElements
   -- The part of the words and of the floats that is read lies within them.
   pub low : sh .low ≡ lowOf sh (entries (solidOf p))
   pub words-in : sh .low ≤ length ws

@@ -15,13 +15,13 @@ ghost use Rattle.ranked.specs.Words.{listAt, absIn, Held};
 ghost use Rattle.ranked.specs.Reading.{Lies, supsWord, boundIn, Each, holding, Fork, twoUnder, Tier, twoAt, twoRank, twoFrom};
 
 // Tells whether each of the n elements of a rank that starts at `first` is in a list.
-fn bound_rank(w: &[u32], first: usize, n: usize) -> bool
-    requires { ⌜ ((e : ℕ) → e < n → Lies (now w) (supsWord first e)) ⌝ }
-    ensures { λ res. ⌜ res ≡ boundIn (now (w .entry)) first n ⌝ }
+fn bound_rank(lists: &[u32], first: usize, n: usize) -> bool
+    requires { ⌜ ((e : ℕ) → e < n → Lies (now lists) (supsWord first e)) ⌝ }
+    ensures { λ res. ⌜ res ≡ boundIn (now (lists .entry)) first n ⌝ }
 {
     let mut e: usize = 0;
     while e < n {
-        if count_at(w, sups_at(first, e)) == 0 {
+        if count_at(lists, sups_at(first, e)) == 0 {
             return false;
         }
         e += 1;
@@ -30,16 +30,16 @@ fn bound_rank(w: &[u32], first: usize, n: usize) -> bool
 }
 
 // Tells whether refusal 5 is not met: every proper element below rank R - 1 is in a list.
-pub fn is_bound(w: &[u32], sh: Shape) -> bool
-    requires { ⌜ Held sh (now w) ⌝ }
-    ensures { λ res. ⌜ res ≡ bound (absIn sh (now (w .entry))) ⌝ }
+pub fn is_bound(lists: &[u32], sh: Shape) -> bool
+    requires { ⌜ Held sh (now lists) ⌝ }
+    ensures { λ res. ⌜ res ≡ bound (absIn sh (now (lists .entry))) ⌝ }
 {
     let rank = sh.rank;
     let mut k: usize = 0;
     while k + 2 < rank {
         let first = sh.first[k + 1];
         let next = sh.first[k + 2];
-        if !bound_rank(w, first, next - first) {
+        if !bound_rank(lists, first, next - first) {
             return false;
         }
         k += 1;
@@ -48,18 +48,18 @@ pub fn is_bound(w: &[u32], sh: Shape) -> bool
 }
 
 // Counts the entries y of the list at word i that have x in their list at word base + 4 * y.
-fn counting(w: &[u32], i: usize, base: usize, x: usize) -> usize
-    requires { ⌜ Lies (now w) i ⌝ }
-    requires { ⌜ Each (now w) i base ⌝ }
-    ensures { λ res. ⌜ res ≡ length (holding (now (w .entry)) i base x) ⌝ }
+fn counting(lists: &[u32], i: usize, base: usize, x: usize) -> usize
+    requires { ⌜ Lies (now lists) i ⌝ }
+    requires { ⌜ Each (now lists) i base ⌝ }
+    ensures { λ res. ⌜ res ≡ length (holding (now (lists .entry)) i base x) ⌝ }
 {
-    let n = count_at(w, i);
+    let n = count_at(lists, i);
     let mut m: usize = 0;
     let mut k: usize = 0;
     while k < n {
-        let y = entry_at(w, i, k);
+        let y = entry_at(lists, i, k);
         k += 1;
-        if holds_at(w, base + 4 * y, x) {
+        if holds_at(lists, base + 4 * y, x) {
             m += 1;
         }
     }
@@ -67,29 +67,29 @@ fn counting(w: &[u32], i: usize, base: usize, x: usize) -> usize
 }
 
 // Counts the elements between g, whose subs are at word i, and h, whose sups are at word j. The shorter of the two lists is gone through.
-fn between(w: &[u32], i: usize, j: usize, base: usize, g: usize, h: usize) -> usize
-    requires { ⌜ Fork (now w) i j base g h ⌝ }
-    ensures { λ res. ⌜ res ≡ length (holding (now (w .entry)) i base h) ⌝ }
+fn between(lists: &[u32], i: usize, j: usize, base: usize, g: usize, h: usize) -> usize
+    requires { ⌜ Fork (now lists) i j base g h ⌝ }
+    ensures { λ res. ⌜ res ≡ length (holding (now (lists .entry)) i base h) ⌝ }
 {
-    if count_at(w, i) <= count_at(w, j) {
-        counting(w, i, base, h)
+    if count_at(lists, i) <= count_at(lists, j) {
+        counting(lists, i, base, h)
     } else {
-        counting(w, j, base + 2, g)
+        counting(lists, j, base + 2, g)
     }
 }
 
 // Tells whether exactly two elements lie between g, whose subs are at word i, and each entry of the list at word j, of the rank that starts at
 // `below`.
-fn diamond_under(w: &[u32], i: usize, j: usize, base: usize, below: usize, g: usize) -> bool
-    requires { ⌜ Lies (now w) j ⌝ }
-    requires { ⌜ ((h : ℕ) → In h (listAt (now w) j) → Fork (now w) i (supsWord below h) base g h) ⌝ }
-    ensures { λ res. ⌜ res ≡ twoUnder (now (w .entry)) i j base ⌝ }
+fn diamond_under(lists: &[u32], i: usize, j: usize, base: usize, below: usize, g: usize) -> bool
+    requires { ⌜ Lies (now lists) j ⌝ }
+    requires { ⌜ ((h : ℕ) → In h (listAt (now lists) j) → Fork (now lists) i (supsWord below h) base g h) ⌝ }
+    ensures { λ res. ⌜ res ≡ twoUnder (now (lists .entry)) i j base ⌝ }
 {
-    let n = count_at(w, j);
+    let n = count_at(lists, j);
     let mut k: usize = 0;
     while k < n {
-        let h = entry_at(w, j, k);
-        if between(w, i, sups_at(below, h), base, g, h) != 2 {
+        let h = entry_at(lists, j, k);
+        if between(lists, i, sups_at(below, h), base, g, h) != 2 {
             return false;
         }
         k += 1;
@@ -97,18 +97,18 @@ fn diamond_under(w: &[u32], i: usize, j: usize, base: usize, below: usize, g: us
     true
 }
 
-// Tells whether exactly two elements lie between g and every sub of its subs. The three ranks start at `below`, `at` and `above`.
-fn diamond_at(w: &[u32], below: usize, at: usize, above: usize, g: usize) -> bool
-    requires { ⌜ Tier (now w) below at above g ⌝ }
-    ensures { λ res. ⌜ res ≡ twoAt (now (w .entry)) at above g ⌝ }
+// Tells whether exactly two elements lie between g and every sub of its subs. The three ranks start at `below`, `middle` and `above`.
+fn diamond_at(lists: &[u32], below: usize, middle: usize, above: usize, g: usize) -> bool
+    requires { ⌜ Tier (now lists) below middle above g ⌝ }
+    ensures { λ res. ⌜ res ≡ twoAt (now (lists .entry)) middle above g ⌝ }
 {
     let i = subs_at(above, g);
-    let base = subs_at(at, 0);
-    let n = count_at(w, i);
+    let base = subs_at(middle, 0);
+    let n = count_at(lists, i);
     let mut k: usize = 0;
     while k < n {
-        let f = entry_at(w, i, k);
-        if !diamond_under(w, i, subs_at(at, f), base, below, g) {
+        let f = entry_at(lists, i, k);
+        if !diamond_under(lists, i, subs_at(middle, f), base, below, g) {
             return false;
         }
         k += 1;
@@ -117,13 +117,13 @@ fn diamond_at(w: &[u32], below: usize, at: usize, above: usize, g: usize) -> boo
 }
 
 // Tells whether the same holds for each of the n elements of the uppermost rank.
-fn diamond_rank(w: &[u32], below: usize, at: usize, above: usize, n: usize) -> bool
-    requires { ⌜ ((g : ℕ) → g < n → Tier (now w) below at above g) ⌝ }
-    ensures { λ res. ⌜ res ≡ twoRank (now (w .entry)) at above n ⌝ }
+fn diamond_rank(lists: &[u32], below: usize, middle: usize, above: usize, n: usize) -> bool
+    requires { ⌜ ((g : ℕ) → g < n → Tier (now lists) below middle above g) ⌝ }
+    ensures { λ res. ⌜ res ≡ twoRank (now (lists .entry)) middle above n ⌝ }
 {
     let mut g: usize = 0;
     while g < n {
-        if !diamond_at(w, below, at, above, g) {
+        if !diamond_at(lists, below, middle, above, g) {
             return false;
         }
         g += 1;
@@ -132,36 +132,36 @@ fn diamond_rank(w: &[u32], below: usize, at: usize, above: usize, n: usize) -> b
 }
 
 // Tells whether the same holds for the ranks above `from` and the one after it, from the bottom up.
-fn diamond_from(w: &[u32], sh: Shape, from: usize) -> bool
-    requires { ⌜ (Held sh (now w)) × (from ≤ sh .rank) ⌝ }
-    ensures { λ res. ⌜ res ≡ twoFrom sh (now (w .entry)) from ⌝ }
+fn diamond_from(lists: &[u32], sh: Shape, from: usize) -> bool
+    requires { ⌜ (Held sh (now lists)) × (from ≤ sh .rank) ⌝ }
+    ensures { λ res. ⌜ res ≡ twoFrom sh (now (lists .entry)) from ⌝ }
 {
     let rank = sh.rank;
-    let mut low = from;
-    while low + 1 < rank {
-        let below = sh.first[low];
-        let at = sh.first[low + 1];
-        let above = sh.first[low + 2];
-        let next = sh.first[low + 3];
-        if !diamond_rank(w, below, at, above, next - above) {
+    let mut r = from;
+    while r + 1 < rank {
+        let below = sh.first[r];
+        let middle = sh.first[r + 1];
+        let above = sh.first[r + 2];
+        let next = sh.first[r + 3];
+        if !diamond_rank(lists, below, middle, above, next - above) {
             return false;
         }
-        low += 1;
+        r += 1;
     }
     true
 }
 
 // Tells whether refusal 6 is not met: exactly two elements lie between every element and every sub of its subs, the least and the top included. The
 // top comes first: once every ridge is known to lie in just two facets, what the ranks below cost is bounded by the sheet's length.
-pub fn is_diamond(w: &[u32], sh: Shape) -> bool
-    requires { ⌜ Held sh (now w) ⌝ }
-    ensures { λ res. ⌜ res ≡ diamond (absIn sh (now (w .entry))) ⌝ }
+pub fn is_diamond(lists: &[u32], sh: Shape) -> bool
+    requires { ⌜ Held sh (now lists) ⌝ }
+    ensures { λ res. ⌜ res ≡ diamond (absIn sh (now (lists .entry))) ⌝ }
 {
     let rank = sh.rank;
     if rank >= 2 {
-        if !diamond_from(w, sh, rank - 2) {
+        if !diamond_from(lists, sh, rank - 2) {
             return false;
         }
     }
-    diamond_from(w, sh, 0)
+    diamond_from(lists, sh, 0)
 }

@@ -10,29 +10,29 @@ ghost use Rattle.ranked.specs.Words.{sizeAt, listAt, absIn, Held};
 ghost use Rattle.ranked.specs.Reading.{Lies};
 
 // Returns the word at p.
-pub fn get(w: &[u32], p: usize) -> usize
-    requires { ⌜ p < length (now w) ⌝ }
-    ensures { λ r. ⌜ r ≡ getD (now (w .entry)) p 0 ⌝ }
+pub fn get(words: &[u32], p: usize) -> usize
+    requires { ⌜ p < length (now words) ⌝ }
+    ensures { λ r. ⌜ r ≡ getD (now (words .entry)) p 0 ⌝ }
 {
-    w[p] as usize
+    words[p] as usize
 }
 
 // Counts the entries of the list at word i.
-pub fn count_at(w: &[u32], i: usize) -> usize
-    requires { ⌜ Lies (now w) i ⌝ }
-    ensures { λ r. ⌜ r ≡ length (listAt (now (w .entry)) i) ⌝ }
+pub fn count_at(lists: &[u32], i: usize) -> usize
+    requires { ⌜ Lies (now lists) i ⌝ }
+    ensures { λ r. ⌜ r ≡ length (listAt (now (lists .entry)) i) ⌝ }
 {
-    get(w, i + 1)
+    get(lists, i + 1)
 }
 
 // Returns entry k of the list at word i.
-pub fn entry_at(w: &[u32], i: usize, k: usize) -> usize
-    requires { ⌜ Lies (now w) i ⌝ }
-    requires { ⌜ k < length (listAt (now w) i) ⌝ }
-    ensures { λ r. ⌜ r ≡ getD (listAt (now (w .entry)) i) k 0 ⌝ }
+pub fn entry_at(lists: &[u32], i: usize, k: usize) -> usize
+    requires { ⌜ Lies (now lists) i ⌝ }
+    requires { ⌜ k < length (listAt (now lists) i) ⌝ }
+    ensures { λ r. ⌜ r ≡ getD (listAt (now (lists .entry)) i) k 0 ⌝ }
 {
-    let start = get(w, i);
-    get(w, start + k)
+    let start = get(lists, i);
+    get(lists, start + k)
 }
 
 // Returns the word that says where the list of element e's subs starts, in a rank that starts at `first`; the next word is its length.
@@ -52,14 +52,14 @@ pub fn sups_at(first: usize, e: usize) -> usize
 }
 
 // Tells whether the list at word i holds x.
-pub fn holds_at(w: &[u32], i: usize, x: usize) -> bool
-    requires { ⌜ Lies (now w) i ⌝ }
-    ensures { λ r. ⌜ r ≡ holds eqb x (listAt (now (w .entry)) i) ⌝ }
+pub fn holds_at(lists: &[u32], i: usize, x: usize) -> bool
+    requires { ⌜ Lies (now lists) i ⌝ }
+    ensures { λ r. ⌜ r ≡ holds eqb x (listAt (now (lists .entry)) i) ⌝ }
 {
-    let n = count_at(w, i);
+    let n = count_at(lists, i);
     let mut k: usize = 0;
     while k < n {
-        if entry_at(w, i, k) == x {
+        if entry_at(lists, i, k) == x {
             return true;
         }
         k += 1;
@@ -68,11 +68,11 @@ pub fn holds_at(w: &[u32], i: usize, x: usize) -> bool
 }
 
 // Returns sub k of element e of rank r.
-pub fn sub(w: &[u32], sh: Shape, r: usize, e: usize, k: usize) -> usize
-    requires { ⌜ Held sh (now w) ⌝ }
-    requires { ⌜ (r ≤ sh .rank) × (e < sizeAt sh r) × (k < length (subs (absIn sh (now w)) r e)) ⌝ }
-    ensures { λ x. ⌜ x ≡ getD (subs (absIn sh (now (w .entry))) r e) k 0 ⌝ }
+pub fn sub(lists: &[u32], sh: Shape, r: usize, e: usize, k: usize) -> usize
+    requires { ⌜ Held sh (now lists) ⌝ }
+    requires { ⌜ (r ≤ sh .rank) × (e < sizeAt sh r) × (k < length (subs (absIn sh (now lists)) r e)) ⌝ }
+    ensures { λ x. ⌜ x ≡ getD (subs (absIn sh (now (lists .entry))) r e) k 0 ⌝ }
 {
     let first = sh.first;
-    entry_at(w, subs_at(first[r], e), k)
+    entry_at(lists, subs_at(first[r], e), k)
 }

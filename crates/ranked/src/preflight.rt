@@ -53,14 +53,14 @@ fn is_roomy(elements: usize, entries: usize, words: usize, floats: usize) -> boo
 }
 
 // Judges refusal 5, and then refusal 6, of the solid that the words hold.
-fn checked(w: &[u32], sh: Shape) -> Verdict
-    requires { ⌜ Held sh (now w) ⌝ }
-    ensures { λ r. ⌜ r ≡ checksOf (absIn sh (now (w .entry))) ⌝ }
+fn checked(lists: &[u32], sh: Shape) -> Verdict
+    requires { ⌜ Held sh (now lists) ⌝ }
+    ensures { λ r. ⌜ r ≡ checksOf (absIn sh (now (lists .entry))) ⌝ }
 {
-    if !is_bound(w, sh) {
+    if !is_bound(lists, sh) {
         return Verdict::Refused(Refusal::Loose);
     }
-    if !is_diamond(w, sh) {
+    if !is_diamond(lists, sh) {
         return Verdict::Refused(Refusal::Mitre);
     }
     Verdict::Accepted

@@ -1,6 +1,6 @@
 -- The numbers of section 2, "Limits", stand here: each stands here once for the definitions, and once in src/lib.rt for the programs.
 -- Assumes nothing.
-use Prim.Native.Nat.{ℕ}
+use Prim.Native.Nat.{ℕ, _+_, _-_, _*_}
 use lib.Ieee.{Float, binary64, ofBits}
 
 -- This is the greatest rank R of a sheet: "R 0 to 5".
@@ -18,6 +18,10 @@ maxCount = 2048
 -- This is the greatest number of list entries: "at most 8,192 list entries a rank".
 abbrev pub maxEntries : ℕ
 maxEntries = 8192
+
+-- A solid can have this many elements: as many as are allowed in each proper rank, the least and the top.
+abbrev pub maxElements : ℕ
+maxElements = (maxRank - 1) * maxCount + 2
 
 -- This is the greatest magnitude: "coordinate magnitude at most 1,048,576", which is 2 ^ 20.
 unfoldable pub maxMagnitude : Float

@@ -36,14 +36,14 @@ bound-rank-spec =
     -- The needs are returns, add-e, loop-less, loop-again and returns-2.
     (λ c. let l = c .before .before .before .before in
     let a = l .before .before .args in
-    range-no (p (a .w .now) (a .first)) 0 (a .n) (l .loop .e) (l .loop .e) (omega arith) (c .before .before .before .loop-test .taken) (l .loop .inv .1)
+    range-no (p (a .lists .now) (a .first)) 0 (a .n) (l .loop .e) (l .loop .e) (omega arith) (c .before .before .before .loop-test .taken) (l .loop .inv .1)
     (none-read _ _ (rw (c .before .before .sups-at .ensures) at (c .before .count-at .ensures)) (c .if1 .taken)))
     (λ c. search needs)
     (λ c. search needs)
     (λ c. let l = c .before .before .before .before in
     let a = l .before .before .args in (
       search needs,
-      range-yes (p (a .w .now) (a .first)) 0 (a .n) (l .loop .e) (l .loop .e) (omega arith) (c .before .before .before .loop-test .taken) (l .loop .inv .1)
+      range-yes (p (a .lists .now) (a .first)) 0 (a .n) (l .loop .e) (l .loop .e) (omega arith) (c .before .before .before .loop-test .taken) (l .loop .inv .1)
           (some-read _ _ (rw (c .before .before .sups-at .ensures) at (c .before .count-at .ensures)) (c .if1 .left)),
     ))
     (λ c. range-end _ 0 _ (c .before .loop .e) (c .loop-test .left) (c .before .loop .inv .1)))

@@ -25,12 +25,12 @@ abbrev μ : tie.MeasureT-loop
 μ w i base x n m₀ k₀ m k = n - k
 
 -- The entry's list lies within the words.
-lies : (c : tie.After-entry-at Inv μ) → let a = c .before .before .before .before .before .args in Lies (a .w .now) (a .base + 4 * c .entry-at .result)
+lies : (c : tie.After-entry-at Inv μ) → let a = c .before .before .before .before .before .args in Lies (a .lists .now) (a .base + 4 * c .entry-at .result)
 lies c =
     let l = c .before .before in
     let s = l .before .before .before in
     let a = s .args in
-    s .pre .1 (c .entry-at .result) (entry-in (listAt (a .w .now) (a .i)) (l .loop .k) _ (omega (arith, c .before .loop-test .taken, l .loop .inv .2)) (c .entry-at .ensures))
+    s .pre .1 (c .entry-at .result) (entry-in (listAt (a .lists .now) (a .i)) (l .loop .k) _ (omega (arith, c .before .loop-test .taken, l .loop .inv .2)) (c .entry-at .ensures))
 
 pub counting-spec : {M : Type 1} → statement M
 unfolding holding

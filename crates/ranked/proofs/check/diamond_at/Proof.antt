@@ -34,11 +34,11 @@ abbrev μ : tie.MeasureT-loop
 
 -- The entry is a sub of g.
 entry : (c : tie.After-entry-at Inv μ)
-    → let a = c .before .before .before .before .before .before .before .args in In (c .entry-at .result) (listAt (a .w .now) (subsWord (a .above) (a .g)))
+    → let a = c .before .before .before .before .before .before .before .args in In (c .entry-at .result) (listAt (a .lists .now) (subsWord (a .above) (a .g)))
 entry c =
     let l = c .before .before in
     let a = l .before .before .before .before .before .args in
-    entry-in (listAt (a .w .now) (subsWord (a .above) (a .g))) (l .loop .k) _ (omega (arith, c .before .loop-test .taken, l .loop .inv .n-is)) (rw (l .loop .inv .i-is) at (c .entry-at .ensures))
+    entry-in (listAt (a .lists .now) (subsWord (a .above) (a .g))) (l .loop .k) _ (omega (arith, c .before .loop-test .taken, l .loop .inv .n-is)) (rw (l .loop .inv .i-is) at (c .entry-at .ensures))
 
 -- The call says whether the entry f passes.
 said : (w : List ℕ) (at above g i base n k f j : ℕ) (b : Bool) → Turn w at above g i base n k → f ≡ getD (listAt w i) k 0 → j ≡ subsWord at f
@@ -77,7 +77,7 @@ diamond-at-spec =
     (λ c. let e = c .before .before .before in
     let l = e .before .before in
     let a = l .before .before .before .before .before .args in
-    every-no (p (a .w .now) (a .at) (a .above) (a .g)) 0 _ (l .loop .k) (omega (arith, e .before .loop-test .taken, l .loop .inv .n-is)) (l .loop .inv .rest)
+    every-no (p (a .lists .now) (a .middle) (a .above) (a .g)) 0 _ (l .loop .k) (omega (arith, e .before .loop-test .taken, l .loop .inv .n-is)) (l .loop .inv .rest)
     (said _ _ _ _ _ _ _ _ _ _ _ (l .loop .inv) (e .entry-at .ensures) (c .before .before .subs-at3 .ensures) (c .before .diamond-under .ensures) ∙ not-true _ (c .if1 .taken)))
     (λ c. search needs)
     (λ c. search needs)
@@ -91,7 +91,7 @@ diamond-at-spec =
       base-is = t .base-is;
       n-is = t .n-is;
       rest =
-          every-yes (p (a .w .now) (a .at) (a .above) (a .g)) 0 _ (l .loop .k) (omega (arith, e .before .loop-test .taken, t .n-is)) (t .rest)
+          every-yes (p (a .lists .now) (a .middle) (a .above) (a .g)) 0 _ (l .loop .k) (omega (arith, e .before .loop-test .taken, t .n-is)) (t .rest)
           (said _ _ _ _ _ _ _ _ _ _ _ t (e .entry-at .ensures) (c .before .before .subs-at3 .ensures) (c .before .diamond-under .ensures) ∙ not-false _ (c .if1 .left));
     })
     (λ c. let l = c .before in

@@ -21,10 +21,10 @@ abbrev p : Shape → List ℕ → ℕ → Bool
 p sh w r = twoRank w (firstAt sh r) (firstAt sh (suc r)) (sizeAt sh (suc r))
 
 abbrev Inv : tie.InvT-loop
-Inv w from sh rank low₀ low = (from ≤ low) × (low ≤ rank) × Every (p sh w) (range (suc from) (rank - 1 - from)) (low - from)
+Inv w from sh rank r₀ r = (from ≤ r) × (r ≤ rank) × Every (p sh w) (range (suc from) (rank - 1 - from)) (r - from)
 
 abbrev μ : tie.MeasureT-loop
-μ w from sh rank low₀ low = rank - low
+μ w from sh rank r₀ r = rank - r
 
 -- The ranks k to k + 2 are as the code has them.
 module _ (sh : Shape) (w : List ℕ) (k : ℕ) where
@@ -45,8 +45,8 @@ module _ (sh : Shape) (w : List ℕ) (k : ℕ) where
   said b e = sym (rw (two-is, three-is, add-one k) at e)
 
 -- The invariant goes on by one turn.
-turn-on : (p : ℕ → Bool) (l : List ℕ) (from low : ℕ) → from ≤ low → Every p l (low - from + 1) → Every p l (low + 1 - from)
-turn-on p l from low h e = let q : low + 1 - from ≡ low - from + 1 = omega arith in rw q e
+turn-on : (p : ℕ → Bool) (l : List ℕ) (from r : ℕ) → from ≤ r → Every p l (r - from + 1) → Every p l (r + 1 - from)
+turn-on p l from r h e = let q : r + 1 - from ≡ r - from + 1 = omega arith in rw q e
 
 pub diamond-from-spec : {M : Type 1} → statement M
 unfolding twoFrom
@@ -70,23 +70,23 @@ diamond-from-spec =
     (λ c. omega (arith, c .before .before .before .before .before .before .pre .0 .tall))
     -- The needs are sub-diamond-rank and diamond-rank-requires.
     (λ c. let l = c .before .before .before .before .before in let s = l .before .before in
-    rising (s .args .t2) (s .args .w .now) (l .loop .low) (s .pre .0) (omega (arith, c .before .before .before .before .loop-test .taken)))
+    rising (s .args .t2) (s .args .lists .now) (l .loop .r) (s .pre .0) (omega (arith, c .before .before .before .before .loop-test .taken)))
     (λ c κs. let l = c .before .before .before .before .before in let s = l .before .before in
-    tiers (s .args .t2) (s .args .w .now) (l .loop .low) (s .pre .0) (omega (arith, c .before .before .before .before .loop-test .taken)))
-    -- The needs are returns, add-low, loop-less, loop-again and returns-2.
+    tiers (s .args .t2) (s .args .lists .now) (l .loop .r) (s .pre .0) (omega (arith, c .before .before .before .before .loop-test .taken)))
+    -- The needs are returns, add-r, loop-less, loop-again and returns-2.
     (λ c. let b = c .before in let i = b .before .before .before .before .before in let l = i .before in let s = l .before .before in
     let more = i .loop-test .taken in let after = l .loop .inv .0 in
-    range-no (p (s .args .t2) (s .args .w .now)) (suc (s .args .from)) _ (l .loop .low - s .args .from) (suc (l .loop .low)) (omega arith) (omega arith) (l .loop .inv .2)
-    (said (s .args .t2) (s .args .w .now) (l .loop .low) _ (b .diamond-rank .ensures) ∙ not-true _ (c .if1 .taken)))
+    range-no (p (s .args .t2) (s .args .lists .now)) (suc (s .args .from)) _ (l .loop .r - s .args .from) (suc (l .loop .r)) (omega arith) (omega arith) (l .loop .inv .2)
+    (said (s .args .t2) (s .args .lists .now) (l .loop .r) _ (b .diamond-rank .ensures) ∙ not-true _ (c .if1 .taken)))
     (λ c. search needs)
     (λ c. search needs)
     (λ c. let b = c .before in let i = b .before .before .before .before .before in let l = i .before in let s = l .before .before in
     let more = i .loop-test .taken in let after = l .loop .inv .0 in (
       omega arith,
       omega arith,
-      turn-on (p (s .args .t2) (s .args .w .now)) _ (s .args .from) (l .loop .low) after
-          (range-yes (p (s .args .t2) (s .args .w .now)) (suc (s .args .from)) _ (l .loop .low - s .args .from) (suc (l .loop .low)) (omega arith) (omega arith) (l .loop .inv .2)
-          (said (s .args .t2) (s .args .w .now) (l .loop .low) _ (b .diamond-rank .ensures) ∙ not-false _ (c .if1 .left))),
+      turn-on (p (s .args .t2) (s .args .lists .now)) _ (s .args .from) (l .loop .r) after
+          (range-yes (p (s .args .t2) (s .args .lists .now)) (suc (s .args .from)) _ (l .loop .r - s .args .from) (suc (l .loop .r)) (omega arith) (omega arith) (l .loop .inv .2)
+          (said (s .args .t2) (s .args .lists .now) (l .loop .r) _ (b .diamond-rank .ensures) ∙ not-false _ (c .if1 .left))),
     ))
     (λ c. let l = c .before in let s = l .before .before in let after = l .loop .inv .0 in
-    range-end (p (s .args .t2) (s .args .w .now)) (suc (s .args .from)) _ (l .loop .low - s .args .from) (omega (arith, c .loop-test .left)) (l .loop .inv .2)))
+    range-end (p (s .args .t2) (s .args .lists .now)) (suc (s .args .from)) _ (l .loop .r - s .args .from) (omega (arith, c .loop-test .left)) (l .loop .inv .2)))

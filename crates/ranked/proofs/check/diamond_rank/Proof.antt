@@ -28,14 +28,14 @@ diamond-rank-spec =
     -- The needs are returns, add-g, loop-less, loop-again and returns-2.
     (λ c. let l = c .before .before .before in
     let a = l .before .before .args in
-    range-no (twoAt (a .w .now) (a .at) (a .above)) 0 (a .n) (l .loop .g) (l .loop .g) (omega arith) (c .before .before .loop-test .taken) (l .loop .inv .1)
+    range-no (twoAt (a .lists .now) (a .middle) (a .above)) 0 (a .n) (l .loop .g) (l .loop .g) (omega arith) (c .before .before .loop-test .taken) (l .loop .inv .1)
     (sym (c .before .diamond-at .ensures) ∙ not-true _ (c .if1 .taken)))
     (λ c. search needs)
     (λ c. search needs)
     (λ c. let l = c .before .before .before in
     let a = l .before .before .args in (
       search needs,
-      range-yes (twoAt (a .w .now) (a .at) (a .above)) 0 (a .n) (l .loop .g) (l .loop .g) (omega arith) (c .before .before .loop-test .taken) (l .loop .inv .1)
+      range-yes (twoAt (a .lists .now) (a .middle) (a .above)) 0 (a .n) (l .loop .g) (l .loop .g) (omega arith) (c .before .before .loop-test .taken) (l .loop .inv .1)
           (sym (c .before .diamond-at .ensures) ∙ not-false _ (c .if1 .left)),
     ))
     (λ c. range-end _ 0 _ (c .before .loop .g) (c .loop-test .left) (c .before .loop .inv .1)))

@@ -26,12 +26,12 @@ abbrev μ : tie.MeasureT-loop
 
 -- The entry makes a fork with g.
 fork : (c : tie.After-entry-at Inv μ)
-    → let a = c .before .before .before .before .before .args in Fork (a .w .now) (a .i) (supsWord (a .below) (c .entry-at .result)) (a .base) (a .g) (c .entry-at .result)
+    → let a = c .before .before .before .before .before .args in Fork (a .lists .now) (a .i) (supsWord (a .below) (c .entry-at .result)) (a .base) (a .g) (c .entry-at .result)
 fork c =
     let l = c .before .before in
     let s = l .before .before .before in
     let a = s .args in
-    s .pre .1 (c .entry-at .result) (entry-in (listAt (a .w .now) (a .j)) (l .loop .k) _ (omega (arith, c .before .loop-test .taken, l .loop .inv .1)) (c .entry-at .ensures))
+    s .pre .1 (c .entry-at .result) (entry-in (listAt (a .lists .now) (a .j)) (l .loop .k) _ (omega (arith, c .before .loop-test .taken, l .loop .inv .1)) (c .entry-at .ensures))
 
 pub diamond-under-spec : {M : Type 1} → statement M
 unfolding twoUnder
@@ -49,7 +49,7 @@ diamond-under-spec =
     (λ c. let e = c .before .before .before in
     let l = e .before .before in
     let a = l .before .before .before .args in
-    every-no (p (a .w .now) (a .i) (a .base)) 0 _ (l .loop .k) (omega (arith, e .before .loop-test .taken, l .loop .inv .1)) (l .loop .inv .2)
+    every-no (p (a .lists .now) (a .i) (a .base)) 0 _ (l .loop .k) (omega (arith, e .before .loop-test .taken, l .loop .inv .1)) (l .loop .inv .2)
     (ne-eqb _ _ (λ q. c .if1 .taken (c .before .between .ensures ∙ rw (e .entry-at .ensures) q))))
     (λ c. search needs)
     (λ c. search needs)
@@ -58,7 +58,7 @@ diamond-under-spec =
     let a = l .before .before .before .args in (
       search needs,
       l .loop .inv .1,
-      every-yes (p (a .w .now) (a .i) (a .base)) 0 _ (l .loop .k) (omega (arith, e .before .loop-test .taken, l .loop .inv .1)) (l .loop .inv .2)
+      every-yes (p (a .lists .now) (a .i) (a .base)) 0 _ (l .loop .k) (omega (arith, e .before .loop-test .taken, l .loop .inv .1)) (l .loop .inv .2)
           (eq-eqb _ _ (rw (e .entry-at .ensures) at (sym (c .before .between .ensures) ∙ c .if1 .left))),
     ))
     (λ c. let l = c .before in

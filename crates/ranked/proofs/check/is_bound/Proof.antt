@@ -56,23 +56,23 @@ is-bound-spec =
     (λ c. omega (arith, c .before .before .before .before .pre .tall))
     -- The needs are sub-bound-rank and bound-rank-requires.
     (λ c. let l = c .before .before .before in let s = l .before .before in
-    rising (s .args .t2) (s .args .w .now) (l .loop .k) (s .pre) (omega (arith, c .before .before .loop-test .taken)))
+    rising (s .args .t2) (s .args .lists .now) (l .loop .k) (s .pre) (omega (arith, c .before .before .loop-test .taken)))
     (λ c κs. let l = c .before .before .before in let s = l .before .before in
-    lies (s .args .t2) (s .args .w .now) (l .loop .k) (s .pre) (omega (arith, c .before .before .loop-test .taken)))
+    lies (s .args .t2) (s .args .lists .now) (l .loop .k) (s .pre) (omega (arith, c .before .before .loop-test .taken)))
     -- The needs are returns, add-k, loop-less, loop-again and returns-2.
     (λ c. let b = c .before in let l = b .before .before .before .before in let s = l .before .before in
     let more = b .before .before .before .loop-test .taken in
-    range-no (p (s .args .t2) (s .args .w .now)) 1 _ (l .loop .k) (l .loop .k + 1) (omega arith) (omega arith) (l .loop .inv .1)
-    (said (s .args .t2) (s .args .w .now) (l .loop .k) _ (b .bound-rank .ensures) ∙ not-true _ (c .if1 .taken))
-    ∙ sym (bound-is (s .args .t2) (s .args .w .now) (s .pre)))
+    range-no (p (s .args .t2) (s .args .lists .now)) 1 _ (l .loop .k) (l .loop .k + 1) (omega arith) (omega arith) (l .loop .inv .1)
+    (said (s .args .t2) (s .args .lists .now) (l .loop .k) _ (b .bound-rank .ensures) ∙ not-true _ (c .if1 .taken))
+    ∙ sym (bound-is (s .args .t2) (s .args .lists .now) (s .pre)))
     (λ c. search needs)
     (λ c. search needs)
     (λ c. let b = c .before in let l = b .before .before .before .before in let s = l .before .before in
     let more = b .before .before .before .loop-test .taken in (
       omega arith,
-      range-yes (p (s .args .t2) (s .args .w .now)) 1 _ (l .loop .k) (l .loop .k + 1) (omega arith) (omega arith) (l .loop .inv .1)
-          (said (s .args .t2) (s .args .w .now) (l .loop .k) _ (b .bound-rank .ensures) ∙ not-false _ (c .if1 .left)),
+      range-yes (p (s .args .t2) (s .args .lists .now)) 1 _ (l .loop .k) (l .loop .k + 1) (omega arith) (omega arith) (l .loop .inv .1)
+          (said (s .args .t2) (s .args .lists .now) (l .loop .k) _ (b .bound-rank .ensures) ∙ not-false _ (c .if1 .left)),
     ))
     (λ c. let l = c .before in let s = l .before .before in
-    range-end (p (s .args .t2) (s .args .w .now)) 1 _ (l .loop .k) (omega (arith, c .loop-test .left)) (l .loop .inv .1)
-    ∙ sym (bound-is (s .args .t2) (s .args .w .now) (s .pre))))
+    range-end (p (s .args .t2) (s .args .lists .now)) 1 _ (l .loop .k) (omega (arith, c .loop-test .left)) (l .loop .inv .1)
+    ∙ sym (bound-is (s .args .t2) (s .args .lists .now) (s .pre))))

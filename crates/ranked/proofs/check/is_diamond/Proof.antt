@@ -15,7 +15,7 @@ is-diamond-spec =
     -- The needs are diamond-from-requires and returns.
     (λ c κs. search needs)
     (λ c. let b = c .before in let s = b .before .before .before in
-    sym (diamond-not (s .args .sh) (s .args .w .now) (s .pre) _ (omega (arith, b .before .if1 .taken)) (sym (b .diamond-from .ensures) ∙ not-true _ (c .if2 .taken))))
+    sym (diamond-not (s .args .sh) (s .args .lists .now) (s .pre) _ (omega (arith, b .before .if1 .taken)) (sym (b .diamond-from .ensures) ∙ not-true _ (c .if2 .taken))))
     -- The needs are diamond-from-requires-2 and returns-2.
     (λ c κs. search needs)
-    (λ c. let s = c .before .before .before in c .diamond-from2 .ensures ∙ diamond-whole (s .args .sh) (s .args .w .now) (s .pre)))
+    (λ c. let s = c .before .before .before in c .diamond-from2 .ensures ∙ diamond-whole (s .args .sh) (s .args .lists .now) (s .pre)))

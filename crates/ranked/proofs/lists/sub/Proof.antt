@@ -13,7 +13,7 @@ sub-spec =
     (λ c. search needs)
     (λ c. search needs)
     -- The needs are subs-at-requires, entry-at-requires and returns.
-    (λ c κs. let s = c .before .before in let a = s .args in omega (arith, subs-lie (a .sh) (a .w .now) (s .pre .0) (a .r) (a .e) (s .pre .1 .0) (s .pre .1 .1) .head))
-    (λ c κs. let s = c .before .before .before in let a = s .args in rw (c .subs-at .ensures) (subs-lie (a .sh) (a .w .now) (s .pre .0) (a .r) (a .e) (s .pre .1 .0) (s .pre .1 .1), rw (subs-listed (a .sh) (a .w .now) (s .pre .0) (a .r) (a .e) (s .pre .1 .0) (s .pre .1 .1)) (s .pre .1 .2)))
+    (λ c κs. let s = c .before .before in let a = s .args in omega (arith, subs-lie (a .sh) (a .lists .now) (s .pre .0) (a .r) (a .e) (s .pre .1 .0) (s .pre .1 .1) .head))
+    (λ c κs. let s = c .before .before .before in let a = s .args in rw (c .subs-at .ensures) (subs-lie (a .sh) (a .lists .now) (s .pre .0) (a .r) (a .e) (s .pre .1 .0) (s .pre .1 .1), rw (subs-listed (a .sh) (a .lists .now) (s .pre .0) (a .r) (a .e) (s .pre .1 .0) (s .pre .1 .1)) (s .pre .1 .2)))
     (λ c. let s = c .before .before .before .before in let a = s .args in
-    rw (c .before .subs-at .ensures, subs-listed (a .sh) (a .w .now) (s .pre .0) (a .r) (a .e) (s .pre .1 .0) (s .pre .1 .1)) at (c .entry-at .ensures)))
+    rw (c .before .subs-at .ensures, subs-listed (a .sh) (a .lists .now) (s .pre .0) (a .r) (a .e) (s .pre .1 .0) (s .pre .1 .1)) at (c .entry-at .ensures)))
