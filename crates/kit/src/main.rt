@@ -54,9 +54,9 @@ fn dimension(sheet: &[u8]) -> usize
 }
 
 // Writes the last line, behind the types: what the search found, or its refusal.
-fn last_line(sheet: &[u8], out: &mut [u8; TEXT], at: usize) -> usize
-    requires { ⌜ at + 91 ≤ 6262 ⌝ }
-    ensures { λ r. ⌜ Puts at (lastLine (outcome (membersIn (now (sheet .entry)) workWords workFloats) lent)) (now (out .entry)) (now (out .exit)) r ⌝ }
+fn last_line(sheet: &[u8], out: &mut [u8; TEXT], from: usize) -> usize
+    requires { ⌜ from + 91 ≤ 6262 ⌝ }
+    ensures { λ r. ⌜ Puts from (lastLine (outcome (membersIn (now (sheet .entry)) workWords workFloats) lent)) (now (out .entry)) (now (out .exit)) r ⌝ }
 {
     let mut words = [0u32; WORDS];
     let mut floats = [0.0; FLOATS];
@@ -76,9 +76,9 @@ fn last_line(sheet: &[u8], out: &mut [u8; TEXT], at: usize) -> usize
             let d = dimension(sheet);
             let confirmed = counting::confirmed(&marks, n);
             let rotations = counting::rotations(&matrices, d, n);
-            lines::members(out, at, n, confirmed, rotations)
+            lines::members(out, from, n, confirmed, rotations)
         }
-        Answer::Refused(why, _) => lines::refused(out, at, why),
+        Answer::Refused(why, _) => lines::refused(out, from, why),
     }
 }
 

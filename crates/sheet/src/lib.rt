@@ -60,31 +60,31 @@ enum Listed {
     Refused(Refusal),
 }
 
-// Returns bit `at` of the sheet.
-fn bit(sheet: &[u8], at: usize) -> u64
-    requires { ⌜ at / 8 < length (now sheet) ⌝ }
-    ensures { λ r. ⌜ r ≡ bits.bit (now (sheet .entry)) at ⌝ }
+// Returns one bit of the sheet, by its index.
+fn bit(sheet: &[u8], index: usize) -> u64
+    requires { ⌜ index / 8 < length (now sheet) ⌝ }
+    ensures { λ r. ⌜ r ≡ bits.bit (now (sheet .entry)) index ⌝ }
 {
-    ((sheet[at / 8] >> (7 - at % 8)) % 2) as u64
+    ((sheet[index / 8] >> (7 - index % 8)) % 2) as u64
 }
 
-// Tells whether the `width` bits from bit `at` on are all there. A sheet's length in bits may not fit 64 bits, so bytes are compared.
-fn whole(sheet: &[u8], at: usize, width: usize) -> bool
-    requires { ⌜ at + width + 7 < 2 ^ 64 ⌝ }
-    ensures { λ r. ⌜ r ≡ leb (at + width) (8 * length (now (sheet .entry))) ⌝ }
+// Tells whether the `width` bits from bit `start` on are all there. A sheet's length in bits may not fit 64 bits, so bytes are compared.
+fn whole(sheet: &[u8], start: usize, width: usize) -> bool
+    requires { ⌜ start + width + 7 < 2 ^ 64 ⌝ }
+    ensures { λ r. ⌜ r ≡ leb (start + width) (8 * length (now (sheet .entry))) ⌝ }
 {
-    (at + width + 7) / 8 <= sheet.len()
+    (start + width + 7) / 8 <= sheet.len()
 }
 
-// Returns the number that the `width` bits from bit `at` on stand for.
-pub fn field(sheet: &[u8], at: usize, width: usize) -> u64
-    requires { ⌜ (width ≤ 64) × (at + width < 2 ^ 64) × (at + width ≤ 8 * length (now sheet)) ⌝ }
-    ensures { λ r. ⌜ r ≡ bits.field (now (sheet .entry)) at width ⌝ }
+// Returns the number that the `width` bits from bit `start` on stand for.
+pub fn field(sheet: &[u8], start: usize, width: usize) -> u64
+    requires { ⌜ (width ≤ 64) × (start + width < 2 ^ 64) × (start + width ≤ 8 * length (now sheet)) ⌝ }
+    ensures { λ r. ⌜ r ≡ bits.field (now (sheet .entry)) start width ⌝ }
 {
     let mut v: u64 = 0;
     let mut k = 0;
     while k < width {
-        v = 2 * v + bit(sheet, at + k);
+        v = 2 * v + bit(sheet, start + k);
         k += 1;
     }
     v
@@ -188,21 +188,21 @@ fn subs(sheet: &[u8], start: usize, below: usize, n: usize) -> Place
 }
 
 // Reads one list, its length in 12 bits and then its subs, where its rank has `used` entries before it.
-fn list(sheet: &[u8], at: usize, below: usize, used: usize) -> Listed
-    requires { ⌜ (at < 2 ^ 32) × (used ≤ maxEntries) ⌝ }
-    ensures { λ r. ⌜ r ≡ listedOf length used (form.list (now (sheet .entry)) below used at) ⌝ }
+fn list(sheet: &[u8], start: usize, below: usize, used: usize) -> Listed
+    requires { ⌜ (start < 2 ^ 32) × (used ≤ maxEntries) ⌝ }
+    ensures { λ r. ⌜ r ≡ listedOf length used (form.list (now (sheet .entry)) below used start) ⌝ }
 {
-    if !whole(sheet, at, 12) {
+    if !whole(sheet, start, 12) {
         return Listed::Refused(Refusal::CutSheet);
     }
-    let n = field(sheet, at, 12) as usize;
+    let n = field(sheet, start, 12) as usize;
     if used + n > MAX_ENTRIES {
         return Listed::Refused(Refusal::Format);
     }
     if n == 0 {
         return Listed::Refused(Refusal::BadList);
     }
-    match subs(sheet, at + 12, below, n) {
+    match subs(sheet, start + 12, below, n) {
         Place::Refused(why) => Listed::Refused(why),
         Place::At(p) => Listed::At(p, used + n),
     }
@@ -257,18 +257,18 @@ fn lists(sheet: &[u8], start: usize, counts: [usize; PROPER], n: usize) -> Liste
 }
 
 // Tells whether the sheet ends here: no byte follows, and the filling bits are 0.
-fn ends(sheet: &[u8], at: usize) -> bool
-    requires { ⌜ at < 2 ^ 63 ⌝ }
-    ensures { λ r. ⌜ r ≡ passes (form.end (now (sheet .entry)) at) ⌝ }
+fn ends(sheet: &[u8], start: usize) -> bool
+    requires { ⌜ start < 2 ^ 63 ⌝ }
+    ensures { λ r. ⌜ r ≡ passes (form.end (now (sheet .entry)) start) ⌝ }
 {
-    if sheet.len() > (at + 7) / 8 {
+    if sheet.len() > (start + 7) / 8 {
         return false;
     }
     let end = 8 * sheet.len();
-    if end <= at {
+    if end <= start {
         return true;
     }
-    field(sheet, at, end - at) == 0
+    field(sheet, start, end - start) == 0
 }
 
 // Returns the number of proper ranks.

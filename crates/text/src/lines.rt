@@ -12,28 +12,28 @@ use crate::writing::put_labelled;
 use spec::Refusal;
 
 // Writes a refusal's line: "A refusal prints `refused` and its number".
-pub fn refused(out: &mut [u8], at: usize, why: Refusal) -> usize
-    requires { ⌜ at + length (refusedLine why) ≤ length (now out) ⌝ }
-    ensures { λ r. ⌜ Puts at (refusedLine why) (now (out .entry)) (now (out .exit)) r ⌝ }
+pub fn refused(out: &mut [u8], from: usize, why: Refusal) -> usize
+    requires { ⌜ from + length (refusedLine why) ≤ length (now out) ⌝ }
+    ensures { λ r. ⌜ Puts from (refusedLine why) (now (out .entry)) (now (out .exit)) r ⌝ }
 {
     let n = why.number() as usize;
-    let end = put_labelled(out, at, b"refused ", n);
+    let end = put_labelled(out, from, b"refused ", n);
     put_bytes(out, end, b"\n")
 }
 
 // Writes a type's line: "rank, type, example, count".
 pub fn element_type(
     out: &mut [u8],
-    at: usize,
+    from: usize,
     rank: usize,
     number: usize,
     example: usize,
     count: usize,
 ) -> usize
-    requires { ⌜ at + length (typeLine (record { rank = rank; number = number; example = example; count = count })) ≤ length (now out) ⌝ }
-    ensures { λ r. ⌜ Puts at (typeLine (record { rank = rank; number = number; example = example; count = count })) (now (out .entry)) (now (out .exit)) r ⌝ }
+    requires { ⌜ from + length (typeLine (record { rank = rank; number = number; example = example; count = count })) ≤ length (now out) ⌝ }
+    ensures { λ r. ⌜ Puts from (typeLine (record { rank = rank; number = number; example = example; count = count })) (now (out .entry)) (now (out .exit)) r ⌝ }
 {
-    let first = put_decimal(out, at, rank);
+    let first = put_decimal(out, from, rank);
     let second = put_labelled(out, first, b" ", number);
     let third = put_labelled(out, second, b" ", example);
     let fourth = put_labelled(out, third, b" ", count);
@@ -56,11 +56,11 @@ fn cell(table: &[u16], p: usize) -> usize
 }
 
 // Writes the lines of the first n types of a table.
-fn type_lines(out: &mut [u8], at: usize, table: &[u16], n: usize) -> usize
-    requires { ⌜ (4 * n ≤ length (now table)) × (at + length (linesTo (now table) n) ≤ length (now out)) ⌝ }
-    ensures { λ r. ⌜ Puts at (linesTo (now (table .entry)) n) (now (out .entry)) (now (out .exit)) r ⌝ }
+fn type_lines(out: &mut [u8], from: usize, table: &[u16], n: usize) -> usize
+    requires { ⌜ (4 * n ≤ length (now table)) × (from + length (linesTo (now table) n) ≤ length (now out)) ⌝ }
+    ensures { λ r. ⌜ Puts from (linesTo (now (table .entry)) n) (now (out .entry)) (now (out .exit)) r ⌝ }
 {
-    let mut end = at;
+    let mut end = from;
     let mut i: usize = 0;
     while i < n {
         let p = 4 * i;
@@ -75,21 +75,21 @@ fn type_lines(out: &mut [u8], at: usize, table: &[u16], n: usize) -> usize
 }
 
 // Writes all lines of the types. "The first line counts types", and then comes a line for each of the n types whose cells the table begins with.
-pub fn element_types(out: &mut [u8], at: usize, table: &[u16], n: usize) -> usize
-    requires { ⌜ (4 * n ≤ length (now table)) × (at + length (typesLines (typesFrom (take (4 * n) (now table)))) ≤ length (now out)) ⌝ }
-    ensures { λ r. ⌜ Puts at (typesLines (typesFrom (take (4 * n) (now (table .entry))))) (now (out .entry)) (now (out .exit)) r ⌝ }
+pub fn element_types(out: &mut [u8], from: usize, table: &[u16], n: usize) -> usize
+    requires { ⌜ (4 * n ≤ length (now table)) × (from + length (typesLines (typesFrom (take (4 * n) (now table)))) ≤ length (now out)) ⌝ }
+    ensures { λ r. ⌜ Puts from (typesLines (typesFrom (take (4 * n) (now (table .entry))))) (now (out .entry)) (now (out .exit)) r ⌝ }
 {
-    let first = put_labelled(out, at, b"types ", n);
+    let first = put_labelled(out, from, b"types ", n);
     let second = put_bytes(out, first, b"\n");
     type_lines(out, second, table, n)
 }
 
 // Writes the last line, which counts "the members, those marked 1, and those of determinant above 0".
-pub fn members(out: &mut [u8], at: usize, n: usize, confirmed: usize, rotations: usize) -> usize
-    requires { ⌜ at + length (membersText n confirmed rotations) ≤ length (now out) ⌝ }
-    ensures { λ r. ⌜ Puts at (membersText n confirmed rotations) (now (out .entry)) (now (out .exit)) r ⌝ }
+pub fn members(out: &mut [u8], from: usize, n: usize, confirmed: usize, rotations: usize) -> usize
+    requires { ⌜ from + length (membersText n confirmed rotations) ≤ length (now out) ⌝ }
+    ensures { λ r. ⌜ Puts from (membersText n confirmed rotations) (now (out .entry)) (now (out .exit)) r ⌝ }
 {
-    let first = put_labelled(out, at, b"members ", n);
+    let first = put_labelled(out, from, b"members ", n);
     let second = put_labelled(out, first, b" confirmed ", confirmed);
     let third = put_labelled(out, second, b" rotations ", rotations);
     put_bytes(out, third, b"\n")

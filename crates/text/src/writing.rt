@@ -6,16 +6,16 @@ ghost use lib.ListN.{length};
 ghost use Rattle.spec.specs.KitText.{decimal};
 ghost use Rattle.text.specs.Puts.{Puts};
 
-pub fn put_bytes(out: &mut [u8], at: usize, s: &[u8]) -> usize
-    requires { ⌜ at + length (now s) ≤ length (now out) ⌝ }
-    ensures { λ r. ⌜ Puts at (now (s .entry)) (now (out .entry)) (now (out .exit)) r ⌝ }
+pub fn put_bytes(out: &mut [u8], from: usize, s: &[u8]) -> usize
+    requires { ⌜ from + length (now s) ≤ length (now out) ⌝ }
+    ensures { λ r. ⌜ Puts from (now (s .entry)) (now (out .entry)) (now (out .exit)) r ⌝ }
 {
     let mut i: usize = 0;
     while i < s.len() {
-        out[at + i] = s[i];
+        out[from + i] = s[i];
         i += 1;
     }
-    at + i
+    from + i
 }
 
 // Returns the character of a digit.
@@ -27,24 +27,24 @@ fn digit(n: usize) -> u8
 }
 
 // Writes a number's digits in order: those of its tenth part come first.
-pub fn put_decimal(out: &mut [u8], at: usize, n: usize) -> usize
-    requires { ⌜ at + length (decimal n) ≤ length (now out) ⌝ }
-    ensures { λ r. ⌜ Puts at (decimal n) (now (out .entry)) (now (out .exit)) r ⌝ }
+pub fn put_decimal(out: &mut [u8], from: usize, n: usize) -> usize
+    requires { ⌜ from + length (decimal n) ≤ length (now out) ⌝ }
+    ensures { λ r. ⌜ Puts from (decimal n) (now (out .entry)) (now (out .exit)) r ⌝ }
 {
     if n < 10 {
-        out[at] = digit(n);
-        return at + 1;
+        out[from] = digit(n);
+        return from + 1;
     }
-    let end = put_decimal(out, at, n / 10);
+    let end = put_decimal(out, from, n / 10);
     out[end] = digit(n % 10);
     end + 1
 }
 
 // Writes a number behind its label.
-pub fn put_labelled(out: &mut [u8], at: usize, label: &[u8], n: usize) -> usize
-    requires { ⌜ at + length (now label ++ decimal n) ≤ length (now out) ⌝ }
-    ensures { λ r. ⌜ Puts at (now (label .entry) ++ decimal n) (now (out .entry)) (now (out .exit)) r ⌝ }
+pub fn put_labelled(out: &mut [u8], from: usize, label: &[u8], n: usize) -> usize
+    requires { ⌜ from + length (now label ++ decimal n) ≤ length (now out) ⌝ }
+    ensures { λ r. ⌜ Puts from (now (label .entry) ++ decimal n) (now (out .entry)) (now (out .exit)) r ⌝ }
 {
-    let end = put_bytes(out, at, label);
+    let end = put_bytes(out, from, label);
     put_decimal(out, end, n)
 }

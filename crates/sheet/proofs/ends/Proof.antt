@@ -10,9 +10,9 @@ pub ends-spec : {M : Type 1} → statement M
 ends-spec =
     tie.close
     (tie.spec (λ c. search needs)
-    (λ c. let a = c .before .before .args in end-follows (a .sheet .now) (a .at) (omega arith))
+    (λ c. let a = c .before .before .args in end-follows (a .sheet .now) (a .start) (omega arith))
     (λ c. search needs)
-    (λ c. let a = c .before .before .before .args in end-here (a .sheet .now) (a .at) (c .if2 .taken))
+    (λ c. let a = c .before .before .before .args in end-here (a .sheet .now) (a .start) (c .if2 .taken))
     (λ c. search needs)
     (λ c κs. search needs)
-    (λ c. let e = c .before .before in let a = e .before .before .args in rw (c .field .ensures) (end-filled (a .sheet .now) (a .at) (omega arith))))
+    (λ c. let e = c .before .before in let a = e .before .before .args in rw (c .field .ensures) (end-filled (a .sheet .now) (a .start) (omega arith))))

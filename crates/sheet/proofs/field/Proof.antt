@@ -23,11 +23,11 @@ field-spec =
     (tie.spec Inv μ
     (λ c. search needs)
     (λ c. let a = c .before .before .before .args in let l = c .before .loop in
-    omega (arith, next-fits (a .sheet .now) (a .at) (l .k) (omega arith)))
+    omega (arith, next-fits (a .sheet .now) (a .start) (l .k) (omega arith)))
     (λ c. search needs)
     (λ c κs. search needs)
     (λ c. let a = c .before .before .before .before .args in let l = c .before .before .loop in
-    omega (arith, next-fits (a .sheet .now) (a .at) (l .k) (omega arith), c .bit .ensures))
+    omega (arith, next-fits (a .sheet .now) (a .start) (l .k) (omega arith), c .bit .ensures))
     (λ c. search needs)
     (λ c. search needs)
     (λ c. let l = c .before .before .loop in

@@ -12,4 +12,4 @@ whole-spec =
     tie.close
     (tie.spec (λ c. search needs)
     (λ c. search needs)
-    (λ c. by-bytes (c .args .at + c .args .width) (length (c .args .sheet .now))))
+    (λ c. by-bytes (c .args .start + c .args .width) (length (c .args .sheet .now))))

@@ -9,14 +9,14 @@ use Rattle.text.proofs.lines.element_type.Statement.{statement}
 use Rattle.text.proofs.lines.element_type.Tie as tie
 
 put-decimal-requires : tie.Need-put-decimal-requires
-put-decimal-requires c κs = let s = c .before .before in type-rooms (s .args .rank) (s .args .number) (s .args .example) (s .args .count) (s .args .at) _ (s .pre) .0
+put-decimal-requires c κs = let s = c .before .before in type-rooms (s .args .rank) (s .args .number) (s .args .example) (s .args .count) (s .args .from) _ (s .pre) .0
 
 put-labelled-requires : tie.Need-put-labelled-requires
 unfolding ascii
 put-labelled-requires c κs =
     let e0 = c .before .before .before .before in
     let s = e0 .before .before .before in
-    room-then (e0 .put-decimal .ensures) _ (type-rooms (s .args .rank) (s .args .number) (s .args .example) (s .args .count) (s .args .at) _ (s .pre) .1)
+    room-then (e0 .put-decimal .ensures) _ (type-rooms (s .args .rank) (s .args .number) (s .args .example) (s .args .count) (s .args .from) _ (s .pre) .1)
 
 put-labelled-requires-2 : tie.Need-put-labelled-requires-2
 unfolding ascii
@@ -24,7 +24,7 @@ put-labelled-requires-2 c κs =
     let e1 = c .before .before .before .before in
     let e0 = e1 .before .before .before .before .before in
     let s = e0 .before .before .before in
-    room-then (puts-then (e0 .put-decimal .ensures) (e1 .put-labelled .ensures)) _ (type-rooms (s .args .rank) (s .args .number) (s .args .example) (s .args .count) (s .args .at) _ (s .pre) .2)
+    room-then (puts-then (e0 .put-decimal .ensures) (e1 .put-labelled .ensures)) _ (type-rooms (s .args .rank) (s .args .number) (s .args .example) (s .args .count) (s .args .from) _ (s .pre) .2)
 
 put-labelled-requires-3 : tie.Need-put-labelled-requires-3
 unfolding ascii
@@ -33,7 +33,7 @@ put-labelled-requires-3 c κs =
     let e1 = e2 .before .before .before .before .before in
     let e0 = e1 .before .before .before .before .before in
     let s = e0 .before .before .before in
-    room-then (puts-then (puts-then (e0 .put-decimal .ensures) (e1 .put-labelled .ensures)) (e2 .put-labelled2 .ensures)) _ (type-rooms (s .args .rank) (s .args .number) (s .args .example) (s .args .count) (s .args .at) _ (s .pre) .3)
+    room-then (puts-then (puts-then (e0 .put-decimal .ensures) (e1 .put-labelled .ensures)) (e2 .put-labelled2 .ensures)) _ (type-rooms (s .args .rank) (s .args .number) (s .args .example) (s .args .count) (s .args .from) _ (s .pre) .3)
 
 put-bytes-requires : tie.Need-put-bytes-requires
 unfolding ascii
@@ -43,7 +43,7 @@ put-bytes-requires c κs =
     let e1 = e2 .before .before .before .before .before in
     let e0 = e1 .before .before .before .before .before in
     let s = e0 .before .before .before in
-    room-then (puts-then (puts-then (puts-then (e0 .put-decimal .ensures) (e1 .put-labelled .ensures)) (e2 .put-labelled2 .ensures)) (e3 .put-labelled3 .ensures)) _ (type-rooms (s .args .rank) (s .args .number) (s .args .example) (s .args .count) (s .args .at) _ (s .pre) .4)
+    room-then (puts-then (puts-then (puts-then (e0 .put-decimal .ensures) (e1 .put-labelled .ensures)) (e2 .put-labelled2 .ensures)) (e3 .put-labelled3 .ensures)) _ (type-rooms (s .args .rank) (s .args .number) (s .args .example) (s .args .count) (s .args .from) _ (s .pre) .4)
 
 returns : tie.Need-returns
 unfolding ascii

@@ -12,14 +12,14 @@ put-labelled-requires : tie.Need-put-labelled-requires
 unfolding ascii
 put-labelled-requires c κs =
     let s = c .before .before .before .before in
-    types-rooms (s .args .table .now) (s .args .n) (s .pre .0) (s .args .at) _ (s .pre .1) .0
+    types-rooms (s .args .table .now) (s .args .n) (s .pre .0) (s .args .from) _ (s .pre .1) .0
 
 put-bytes-requires : tie.Need-put-bytes-requires
 unfolding ascii
 put-bytes-requires c κs =
     let e0 = c .before .before .before .before in
     let s = e0 .before .before .before .before .before in
-    room-then (e0 .put-labelled .ensures) _ (types-rooms (s .args .table .now) (s .args .n) (s .pre .0) (s .args .at) _ (s .pre .1) .1)
+    room-then (e0 .put-labelled .ensures) _ (types-rooms (s .args .table .now) (s .args .n) (s .pre .0) (s .args .from) _ (s .pre .1) .1)
 
 type-lines-requires : tie.Need-type-lines-requires
 unfolding ascii
@@ -27,7 +27,7 @@ type-lines-requires c κs =
     let e1 = c .before .before .before in
     let e0 = e1 .before .before .before .before .before in
     let s = e0 .before .before .before .before .before in
-    (s .pre .0, room-then (puts-then (e0 .put-labelled .ensures) (e1 .put-bytes .ensures)) _ (types-rooms (s .args .table .now) (s .args .n) (s .pre .0) (s .args .at) _ (s .pre .1) .2))
+    (s .pre .0, room-then (puts-then (e0 .put-labelled .ensures) (e1 .put-bytes .ensures)) _ (types-rooms (s .args .table .now) (s .args .n) (s .pre .0) (s .args .from) _ (s .pre .1) .2))
 
 returns : tie.Need-returns
 unfolding ascii

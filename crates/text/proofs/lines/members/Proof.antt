@@ -10,14 +10,14 @@ use Rattle.text.proofs.lines.members.Tie as tie
 
 put-labelled-requires : tie.Need-put-labelled-requires
 unfolding ascii
-put-labelled-requires c κs = let s = c .before .before .before in member-rooms (s .args .n) (s .args .confirmed) (s .args .rotations) (s .args .at) _ (s .pre) .0
+put-labelled-requires c κs = let s = c .before .before .before in member-rooms (s .args .n) (s .args .confirmed) (s .args .rotations) (s .args .from) _ (s .pre) .0
 
 put-labelled-requires-2 : tie.Need-put-labelled-requires-2
 unfolding ascii
 put-labelled-requires-2 c κs =
     let e0 = c .before .before .before .before in
     let s = e0 .before .before .before .before in
-    room-then (e0 .put-labelled .ensures) _ (member-rooms (s .args .n) (s .args .confirmed) (s .args .rotations) (s .args .at) _ (s .pre) .1)
+    room-then (e0 .put-labelled .ensures) _ (member-rooms (s .args .n) (s .args .confirmed) (s .args .rotations) (s .args .from) _ (s .pre) .1)
 
 put-labelled-requires-3 : tie.Need-put-labelled-requires-3
 unfolding ascii
@@ -25,7 +25,7 @@ put-labelled-requires-3 c κs =
     let e1 = c .before .before .before .before in
     let e0 = e1 .before .before .before .before .before in
     let s = e0 .before .before .before .before in
-    room-then (puts-then (e0 .put-labelled .ensures) (e1 .put-labelled2 .ensures)) _ (member-rooms (s .args .n) (s .args .confirmed) (s .args .rotations) (s .args .at) _ (s .pre) .2)
+    room-then (puts-then (e0 .put-labelled .ensures) (e1 .put-labelled2 .ensures)) _ (member-rooms (s .args .n) (s .args .confirmed) (s .args .rotations) (s .args .from) _ (s .pre) .2)
 
 put-bytes-requires : tie.Need-put-bytes-requires
 unfolding ascii
@@ -34,7 +34,7 @@ put-bytes-requires c κs =
     let e1 = e2 .before .before .before .before .before in
     let e0 = e1 .before .before .before .before .before in
     let s = e0 .before .before .before .before in
-    room-then (puts-then (puts-then (e0 .put-labelled .ensures) (e1 .put-labelled2 .ensures)) (e2 .put-labelled3 .ensures)) _ (member-rooms (s .args .n) (s .args .confirmed) (s .args .rotations) (s .args .at) _ (s .pre) .3)
+    room-then (puts-then (puts-then (e0 .put-labelled .ensures) (e1 .put-labelled2 .ensures)) (e2 .put-labelled3 .ensures)) _ (member-rooms (s .args .n) (s .args .confirmed) (s .args .rotations) (s .args .from) _ (s .pre) .3)
 
 returns : tie.Need-returns
 unfolding ascii

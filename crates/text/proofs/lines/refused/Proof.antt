@@ -13,7 +13,7 @@ unfolding ascii
 put-labelled-requires c κs =
     let e = c .before .before in
     let s = e .before .before in
-    refused-rooms (s .args .why) (e .number .result) (e .number .ensures) (s .args .at) _ (s .pre) .0
+    refused-rooms (s .args .why) (e .number .result) (e .number .ensures) (s .args .from) _ (s .pre) .0
 
 put-bytes-requires : tie.Need-put-bytes-requires
 unfolding ascii
@@ -21,7 +21,7 @@ put-bytes-requires c κs =
     let e0 = c .before .before .before .before in
     let e = e0 .before .before .before in
     let s = e .before .before in
-    room-then (e0 .put-labelled .ensures) _ (refused-rooms (s .args .why) (e .number .result) (e .number .ensures) (s .args .at) _ (s .pre) .1)
+    room-then (e0 .put-labelled .ensures) _ (refused-rooms (s .args .why) (e .number .result) (e .number .ensures) (s .args .from) _ (s .pre) .1)
 
 returns : tie.Need-returns
 unfolding ascii

@@ -23,7 +23,7 @@ abbrev μ-loop : tie.MeasureT-loop
 loop-holds : tie.Need-loop-holds Inv-loop μ-loop
 loop-holds c =
     let s = c .before .before in
-    (search needs, refl, puts-is (puts-none (s .args .at) (s .args .out .now) (omega arith)) (sym (lines-none (s .args .table .now))))
+    (search needs, refl, puts-is (puts-none (s .args .from) (s .args .out .now) (omega arith)) (sym (lines-none (s .args .table .now))))
 
 -- The line of type i is made from the cells that were read.
 read : (c : tie.After-cell4 Inv-loop μ-loop)
@@ -43,7 +43,7 @@ element-type-requires c κs =
     let l = i .before in
     let s = l .before .before .before in
     room-then (l .loop .inv .2) _
-    (rw (read (c .before)) at (lines-room (s .args .table .now) (l .loop .i) (s .args .n) (s .args .at) _ (i .loop-test .taken) (s .pre .0) (s .pre .1)))
+    (rw (read (c .before)) at (lines-room (s .args .table .now) (l .loop .i) (s .args .n) (s .args .from) _ (i .loop-test .taken) (s .pre .0) (s .pre .1)))
 
 loop-again : tie.Need-loop-again Inv-loop μ-loop
 loop-again c =

@@ -39,7 +39,7 @@ pub +put-decimal-spec : {M : Type 1} → statement M
     -- For one digit, the needs are digit-requires, slice-write-out, add-result, same-length and returns.
     (λ c κs. search needs)
     (λ c. let s = c .before .before .before in room-small _ _ (s .args .out .now) (c .before .if1 .taken) (s .pre .1))
-    (λ c. let s = c .before .before .before in omega (arith, room-small (s .args .at) (s .args .n) (s .args .out .now) (c .before .if1 .taken) (s .pre .1)))
+    (λ c. let s = c .before .before .before in omega (arith, room-small (s .args .from) (s .args .n) (s .args .out .now) (c .before .if1 .taken) (s .pre .1)))
     (λ c. search needs)
     (λ c. let s = c .before .before .before in puts-small _ _ _ _ (c .before .if1 .taken) (s .pre .1) (c .digit .ensures))
     -- For more, the needs are put-decimal-requires, digit-requires-2, slice-write-out-2, add-result-2, same-length-2 and returns-2.

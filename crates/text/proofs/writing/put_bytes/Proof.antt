@@ -20,7 +20,7 @@ abbrev μ-loop : tie.MeasureT-loop
 μ-loop out₀ at s i₀ out i = length s - i
 
 loop-holds : tie.Need-loop-holds Inv-loop μ-loop
-loop-holds c = (search needs, refl, rw add-zero (puts-none (c .args .at) (c .args .out .now) (omega arith)))
+loop-holds c = (search needs, refl, rw add-zero (puts-none (c .args .from) (c .args .out .now) (omega arith)))
 
 loop-again : tie.Need-loop-again Inv-loop μ-loop
 loop-again c =
