@@ -18,8 +18,8 @@ use Rattle.spec.specs.Flags.{Flag, IsFlag, elementAt, change}
 use Rattle.spec.specs.Copying.{parts}
 use Rattle.spec.specs.Classes.{pointOf}
 use Rattle.spec.specs.Search.{changes, walk, flagColumns}
-use Rattle.spec.proofs.FlagChange.{every-change}
-use Rattle.spec.proofs.Lists.{map-map}
+use Rattle.laws.proofs.FlagChange.{every-change}
+use Rattle.laws.proofs.Lists.{map-map}
 use Rattle.float.specs.Reading.{corner}
 use Rattle.float.proofs.Written.{Written, none, next, end}
 use Rattle.float.proofs.Parts.{part-at, part-end}

@@ -13,7 +13,7 @@ use Rattle.spec.specs.Lists.{range}
 use Rattle.spec.specs.Matrix.{Vector, Matrix, mulVec}
 use Rattle.spec.specs.Copying.{find}
 use Rattle.spec.specs.Search.{rowOf}
-use Rattle.spec.proofs.Lists.{getD-map}
+use Rattle.laws.proofs.Lists.{getD-map}
 use Rattle.ranked.proofs.Turns.{Every, every-yes, every-no, every-end}
 use Rattle.float.proofs.Written.{Written, none, next, end-plain, table-map}
 use Rattle.float.specs.declared.points.Found.{Found}

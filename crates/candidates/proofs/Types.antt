@@ -12,7 +12,7 @@ use Rattle.spec.specs.Lists.{range, every}
 use Rattle.spec.specs.Types.{typeOf}
 use Rattle.spec.specs.Flags.{Flag, IsFlag, elementAt, firstFlag}
 use Rattle.spec.specs.Search.{Setting, sameTypes}
-use Rattle.spec.proofs.Lists.{getD-table, length-table, of-range}
+use Rattle.laws.proofs.Lists.{getD-table, length-table, of-range}
 use Rattle.ranked.specs.declared.Shape.{Shape}
 use Rattle.ranked.specs.Words.{firstAt, sizeAt, total, subsIn, absIn, Held}
 use Rattle.ranked.proofs.Solids.{number-in}

@@ -11,7 +11,7 @@ use lib.Dec.{ltb}
 use borrow.Author.Tests.{ltb-true, ltb-false}
 use Rattle.spec.specs.Matrix.{Vector, Matrix, mulVec}
 use Rattle.spec.specs.Copying.{near, found, spread, copiesFrom, copies}
-use Rattle.spec.proofs.CopyLaws.{not-found, not-lower}
+use Rattle.laws.proofs.CopyLaws.{not-found, not-lower}
 use Rattle.lookup.specs.Points.{Apart}
 
 -- The copies stay apart when one joins that is not found among them.

@@ -13,8 +13,8 @@ use lib.Ieee.{Float}
 use Rattle.spec.specs.Lists.{join}
 use Rattle.spec.specs.Matrix.{Vector, Matrix, mulVec}
 use Rattle.spec.specs.Copying.{found, spread, copiesFrom, parts, points, matrices, written}
-use Rattle.spec.proofs.Lists.{getD-map}
-use Rattle.spec.proofs.CopyLaws.{spread-adds}
+use Rattle.laws.proofs.Lists.{getD-map}
+use Rattle.laws.proofs.CopyLaws.{spread-adds}
 use Rattle.float.proofs.Parts.{length-parts, part-at, parts-more, parts-same, join-parts}
 use Rattle.copying.specs.Post.{Fitting, Overfull, withImage, withPoint}
 

@@ -20,7 +20,7 @@ use Rattle.spec.specs.Matrix.{Vector, Matrix}
 use Rattle.spec.specs.Judged.{refused, passed}
 use Rattle.spec.specs.Copying
 use Rattle.spec.specs.Copying.{copies, matrices, copyTable, written, judgeCopy, copyOut, copyCall}
-use Rattle.spec.proofs.CopyLaws.{table-length}
+use Rattle.laws.proofs.CopyLaws.{table-length}
 use Rattle.float.proofs.Parts.{length-parts}
 use Rattle.copying.proofs.Tables.{filled-is}
 use Rattle.copying.specs.Post.{Fitting, Overfull, Closed, Opened}

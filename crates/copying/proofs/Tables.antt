@@ -15,8 +15,8 @@ use borrow.Rule.Slice.PartMut.{midOf, putMid}
 use Rattle.spec.specs.Lists.{join, holds}
 use Rattle.spec.specs.Matrix.{Vector, Matrix, mulVec}
 use Rattle.spec.specs.Copying.{find, copyRow, copyTable, written}
-use Rattle.spec.proofs.Lists.{getD-map}
-use Rattle.spec.proofs.CopyLaws.{Wide, wide-join}
+use Rattle.laws.proofs.Lists.{getD-map}
+use Rattle.laws.proofs.CopyLaws.{Wide, wide-join}
 use Rattle.float.proofs.Parts.{part-end}
 use Rattle.float.proofs.Tails.{tail-is, tail-back, tail-written}
 use Rattle.copying.specs.Post.{Closed, Opened}

@@ -14,7 +14,7 @@ use Rattle.spec.specs.Types.{top, size, properRanks, elements}
 use Rattle.spec.specs.Hull.{classes, classNumbers}
 use Rattle.spec.specs.Solid.{Concrete}
 use Rattle.spec.specs.Classes.{distanceOf, distances, byRank, classTable, byTable}
-use Rattle.spec.proofs.Lists.{length-table}
+use Rattle.laws.proofs.Lists.{length-table}
 use Rattle.ranked.specs.declared.Shape.{Shape}
 use Rattle.ranked.specs.Words.{absIn, Held}
 use Rattle.geometry.specs.Classes.{sameClass}

@@ -18,8 +18,8 @@ use Rattle.spec.specs.Copying.{parts}
 use Rattle.spec.specs.Matrix.{Vector}
 use Rattle.spec.specs.Hull.{hullOf, distance}
 use Rattle.spec.specs.Classes.{pointOf, distanceOf}
-use Rattle.spec.proofs.Lists.{in-getD, in-range, of-range, map-same}
-use Rattle.spec.proofs.Counts.{keep-in, in-keep, holds-in}
+use Rattle.laws.proofs.Lists.{in-getD, in-range, of-range, map-same}
+use Rattle.laws.proofs.Counts.{keep-in, in-keep, holds-in}
 use Rattle.ranked.specs.declared.Shape.{Shape}
 use Rattle.ranked.specs.Words.{sizeAt, absIn, Held}
 use Rattle.ranked.specs.Marks.{Front}

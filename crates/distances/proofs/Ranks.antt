@@ -14,7 +14,7 @@ use Rattle.spec.specs.Types.{size, properRanks}
 use Rattle.spec.specs.Hull.{classes}
 use Rattle.spec.specs.Solid.{Concrete}
 use Rattle.spec.specs.Classes.{distanceOf, distances}
-use Rattle.spec.proofs.Lists.{length-table}
+use Rattle.laws.proofs.Lists.{length-table}
 use Rattle.float.proofs.Written.{range-snoc}
 use Rattle.ranked.specs.declared.Shape.{Shape}
 use Rattle.ranked.specs.Words.{firstAt, sizeAt, absIn, Held}

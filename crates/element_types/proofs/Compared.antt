@@ -11,9 +11,9 @@ use borrow.Author.Tests.{eq-eqb, ne-eqb}
 use lib.ListN.{length, getD, take, drop, length-take, length-drop, drop-of-length-le}
 use lib.Seq.{drop-cons, getD-take, getD-drop}
 use Rattle.spec.specs.Lists.{eqList, place}
-use Rattle.spec.proofs.Lists.{getD-table, length-table}
-use Rattle.spec.proofs.Distinct.{Split, split, place-yes, place-no}
-use Rattle.spec.proofs.Counts.{lists}
+use Rattle.laws.proofs.Lists.{getD-table, length-table}
+use Rattle.laws.proofs.Distinct.{Split, split, place-yes, place-no}
+use Rattle.laws.proofs.Counts.{lists}
 use Rattle.element_types.specs.Runs.{keyAt, repKeys, Keyed}
 
 -- ---- words

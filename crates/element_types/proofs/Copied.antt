@@ -8,7 +8,7 @@ use native.Mathlib.Numerals.{add-one}
 use lib.ListN.{length, getD, set, take, drop}
 use lib.Seq.{slice, length-slice, getD-take, getD-drop, take-all, paste, paste-zero, paste-suc, length-paste, drop-paste}
 use Rattle.spec.specs.Lists.{renumber, eqList}
-use Rattle.spec.proofs.Counts.{lists}
+use Rattle.laws.proofs.Counts.{lists}
 use Rattle.element_types.specs.Runs.{over}
 use Rattle.element_types.specs.Numbers.{Ready, Numbered, keysTo}
 use Rattle.element_types.proofs.Parts.{over-front}

@@ -9,9 +9,9 @@ use borrow.Author.Tests.{lt-ltb, le-ltb}
 use lib.ListN.{length, getD, set, take, drop}
 use lib.Seq.{getD-set-other, drop-set-lt}
 use Rattle.spec.specs.Lists.{place, eqList, range}
-use Rattle.spec.proofs.Lists.{map-same, of-range}
-use Rattle.spec.proofs.Distinct.{Split, split, place-yes, place-no}
-use Rattle.spec.proofs.Counts.{lists}
+use Rattle.laws.proofs.Lists.{map-same, of-range}
+use Rattle.laws.proofs.Distinct.{Split, split, place-yes, place-no}
+use Rattle.laws.proofs.Counts.{lists}
 use Rattle.ranked.specs.Words.{listAt}
 use Rattle.element_types.specs.Runs.{keyAt, repKeys, Keyed, writtenAt}
 use Rattle.element_types.specs.Numbers.{numberOf, noted, Open}

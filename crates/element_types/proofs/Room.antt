@@ -14,10 +14,10 @@ use Rattle.spec.specs.Limits.{maxCount}
 use Rattle.spec.specs.Lists.{In, holds, range, keep, sum}
 use Rattle.spec.specs.Types.{Solid, top, size, subs, sups, properRanks, elements, Step, up, down, at}
 use Rattle.spec.specs.Solid as solids
-use Rattle.spec.proofs.Lists.{length-range, in-range, of-range, once-range}
-use Rattle.spec.proofs.Distinct.{pigeons}
-use Rattle.spec.proofs.Counts.{numbers, sum-le, in-keep, once-keep, in-holds}
-use Rattle.spec.proofs.Carry.{rising-once}
+use Rattle.laws.proofs.Lists.{length-range, in-range, of-range, once-range}
+use Rattle.laws.proofs.Distinct.{pigeons}
+use Rattle.laws.proofs.Counts.{numbers, sum-le, in-keep, once-keep, in-holds}
+use Rattle.laws.proofs.Carry.{rising-once}
 use Rattle.ranked.specs.declared.Shape.{Shape}
 use Rattle.ranked.specs.Words.{firstAt, sizeAt, total, absIn, Held}
 use Rattle.ranked.specs.Store.{subEntries, lowOf}

@@ -10,9 +10,9 @@ use native.Mathlib.Numerals.{add-one}
 use lib.ListN.{length, getD, set, take, drop, length-set}
 use lib.Seq.{slice, slice-empty, take-take, take-append-le, drop-append-le, length-take-le, take-set-le, take-suc-set, getD-set-same, getD-set-other}
 use Rattle.spec.specs.Lists.{In, distinct, place, renumber, eqList, range}
-use Rattle.spec.proofs.Distinct.{Test, in-distinct, of-distinct, place-at, in?}
-use Rattle.spec.proofs.Counts.{lists}
-use Rattle.spec.proofs.Scan.{renumber-snoc, distinct-new, distinct-old, place-out}
+use Rattle.laws.proofs.Distinct.{Test, in-distinct, of-distinct, place-at, in?}
+use Rattle.laws.proofs.Counts.{lists}
+use Rattle.laws.proofs.Scan.{renumber-snoc, distinct-new, distinct-old, place-out}
 use Rattle.ranked.specs.Words.{listAt}
 use Rattle.ranked.specs.Reading.{Lies}
 use Rattle.element_types.specs.Runs.{keyOf, keyAt, repKeys, under, Writable, writtenAt}

@@ -15,9 +15,9 @@ use lib.Dec.{ltb}
 use Rattle.spec.specs.Lists.{In, renumber, eqList, range, sum}
 use Rattle.spec.specs.Types.{Solid, State, typesAt, typeOf, Step, up, down, at, next, neighbours, key, keys, step}
 use Rattle.spec.specs.Search.{sorted}
-use Rattle.spec.proofs.Lists.{in-getD, map-same, getD-table, length-table, of-range}
-use Rattle.spec.proofs.Renumber.{length-renumber, renumber-pattern}
-use Rattle.spec.proofs.Counts.{lists}
+use Rattle.laws.proofs.Lists.{in-getD, map-same, getD-table, length-table, of-range}
+use Rattle.laws.proofs.Renumber.{length-renumber, renumber-pattern}
+use Rattle.laws.proofs.Counts.{lists}
 use Rattle.ranked.specs.declared.Shape.{Shape}
 use Rattle.ranked.specs.Words.{firstAt, sizeAt, total, listAt, absIn, Held}
 use Rattle.ranked.specs.Reading.{Lies, subsWord, supsWord}

@@ -11,10 +11,10 @@ use lib.ListN.{length, getD, take, drop, length-take, length-drop}
 use lib.Seq.{getD-take, getD-drop}
 use Rattle.spec.specs.Lists.{In, distinct, range, sum}
 use Rattle.spec.specs.Types.{typesAt, properRanks, typeCount}
-use Rattle.spec.specs.TypeLaws.{inUse}
-use Rattle.spec.proofs.Lists.{in-getD, in-place, map-same, getD-table, in-range, of-range}
-use Rattle.spec.proofs.Distinct.{pigeons, in-distinct, of-distinct, once-distinct}
-use Rattle.spec.proofs.Counts.{numbers}
+use Rattle.spec.specs.Types.{inUse}
+use Rattle.laws.proofs.Lists.{in-getD, in-place, map-same, getD-table, in-range, of-range}
+use Rattle.laws.proofs.Distinct.{pigeons, in-distinct, of-distinct, once-distinct}
+use Rattle.laws.proofs.Counts.{numbers}
 use Rattle.ranked.specs.declared.Shape.{Shape}
 use Rattle.ranked.specs.Words.{firstAt, total, absIn}
 use Rattle.ranked.proofs.Solids.{top-is}

@@ -17,9 +17,9 @@ use Rattle.spec.specs.Types.{Solid, top, size, subs, elements}
 use Rattle.spec.specs.Solid.{entries, bound, diamond}
 use Rattle.spec.specs.Search.{exchangedIn, exchanged}
 use Rattle.spec.specs.Copying.{parts}
-use Rattle.spec.specs.SolidLaws.{swap}
-use Rattle.spec.specs.Passed.{Kept}
-use Rattle.spec.proofs.Exchange.{swap-low, size-same, subs-n, subs-other, elements-same, entries-same, bound-same, every-exchange}
+use Rattle.laws.specs.SolidLaws.{swap}
+use Rattle.laws.specs.Passed.{Kept}
+use Rattle.laws.proofs.Exchange.{swap-low, size-same, subs-n, subs-other, elements-same, entries-same, bound-same, every-exchange}
 use Rattle.ranked.specs.declared.Shape.{Shape}
 use Rattle.ranked.specs.Words.{firstAt, sizeAt, total, listAt, subsIn, absIn, Held}
 use Rattle.ranked.specs.Derive.{pairs, Stored}

@@ -16,7 +16,7 @@ use Rattle.spec.specs.Lists.{keep}
 use Rattle.spec.specs.Types.{subs}
 use Rattle.spec.specs.Solid.{between}
 use Rattle.spec.specs.Flags.{IsFlag, elementAt, firstTo, firstFlag, other, change}
-use Rattle.spec.proofs.Lists.{in-getD}
+use Rattle.laws.proofs.Lists.{in-getD}
 use Rattle.ranked.specs.declared.Shape.{Shape}
 use Rattle.ranked.specs.Words.{firstAt, sizeAt, absIn, Held}
 use Rattle.ranked.specs.Reading.{subsWord, holding}

@@ -12,7 +12,7 @@ use lib.Dec.{eqb}
 use Rattle.spec.specs.Lists.{In, place}
 use Rattle.spec.specs.Types.{Solid, top, size, subs}
 use Rattle.spec.specs.Flags.{Flag, IsFlag, elementAt, firstTo, flagsTo, flags}
-use Rattle.spec.proofs.Lists.{in-getD}
+use Rattle.laws.proofs.Lists.{in-getD}
 use Rattle.ranked.specs.declared.Shape.{Shape}
 use Rattle.ranked.specs.Words.{firstAt, sizeAt, listAt, absIn, Held}
 use Rattle.ranked.specs.Reading.{Lies, subsWord}

@@ -8,8 +8,8 @@ use native.Mathlib.Omega.{arith}
 use lib.ListN.{length}
 use Rattle.spec.specs.Lists.{In}
 use Rattle.spec.specs.Flags.{Flag, IsFlag, firstFlag, flags}
-use Rattle.spec.proofs.Lists.{in-getD}
-use Rattle.spec.proofs.FlagList.{every-flag-once, every-first}
+use Rattle.laws.proofs.Lists.{in-getD}
+use Rattle.laws.proofs.FlagList.{every-flag-once, every-first}
 use Rattle.ranked.specs.declared.Shape.{Shape}
 use Rattle.ranked.specs.Words.{absIn, Held}
 use Rattle.flag.specs.Reading.{Follows, Nth}

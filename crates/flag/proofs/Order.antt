@@ -10,7 +10,7 @@ use Rattle.spec.specs.Lists.{In, join}
 use Rattle.spec.specs.Types.{Solid, size, subs}
 use Rattle.spec.specs.Demand.{Sound}
 use Rattle.spec.specs.Flags.{Flag, firstTo, flagsTo, flags}
-use Rattle.spec.proofs.FlagList.{every-flag-once}
+use Rattle.laws.proofs.FlagList.{every-flag-once}
 
 -- The last of L is F.
 pub record Last {A : Type 0} (F : A) (L : List A) : Type 0 where

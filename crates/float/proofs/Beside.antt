@@ -15,7 +15,7 @@ use borrow.Author.Tests.{eq-eqb, ne-eqb}
 use Rattle.spec.specs.Lists.{range}
 use Rattle.spec.specs.Float.{zeroF, oneF, zip}
 use Rattle.spec.specs.Matrix.{Vector, Matrix, row, unit, identity}
-use Rattle.spec.proofs.Lists.{getD-table, length-table}
+use Rattle.laws.proofs.Lists.{getD-table, length-table}
 use Rattle.float.specs.Reading.{corner}
 use Rattle.float.proofs.Corner.{over-corner}
 

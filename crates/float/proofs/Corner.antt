@@ -9,7 +9,7 @@ use lib.Ieee.{Float}
 use Rattle.spec.specs.Lists.{range}
 use Rattle.spec.specs.Float.{zeroF}
 use Rattle.spec.specs.Matrix.{Vector, columns}
-use Rattle.spec.proofs.Lists.{map-map}
+use Rattle.laws.proofs.Lists.{map-map}
 use Rattle.float.specs.Reading.{corner, leading}
 use Rattle.float.proofs.Written.{table-map}
 

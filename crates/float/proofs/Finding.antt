@@ -10,7 +10,7 @@ use lib.Dec.{ltb}
 use borrow.Author.Tests.{lt-ltb, le-ltb, ltb-true, ltb-false}
 use Rattle.spec.specs.Matrix.{Vector}
 use Rattle.spec.specs.Copying.{found, find}
-use Rattle.spec.proofs.CopyLaws.{found-near, not-found}
+use Rattle.laws.proofs.CopyLaws.{found-near, not-found}
 use Rattle.float.specs.declared.points.Found.{Found}
 use Rattle.float.specs.declared.points.Found.the-variants.{At, Nothing}
 use Rattle.float.specs.Finding.{foundAt}

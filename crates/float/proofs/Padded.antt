@@ -13,8 +13,8 @@ use Rattle.spec.specs.Limits.{maxDimension}
 use Rattle.spec.specs.Lists.{In, range}
 use Rattle.spec.specs.Float.{zeroF, dot}
 use Rattle.spec.specs.Matrix.{Vector, Matrix, columns, mulVec, mulMat}
-use Rattle.spec.proofs.Lists.{map-map, in-map, of-range, length-table}
-use Rattle.spec.proofs.Shapes.{Square}
+use Rattle.laws.proofs.Lists.{map-map, in-map, of-range, length-table}
+use Rattle.laws.proofs.Shapes.{Square}
 use Rattle.float.specs.Reading.{corner, padded, paddedRows}
 use Rattle.float.proofs.Written.{Written, whole, drop-replicate}
 use Rattle.float.proofs.Parts.{first-of}

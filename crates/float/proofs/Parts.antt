@@ -9,7 +9,7 @@ use lib.ListN.{length, getD, take, drop, length-drop}
 use lib.Seq.{ext-getD, take-add, take-nil, take-take, take-at, drop-nil, drop-drop, length-take-le}
 use Rattle.spec.specs.Lists.{join, range}
 use Rattle.spec.specs.Copying.{parts}
-use Rattle.spec.proofs.Lists.{getD-table, length-table}
+use Rattle.laws.proofs.Lists.{getD-table, length-table}
 
 module _ {A : Type 0} where
   pub length-parts : (n d : ℕ) (l : List A) → length (parts n d l) ≡ n

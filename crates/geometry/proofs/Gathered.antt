@@ -12,7 +12,7 @@ use borrow.Author.Tests.{eq-eqb, ne-eqb}
 use Rattle.spec.specs.Matrix.{Vector}
 use Rattle.spec.specs.Hull as spec
 use Rattle.spec.specs.Hull.{joins, add, addAll, hullOf}
-use Rattle.spec.proofs.Lists.{length-table}
+use Rattle.laws.proofs.Lists.{length-table}
 use Rattle.geometry.specs.declared.hull.Hull.{Hull}
 use Rattle.geometry.specs.declared.hull.Joined.{Joined}
 use Rattle.geometry.specs.declared.hull.Joined.the-variants.{Length, Nothing}

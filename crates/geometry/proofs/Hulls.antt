@@ -14,7 +14,7 @@ use Rattle.spec.specs.Lists.{range}
 use Rattle.spec.specs.Float.{eps, over, norm}
 use Rattle.spec.specs.Matrix.{Vector}
 use Rattle.spec.specs.Hull.{Hull, joined, nothing, rest, joins, add}
-use Rattle.spec.proofs.Lists.{map-same, of-range}
+use Rattle.laws.proofs.Lists.{map-same, of-range}
 use Rattle.float.proofs.Written.{range-snoc}
 use Rattle.float.proofs.Beside.{drop-take}
 use Rattle.geometry.specs.Reading.{vectorAt}

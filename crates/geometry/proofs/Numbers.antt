@@ -11,7 +11,7 @@ use lib.Dec.{eqb}
 use lib.ListN.{length, getD}
 use borrow.Author.Tests.{eqb-true, eq-eqb, ne-eqb}
 use Rattle.spec.specs.Lists.{In, without, distinct, place, renumber, holds}
-use Rattle.spec.proofs.Lists.{in-getD, getD-map}
+use Rattle.laws.proofs.Lists.{in-getD, getD-map}
 
 both-ways : (p q : Bool) → (p ≡ true → q ≡ true) → (q ≡ true → p ≡ true) → p ≡ q
 both-ways true q f g = sym (f refl)

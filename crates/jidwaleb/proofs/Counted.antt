@@ -18,7 +18,7 @@ use Rattle.spec.specs.Lists.{holds, join}
 use Rattle.spec.specs.Matrix.{Vector, Matrix}
 use Rattle.spec.specs.Calls.{TypesOut, typesCall}
 use Rattle.spec.specs.Copying.{copies, points, matrices, copyTable, written, judgeCopy, copyOut, copyCall}
-use Rattle.spec.proofs.Accepted.{le-test}
+use Rattle.laws.proofs.Accepted.{le-test}
 use Rattle.types.proofs.Few.{call-count}
 
 pub types-count : (b : List ℕ) (words floats : ℕ) (old : TypesOut) → answerCount (typesCall b words floats old .0) < 2 ^ 32

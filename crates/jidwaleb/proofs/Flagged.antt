@@ -16,11 +16,11 @@ use Rattle.spec.specs.Types.{Solid, top, size, subs}
 use Rattle.spec.specs.Demand.{RisingAbove, Rising, Sound}
 use Rattle.spec.specs.Solid.{entries}
 use Rattle.spec.specs.Flags.{Flag, flagsTo, flags}
-use Rattle.spec.proofs.Lists.{length-range, in-range, map-same, getD-map, getD-table, length-table}
-use Rattle.spec.proofs.Distinct.{pigeons}
-use Rattle.spec.proofs.Counts.{numbers, sum-le}
-use Rattle.spec.proofs.Carry.{rising-once}
-use Rattle.spec.proofs.Accepted.{From}
+use Rattle.laws.proofs.Lists.{length-range, in-range, map-same, getD-map, getD-table, length-table}
+use Rattle.laws.proofs.Distinct.{pigeons}
+use Rattle.laws.proofs.Counts.{numbers, sum-le}
+use Rattle.laws.proofs.Carry.{rising-once}
+use Rattle.laws.proofs.Accepted.{From}
 use Rattle.element_types.proofs.Room.{sum-under}
 use Rattle.types.proofs.Call.{length-join}
 

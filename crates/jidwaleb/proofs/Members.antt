@@ -25,11 +25,11 @@ use Rattle.spec.specs.Flags.{Flag, firstFlag, flags}
 use Rattle.spec.specs.Classes.{typesOf}
 use Rattle.spec.specs.Search.{Setting, Member, firstFar, exchangedIn, exchanged, flagColumns, candidate, sameTypes, tested, membersOf, isRotation, rotationsOf, full, allFinite, setting, search}
 use Rattle.spec.specs.Calls.{Room, Outcome, haveRoom, fitting, keptOf, outcome, membersIn, rotationsIn, SearchOut, roomOf, searchWritten, searchCall, rotationsCall}
-use Rattle.spec.proofs.Marked.{both}
-use Rattle.spec.proofs.Accepted as accepted
-use Rattle.spec.proofs.Accepted.{same, le-test, bound-to, then-to, every-passed}
-use Rattle.spec.proofs.Shapes.{wanted-some}
-use Rattle.spec.proofs.Exchange.{top-same, size-same, entries-same, every-exchange}
+use Rattle.laws.proofs.Marked.{both}
+use Rattle.laws.proofs.Accepted as accepted
+use Rattle.laws.proofs.Accepted.{same, le-test, bound-to, then-to, every-passed}
+use Rattle.laws.proofs.Shapes.{wanted-some}
+use Rattle.laws.proofs.Exchange.{top-same, size-same, entries-same, every-exchange}
 use Rattle.sheet.proofs.Laws.{entries-is, header-small}
 use Rattle.search.proofs.Tested.{far-low}
 use Rattle.jidwaleb.proofs.Flagged.{few-flags}

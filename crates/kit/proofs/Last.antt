@@ -21,11 +21,11 @@ use Rattle.spec.specs.Search.{Member}
 use Rattle.spec.specs.Copying.{parts}
 use Rattle.spec.specs.Calls.{Room, Outcome, fitting, keptOf, outcome, membersIn, SearchOut, roomOf, searchWritten, searchCall}
 use Rattle.spec.specs.KitText.{refusedLine, membersLine, lastLine, lent, workWords, workFloats}
-use Rattle.spec.proofs.Accepted.{same, every-passed}
-use Rattle.spec.proofs.CallProofs.{apart, counted, choose, call-laws}
-use Rattle.spec.proofs.CopyLaws.{Wide, wide-join}
-use Rattle.spec.proofs.Listed.{found-in, members-confirm}
-use Rattle.spec.proofs.Shapes.{Square, square-long, Shaped, members-shaped, found-cells}
+use Rattle.laws.proofs.Accepted.{same, every-passed}
+use Rattle.laws.proofs.CallProofs.{apart, counted, choose, call-laws}
+use Rattle.laws.proofs.CopyLaws.{Wide, wide-join}
+use Rattle.laws.proofs.Listed.{found-in, members-confirm}
+use Rattle.laws.proofs.Shapes.{Square, square-long, Shaped, members-shaped, found-cells}
 use Rattle.sheet.specs.Judge.{headerOf, judgementOf}
 use Rattle.text.specs.Members.{membersText, rotationCount}
 use Rattle.text.proofs.Outputs.{members-out}

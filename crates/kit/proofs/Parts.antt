@@ -17,7 +17,7 @@ use Rattle.spec.specs.Judged.{Judged, refused, passed}
 use Rattle.spec.specs.Copying.{written}
 use Rattle.spec.specs.Calls.{Given, typeCells, TypesOut, typesGiven, typesWritten, typesCall, outcome, membersIn}
 use Rattle.spec.specs.KitText.{refusedLine, typesLines, lastLine, afterTypes, kitText, elementCells, typeRecords, lent, workWords, workFloats, longest}
-use Rattle.spec.proofs.CallProofs.{behind}
+use Rattle.laws.proofs.CallProofs.{behind}
 use Rattle.text.specs.Cells.{typesFrom}
 use Rattle.text.proofs.Outputs.{types-out}
 

@@ -10,7 +10,7 @@ use Rattle.spec.specs.Lists.{holds}
 use Rattle.spec.specs.Mark.{noRepeats}
 use Rattle.spec.specs.Matrix.{Vector}
 use Rattle.spec.specs.Copying.{near, found}
-use Rattle.spec.proofs.CopyLaws.{not-found, not-lower}
+use Rattle.laws.proofs.CopyLaws.{not-found, not-lower}
 use Rattle.lookup.specs.Points.{Apart}
 use Rattle.lookup.proofs.Swap.{near-swap}
 

@@ -17,10 +17,10 @@ use Rattle.spec.specs.Demand.{Proper}
 use Rattle.spec.specs.Hull.{classes}
 use Rattle.spec.specs.Classes.{distances}
 use Rattle.spec.specs.Mark.{noRepeats, vertexSets, goes, carriesElement}
-use Rattle.spec.proofs.Distinct.{Once}
-use Rattle.spec.proofs.Counts.{lists}
-use Rattle.spec.proofs.Result.{proper-rank}
-use Rattle.spec.proofs.Marked.{every-in, no-repeats, Permutes}
+use Rattle.laws.proofs.Distinct.{Once}
+use Rattle.laws.proofs.Counts.{lists}
+use Rattle.laws.proofs.Result.{proper-rank}
+use Rattle.laws.proofs.Marked.{every-in, no-repeats, Permutes}
 use Rattle.float.specs.declared.points.Found.{Found}
 use Rattle.float.specs.declared.points.Found.the-variants.{At, Nothing}
 use Rattle.ranked.specs.declared.Shape.{Shape}

@@ -12,7 +12,7 @@ use lib.Dec.{eqb}
 use borrow.Author.Tests.{eq-eqb, ne-eqb}
 use Rattle.spec.specs.Lists.{In, holds, keep, every}
 use Rattle.spec.specs.Types.{subs, sups}
-use Rattle.spec.proofs.Lists.{in-getD}
+use Rattle.laws.proofs.Lists.{in-getD}
 use Rattle.float.specs.declared.points.Found.{Found}
 use Rattle.float.specs.declared.points.Found.the-variants.{At, Nothing}
 use Rattle.float.specs.Finding.{firstOf}

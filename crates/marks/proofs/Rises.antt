@@ -14,12 +14,12 @@ use Rattle.spec.specs.Lists.{In, place, eqList, keep}
 use Rattle.spec.specs.Types.{Solid, size, subs, sups, Classes}
 use Rattle.spec.specs.Demand.{Rising, Sound, Proper}
 use Rattle.spec.specs.Mark.{inOrder, reach, vertices, vertexSets, image, goes, carriesElement}
-use Rattle.spec.proofs.Distinct.{Once}
-use Rattle.spec.proofs.Lists.{in-getD, map-in, in-map, map-same, once-map}
-use Rattle.spec.proofs.Counts.{lists, keep-in, in-keep}
-use Rattle.spec.proofs.Carry.{rising-once}
-use Rattle.spec.proofs.FlagList.{join-in, in-join}
-use Rattle.spec.proofs.Marked.{in-order, of-order, order-same, goes-proper, goes-improper, goes-vertices, set-place, Permutes, row-low, goes-apart, fit-of}
+use Rattle.laws.proofs.Distinct.{Once}
+use Rattle.laws.proofs.Lists.{in-getD, map-in, in-map, map-same, once-map}
+use Rattle.laws.proofs.Counts.{lists, keep-in, in-keep}
+use Rattle.laws.proofs.Carry.{rising-once}
+use Rattle.laws.proofs.FlagList.{join-in, in-join}
+use Rattle.laws.proofs.Marked.{in-order, of-order, order-same, goes-proper, goes-improper, goes-vertices, set-place, Permutes, row-low, goes-apart, fit-of}
 use Rattle.float.specs.declared.points.Found.the-variants.{At}
 use Rattle.float.specs.Finding.{firstOf}
 use Rattle.ranked.proofs.Between.{sup-means, means-sup}

@@ -12,11 +12,11 @@ use lib.Dec.{eqb, ltb}
 use borrow.Author.Tests.{lt-ltb}
 use Rattle.spec.specs.Lists.{In, place, holds, every}
 use Rattle.spec.specs.Mark.{noRepeats}
-use Rattle.spec.proofs.Distinct.{Once}
-use Rattle.spec.proofs.Lists.{in-getD, in-place}
-use Rattle.spec.proofs.Counts.{numbers, in-holds}
-use Rattle.spec.proofs.Scan.{place-self}
-use Rattle.spec.proofs.Marked.{both, every-in, lt-test, no-repeats}
+use Rattle.laws.proofs.Distinct.{Once}
+use Rattle.laws.proofs.Lists.{in-getD, in-place}
+use Rattle.laws.proofs.Counts.{numbers, in-holds}
+use Rattle.laws.proofs.Scan.{place-self}
+use Rattle.laws.proofs.Marked.{both, every-in, lt-test, no-repeats}
 use Rattle.marks.specs.Rows.{permutes}
 use Rattle.marks.proofs.Sets.{not-passed, every-of}
 

@@ -12,11 +12,11 @@ use lib.Dec.{eqb}
 use Rattle.spec.specs.Lists.{In, holds, range, keep, every}
 use Rattle.spec.specs.Demand.{RisingAbove, Rising}
 use Rattle.spec.specs.Mark.{inOrder}
-use Rattle.spec.proofs.Distinct.{Once, pigeons, in?}
-use Rattle.spec.proofs.Lists.{map-in, in-map}
-use Rattle.spec.proofs.Counts.{numbers, holds-in, in-holds}
-use Rattle.spec.proofs.Carry.{above}
-use Rattle.spec.proofs.Marked.{both, every-in, in-order, of-order, order-same}
+use Rattle.laws.proofs.Distinct.{Once, pigeons, in?}
+use Rattle.laws.proofs.Lists.{map-in, in-map}
+use Rattle.laws.proofs.Counts.{numbers, holds-in, in-holds}
+use Rattle.laws.proofs.Carry.{above}
+use Rattle.laws.proofs.Marked.{both, every-in, in-order, of-order, order-same}
 use Rattle.marks.specs.Rises.{onto}
 
 -- ---- tests

@@ -13,13 +13,13 @@ use Rattle.spec.specs.Lists.{In, holds, place, eqList, range, every}
 use Rattle.spec.specs.Types.{Solid, size, subs, properRanks, Classes}
 use Rattle.spec.specs.Demand.{Sound, Proper}
 use Rattle.spec.specs.Mark.{noRepeats, inOrder, reach, vertices, vertexSets, image, goes, carriesElement, marked}
-use Rattle.spec.proofs.Distinct.{Once}
-use Rattle.spec.proofs.Lists.{map-in, in-map, in-range, of-range, getD-map, once-map}
-use Rattle.spec.proofs.Counts.{numbers, lists, in-holds}
-use Rattle.spec.proofs.Steps.{proper?}
-use Rattle.spec.proofs.Result.{proper-rank}
-use Rattle.spec.proofs.Scan.{place-self}
-use Rattle.spec.proofs.Marked.{both, lt-test, every-in, no-repeats, in-order, of-order, order-same, goes-proper, goes-improper, goes-vertices, Permutes, row-low, Fit, fit-of}
+use Rattle.laws.proofs.Distinct.{Once}
+use Rattle.laws.proofs.Lists.{map-in, in-map, in-range, of-range, getD-map, once-map}
+use Rattle.laws.proofs.Counts.{numbers, lists, in-holds}
+use Rattle.laws.proofs.Steps.{proper?}
+use Rattle.laws.proofs.Result.{proper-rank}
+use Rattle.laws.proofs.Scan.{place-self}
+use Rattle.laws.proofs.Marked.{both, lt-test, every-in, no-repeats, in-order, of-order, order-same, goes-proper, goes-improper, goes-vertices, Permutes, row-low, Fit, fit-of}
 use Rattle.marks.proofs.Sets.{not-passed, every-of}
 use Rattle.products.specs.Products.{composed}
 

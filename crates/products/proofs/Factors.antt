@@ -14,7 +14,7 @@ use Rattle.spec.specs.Mark.{marked}
 use Rattle.spec.specs.Solid.{Concrete}
 use Rattle.spec.specs.Classes.{classTable, byTable}
 use Rattle.spec.specs.Copying.{parts}
-use Rattle.spec.proofs.Lists.{getD-map}
+use Rattle.laws.proofs.Lists.{getD-map}
 use Rattle.float.proofs.Parts.{part-at, length-parts}
 use Rattle.products.specs.Products.{composed}
 use Rattle.products.specs.Marking.{markIn, rowAt, Factored}

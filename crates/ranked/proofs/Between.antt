@@ -11,10 +11,10 @@ use Rattle.spec.specs.Lists.{In, range, holds, keep}
 use Rattle.spec.specs.Types.{Solid, size, subs, sups}
 use Rattle.spec.specs.Solid.{between}
 use Rattle.spec.specs.Demand.{Sound, RisingAbove, Rising}
-use Rattle.spec.proofs.Lists.{in-range, of-range}
-use Rattle.spec.proofs.Counts.{keep-in, in-keep, holds-in, in-holds}
-use Rattle.spec.proofs.Carry.{above}
-use Rattle.spec.proofs.SolidLaws.{every-sups}
+use Rattle.laws.proofs.Lists.{in-range, of-range}
+use Rattle.laws.proofs.Counts.{keep-in, in-keep, holds-in, in-holds}
+use Rattle.laws.proofs.Carry.{above}
+use Rattle.laws.proofs.SolidLaws.{every-sups}
 
 -- ---- rising lists that hold the same are the same
 

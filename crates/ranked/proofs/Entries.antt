@@ -11,7 +11,7 @@ use Rattle.spec.specs.Lists.{In, range, sum, join}
 use Rattle.spec.specs.Types.{Solid, top, size, subs}
 use Rattle.spec.specs.Demand.{Rising, Sound}
 use Rattle.spec.specs.Solid.{entries}
-use Rattle.spec.proofs.Lists.{length-range}
+use Rattle.laws.proofs.Lists.{length-range}
 use Rattle.ranked.specs.declared.Shape.{Shape}
 use Rattle.ranked.specs.Words.{sizeAt, absIn}
 use Rattle.ranked.specs.Derive.{pairsTo, pairs, running}

@@ -11,7 +11,7 @@ use lib.Dec.{eqb, ltb}
 use Rattle.spec.specs.Lists.{In, range, holds, keep, every}
 use Rattle.spec.specs.Types.{Solid, size, subs, sups, properRanks}
 use Rattle.spec.specs.Solid.{bound, between, diamond}
-use Rattle.spec.proofs.Lists.{of-range}
+use Rattle.laws.proofs.Lists.{of-range}
 use Rattle.ranked.specs.declared.Shape.{Shape}
 use Rattle.ranked.specs.Words.{firstAt, sizeAt, listAt, absIn, Held}
 use Rattle.ranked.specs.Reading.{subsWord, supsWord, boundIn, holding, Fork, twoUnder, Tier, twoAt, twoRank, twoFrom}

@@ -10,7 +10,7 @@ use lib.Seq.{drop-drop, drop-at, take-at}
 use Rattle.spec.specs.Lists.{join}
 use Rattle.spec.specs.Solid.{Concrete}
 use Rattle.spec.specs.Classes.{pointOf}
-use Rattle.spec.proofs.CopyLaws.{Wide}
+use Rattle.laws.proofs.CopyLaws.{Wide}
 
 module _ {A : Type 0} (d : ℕ) where
   pub part-is : (ps : List (List A)) → Wide d ps → (v : ℕ) → v < length ps → take d (drop (v * d) (join ps)) ≡ getD ps v []

@@ -9,7 +9,7 @@ use lib.ListN.{length, getD, length-take, length-drop, List·getD-eq-default}
 use lib.Seq.{getD-take, getD-drop}
 use Rattle.spec.specs.Lists.{In, range}
 use Rattle.spec.specs.Types.{top, size, subs, sups}
-use Rattle.spec.proofs.Lists.{getD-table, length-table}
+use Rattle.laws.proofs.Lists.{getD-table, length-table}
 use Rattle.ranked.specs.declared.Shape.{Shape}
 use Rattle.ranked.specs.Words.{firstAt, sizeAt, total, listAt, subsIn, supsIn, absIn, Inside, Held}
 use Rattle.ranked.specs.Reading.{Lies, subsWord, supsWord}

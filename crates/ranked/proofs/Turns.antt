@@ -11,7 +11,7 @@ use lib.Seq.{drop-cons}
 use lib.Dec.{eqb, ltb}
 use borrow.Author.Tests.{eq-eqb, ne-eqb, lt-ltb, le-ltb}
 use Rattle.spec.specs.Lists.{In, range, every, holds, keep}
-use Rattle.spec.proofs.Lists.{length-range, getD-range, in-getD}
+use Rattle.laws.proofs.Lists.{length-range, getD-range, in-getD}
 
 -- ---- what a reader finds
 

@@ -12,8 +12,8 @@ use Rattle.spec.specs.Lists.{range}
 use Rattle.spec.specs.Mark.{setsApart}
 use Rattle.spec.specs.Solid.{Concrete}
 use Rattle.spec.specs.Search.{exchanged}
-use Rattle.spec.proofs.Lists.{map-same, of-range}
-use Rattle.spec.proofs.Exchange.{exchange-twice}
+use Rattle.laws.proofs.Lists.{map-same, of-range}
+use Rattle.laws.proofs.Exchange.{exchange-twice}
 use Rattle.ranked.specs.declared.Shape.{Shape}
 use Rattle.ranked.specs.Words.{firstAt, sizeAt, total, absIn}
 use Rattle.ranked.specs.Bench.{solidAt, Bench}

@@ -11,7 +11,7 @@ use Rattle.spec.specs.Types.{size, State}
 use Rattle.spec.specs.Solid.{Concrete}
 use Rattle.spec.specs.Calls.{SearchOut, searchCall, rotationsCall}
 use Rattle.spec.specs.Demand3Calls.{rowAt, KeepsType, ListedMembers, Demand3After}
-use Rattle.spec.proofs.Demand3Calls.{demand3-calls}
+use Rattle.laws.proofs.Demand3Calls.{demand3-calls}
 use Rattle.search.specs.Reading.{callOf}
 use Rattle.search.specs.Demand3.{Demand3Told}
 

@@ -17,9 +17,9 @@ use Rattle.spec.specs.Solid.{Concrete}
 use Rattle.spec.specs.Flags.{Flag}
 use Rattle.spec.specs.Search.{Member, Setting, candidate, sameTypes, rowOf, examplesGo, markOf, tested, membersOf}
 use Rattle.spec.specs.Calls.{Room, haveRoom, fitting}
-use Rattle.spec.proofs.Lists.{map-map, map-same, in-map}
-use Rattle.spec.proofs.Listed.{Marked, member-mark, rotation-in, fitting-in}
-use Rattle.spec.proofs.Shapes.{Holds, none-held, fits-holds}
+use Rattle.laws.proofs.Lists.{map-map, map-same, in-map}
+use Rattle.laws.proofs.Listed.{Marked, member-mark, rotation-in, fitting-in}
+use Rattle.laws.proofs.Shapes.{Holds, none-held, fits-holds}
 use Rattle.symmetry.specs.Tails.{wantedOf}
 use Rattle.symmetry.specs.Listing.{given, rowCells, keptIn}
 use Rattle.products.specs.Marking.{markIn}

@@ -25,8 +25,8 @@ use Rattle.spec.specs.Flags.{firstFlag, flags}
 use Rattle.spec.specs.Classes.{typesOf}
 use Rattle.spec.specs.Search.{Member, Setting, firstFar, exchangedIn, exchanged, flagColumns, markOf, allFinite, full, setting}
 use Rattle.spec.specs.Calls.{SearchOut, roomOf}
-use Rattle.spec.proofs.Shapes.{Holds}
-use Rattle.spec.proofs.Marked.{both}
+use Rattle.laws.proofs.Shapes.{Holds}
+use Rattle.laws.proofs.Marked.{both}
 use Rattle.float.specs.Reading.{ifRegular}
 use Rattle.float.proofs.Parts.{parts-take}
 use Rattle.sheet.specs.declared.Verdict.the-variants as verdict

@@ -17,7 +17,7 @@ use Rattle.spec.specs.Lists.{renumber, range}
 use Rattle.spec.specs.Types.{Solid, top, size, Classes, isProper, startAt, start, up}
 use Rattle.spec.specs.Hull.{classes}
 use Rattle.spec.specs.Classes.{distances, classTable, byTable}
-use Rattle.spec.proofs.Lists.{map-same, length-table, of-range}
+use Rattle.laws.proofs.Lists.{map-same, length-table, of-range}
 use Rattle.ranked.specs.declared.Shape.{Shape}
 use Rattle.ranked.specs.Words.{firstAt, sizeAt, total, absIn, Held}
 use Rattle.ranked.specs.Bench.{solidAt}

@@ -9,9 +9,9 @@ use native.Mathlib.Omega.{arith}
 use borrow.Author.Tests.{eq-eqb, ne-eqb}
 use lib.ListN.{length, take}
 use Rattle.spec.specs.Types.{Solid, elements, Classes, State, typeCount, start, sweepSteps, sweep, settle, result}
-use Rattle.spec.proofs.Steps.{Good, start-good}
-use Rattle.spec.proofs.Result.{sweep-proper, good-play}
-use Rattle.spec.proofs.TypeLaws as laws
+use Rattle.laws.proofs.Steps.{Good, start-good}
+use Rattle.laws.proofs.Result.{sweep-proper, good-play}
+use Rattle.laws.proofs.TypeLaws as laws
 use Rattle.ranked.specs.declared.Shape.{Shape}
 use Rattle.ranked.specs.Words.{total, absIn}
 use Rattle.distances.specs.Solids.{proper}

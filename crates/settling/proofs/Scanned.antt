@@ -13,10 +13,10 @@ use lib.Seq.{getD-set-same, getD-set-other, drop-set-add, take-suc-set, take-set
 use lib.Dec.{eqb}
 use lib.Ieee.{Float, nan}
 use Rattle.spec.specs.Lists.{In, distinct, place, renumber, range}
-use Rattle.spec.proofs.Lists.{map-same, getD-table, length-table, of-range}
-use Rattle.spec.proofs.Distinct.{in-distinct, of-distinct, place-at, in?}
-use Rattle.spec.proofs.Counts.{numbers}
-use Rattle.spec.proofs.Scan.{renumber-snoc, distinct-new, distinct-old, place-out}
+use Rattle.laws.proofs.Lists.{map-same, getD-table, length-table, of-range}
+use Rattle.laws.proofs.Distinct.{in-distinct, of-distinct, place-at, in?}
+use Rattle.laws.proofs.Counts.{numbers}
+use Rattle.laws.proofs.Scan.{renumber-snoc, distinct-new, distinct-old, place-out}
 use Rattle.geometry.specs.Classes.{sameClass}
 use Rattle.element_types.proofs.Scanned.{table-snoc}
 use Rattle.settling.specs.Start.{cellAt, repCells, Shares, Fitting, ByClass}

@@ -17,7 +17,7 @@ use lib.Ieee.Fits.{down-pos}
 use borrow.Author.Tests.{lt-ltb, le-ltb, le-leb, lt-leb, leb-true, leb-false, eq-eqb, ne-eqb}
 use Rattle.spec.specs.Limits.{maxMagnitude}
 use Rattle.spec.specs.Eval.{evaluate}
-use Rattle.spec.proofs.RootIs.{Cmp, cmp}
+use Rattle.laws.proofs.RootIs.{Cmp, cmp}
 use Rattle.spec.specs.Float.{absF, finite, inRange}
 
 -- ---- tests on numbers

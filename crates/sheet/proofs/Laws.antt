@@ -12,8 +12,8 @@ use Rattle.spec.specs.declared.Refusal.{Refusal}
 use Rattle.spec.specs.Limits.{maxRank, maxDimension, maxCount, maxEntries}
 use Rattle.spec.specs.Lists.{In, range, sum}
 use Rattle.spec.specs.Judged.{Judged, refused, passed}
-use Rattle.spec.proofs.Accepted.{never, same, bound-by, times-read, times-each, rank-read, dimension-read, count-read}
-use Rattle.spec.proofs.Accepted as accepted
+use Rattle.laws.proofs.Accepted.{never, same, bound-by, times-read, times-each, rank-read, dimension-read, count-read}
+use Rattle.laws.proofs.Accepted as accepted
 use Rattle.spec.specs.Sheet.{Parsed, done, times, count, coordinate, list, listsAt, lists, end, vertexCount, rank, dimension, sheet, readSheet}
 use Rattle.spec.specs.Types.{Solid, top, size, properRanks, elements}
 use Rattle.spec.specs.Solid.{properLists, withTop, solidOf, entries}

@@ -18,7 +18,7 @@ use Rattle.spec.specs.Limits.{maxRank, maxDimension, maxCount}
 use Rattle.spec.specs.Lists.{In, sum}
 use Rattle.spec.specs.Bits.{field}
 use Rattle.spec.specs.Judged.{Judged, refused, passed}
-use Rattle.spec.proofs.Accepted.{times-read, times-each, count-read}
+use Rattle.laws.proofs.Accepted.{times-read, times-each, count-read}
 use Rattle.spec.specs.Sheet.{Parsed, Reader, _>>=_, _>>_, done, times, count, coordinate, lists, end, vertexCount, rank, dimension, sheet, readSheet}
 use Rattle.sheet.specs.declared.Place.the-variants as place
 use Rattle.sheet.specs.declared.Counted.{Counted}

@@ -17,8 +17,8 @@ use Rattle.spec.specs.Float.{inRange}
 use Rattle.spec.specs.Lists.{sum}
 use Rattle.spec.specs.Bits.{field}
 use Rattle.spec.specs.Judged.{Judged, refused, passed}
-use Rattle.spec.proofs.Accepted.{never, same, bound-by, judged}
-use Rattle.spec.proofs.Accepted as accepted
+use Rattle.laws.proofs.Accepted.{never, same, bound-by, judged}
+use Rattle.laws.proofs.Accepted as accepted
 use Rattle.spec.specs.Sheet.{Reader, _>>=_, _>>_, done, judge, times, bits, count, coordinate, subList, list, listsAt, lists}
 use Rattle.sheet.specs.Judge.{rankEntries}
 

@@ -2,17 +2,15 @@
 -- The comparison with the Rust (compare/clean.rs, tools/search_model.py) tests this definition, under the same names, and leaves out what is not
 -- clean.
 -- Assumes nothing.
-use mathlib.Core.Path.{_≡_}
-use mathlib.Core.Logic.{_↔_}
-use Prim.Native.Nat.{ℕ, _<_}
+use Prim.Native.Nat.{ℕ}
 use mathlib.Core.Bool.{Bool, true, false, _&&_, Bool·beq}
 use mathlib.Core.List.{List, [], _∷_, _++_, map}
-use lib.ListN.{length, getD}
+use lib.ListN.{getD}
 use lib.Dec.{leb, eqb}
 use lib.IntN.{ℤ, pos, negsuc}
 use lib.Ieee.{Float, nan, inf, fin}
-use Rattle.spec.specs.Lists.{In, distinct, count, range, join, every}
-use Rattle.spec.specs.Float.{zeroF, finite}
+use Rattle.spec.specs.Lists.{distinct, count, range, join, every}
+use Rattle.spec.specs.Float.{zeroF}
 use Rattle.spec.specs.Matrix.{Vector, Matrix, mulVec}
 use Rattle.spec.specs.Hull.{nearer, listing}
 use Rattle.spec.specs.Copying.{near, found, spread, copies}
@@ -55,8 +53,8 @@ sameFloat (fin s m e) (fin t n d) = Bool·beq s t && eqb m n && sameInteger e d
 abbrev pub onAxis : List Vector → ℕ → List Float
 onAxis ps k = map (λ p. getD p k zeroF) ps
 
--- This says "is transitive among coordinates and images on each axis, images are finite" of the points ps with the images qs, in d dimensions. Each
--- value is taken once, which changes nothing (`EveryClean.points`) and keeps an evaluation short.
+-- "is transitive among coordinates and images on each axis, images are finite": of the points ps with the images qs, in d dimensions. Each value is taken
+-- once, which changes nothing (`EveryClean.points` of crate `laws`) and keeps an evaluation short.
 unfoldable pub cleanPoints : ℕ → List Vector → List Vector → Bool
 cleanPoints d ps qs = allFinite qs && every (λ k. transitive (distinct sameFloat (onAxis (ps ++ qs) k))) (range 0 d)
 
@@ -103,24 +101,3 @@ multiplied ms (p ∷ ps) cs = elim (found cs p) [ true ↦ multiplied ms ps cs |
 -- the points that it multiplies, and of the copies.
 unfoldable pub cleanCopying : ℕ → List Vector → List Matrix → Bool
 cleanCopying d ps ms = let cs = copies ms ps in cleanPoints d (ps ++ cs) (images ms (multiplied ms ps [] ++ cs))
-
--- ---- the clauses as statements, which the tests above decide
-
--- "differ by at most EPS" is transitive among the values of xs.
-abbrev pub Transitive : List Float → Type 0
-Transitive xs = (x y z : Float) → In x xs → In y xs → In z xs → withinEps x y ≡ true → withinEps y z ≡ true → withinEps x z ≡ true
-
--- These are the first two clauses, of the points ps with the images qs in d dimensions.
-pub record CleanPoints (d : ℕ) (ps qs : List Vector) : Type 0 where
-  pub axes : (k : ℕ) → k < d → Transitive (onAxis (ps ++ qs) k)
-  pub images : (q : Vector) → In q qs → (x : Float) → In x q → finite x ≡ true
-
--- This is the third clause, of the distances xs: where a distance is nearer than EPS to the listed values of the numbers i and j, these are one
--- number.
-abbrev pub CleanDistances : List Float → Type 0
-CleanDistances xs = (x : Float) → In x xs → (i j : ℕ) → i < length (listedBy [] xs) → j < length (listedBy [] xs)
-    → nearer (getD (listedBy [] xs) i zeroF) x ≡ true → nearer (getD (listedBy [] xs) j zeroF) x ≡ true → i ≡ j
-
-pub record EveryClean : Type 0 where
-  pub points : (d : ℕ) (ps qs : List Vector) → (cleanPoints d ps qs ≡ true) ↔ CleanPoints d ps qs
-  pub distances : (xs : List Float) → (cleanDistances xs ≡ true) ↔ CleanDistances xs

@@ -1,15 +1,14 @@
--- This file has demand 3, as one statement over any list of steps.
+-- The terms of demand 3, and what it says of a state and the result. Crate `laws` proves it of the state after any list of steps.
 -- Assumes nothing.
 use mathlib.Core.Path.{_≡_}
 use mathlib.Core.Logic.{_≢_, _↔_}
 use mathlib.Core.Bool.{true}
 use Prim.Native.Nat.{ℕ, suc, pred, _-_, _<_}
-use mathlib.Core.Option.{some}
 use mathlib.Core.List.{List, [], _∷_, map}
 use lib.ListN.{getD}
 use Rattle.spec.specs.Lists.{In, range}
 use Rattle.spec.specs.Mark.{marked, goes}
-use Rattle.spec.specs.Types.{Solid, top, size, subs, Classes, State, typeOf, start, Step, at, step, play, result}
+use Rattle.spec.specs.Types.{Solid, top, size, subs, Classes, State, typeOf, Step, at, step}
 
 -- Every number of the list is greater than the one before it, and the first is greater than x.
 abbrev pub RisingAbove : ℕ → List ℕ → Type 0
@@ -73,9 +72,3 @@ pub record Agree (s : Solid) (cls : Classes) (S z : State) : Type 0 where
       → (goes s row r e < size s r) × (typeOf S r (goes s row r e) ≡ typeOf S r e) × (typeOf z r (goes s row r e) ≡ typeOf z r e)
   -- So does any map of elements that keeps rank and class, never takes two elements to one, and takes subs exactly onto subs.
   pub carried : (σ : ℕ → ℕ → ℕ) → Carries s cls σ → (r e : ℕ) → e < size s r → (typeOf S r (σ r e) ≡ typeOf S r e) × (typeOf z r (σ r e) ≡ typeOf z r e)
-
--- Demand 3 holds for every solid that section 2 allows, its result, and the state after any list of steps at proper ranks.
-abbrev pub Demand3 : Type 0
-Demand3 =
-    (s : Solid) → Sound s → (cls : Classes) (z : State) → result s cls ≡ some z
-    → (xs : List Step) → AllProper s xs → Agree s cls (play s (start s cls) xs) z

@@ -1,5 +1,4 @@
--- This file has demand 3 as one statement about the calls, from a sheet's bytes: what the types call gives out, any list of steps, and the members
--- that a search lists.
+-- What demand 3 says of the calls, from a sheet's bytes: of what the types call gives out, of any list of steps, and of the members that a search lists.
 -- Assumes nothing.
 use mathlib.Core.Path.{_≡_}
 use Prim.Native.Nat.{ℕ, _*_, _<_}
@@ -7,7 +6,6 @@ use mathlib.Core.Option.{some}
 use mathlib.Core.List.{List, map}
 use lib.ListN.{length, getD, take, drop}
 use Rattle.spec.specs.declared.Answer.{Answer}
-use Rattle.spec.specs.declared.Answer.the-variants.{Done}
 use Rattle.spec.specs.Refusal.{answerCount}
 use Rattle.spec.specs.Lists.{join}
 use Rattle.spec.specs.Types.{Solid, size, State, typeOf, start, Step, play, given, elementTypes}
@@ -56,6 +54,3 @@ pub record Demand3Call (b : List ℕ) (words floats : ℕ) (old : TypesOut) (n :
   pub count : n ≡ length (elementTypes (solid .abs) result)
   -- Demand 3 is "a single theorem over the whole list of steps", so the list stands inside the statement.
   pub steps : (xs : List Step) → AllProper (solid .abs) xs → Demand3After b solid (play (solid .abs) (start (solid .abs) (byTable (classTable solid))) xs) result
-
-abbrev pub Demand3Calls : Type 0
-Demand3Calls = (b : List ℕ) (words floats : ℕ) (old : TypesOut) (n : ℕ) → typesCall b words floats old .0 ≡ Done n → Demand3Call b words floats old n

@@ -23,14 +23,8 @@ pub mod Calls
 pub mod Ascii
 pub mod KitText
 pub mod Eval
-pub mod Passed
-pub mod SolidLaws
-pub mod CallLaws
-pub mod KitLaws
 pub mod Workspace
 pub mod CallExamples
-pub mod FlagLaws
-pub mod TypeLaws
 pub mod Demand3Calls
 pub mod Pack
 pub mod Polytope

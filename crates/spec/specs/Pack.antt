@@ -1,5 +1,5 @@
--- This file takes section 2's sheet the other way round, from what a sheet says to its bytes: "The sheet (added) is bit-packed, most significant
--- first". The file also says what may be packed, and what is proved of packing and reading.
+-- Section 2's sheet the other way round, from what a sheet says to its bytes: "The sheet (added) is bit-packed, most significant first". The file also says
+-- what may be packed.
 -- Assumes nothing.
 use mathlib.Core.Path.{_≡_, refl}
 use Prim.Native.Nat.{ℕ, zero, suc, _+_, _-_, _*_, _/_, _%_, _≤_, _<_}
@@ -11,8 +11,7 @@ use Rattle.spec.specs.Limits.{maxRank, maxDimension, maxCount, maxEntrie
 use Rattle.spec.specs.Lists.{In, sum, join}
 use Rattle.spec.specs.Float.{inRange}
 use Rattle.spec.specs.Demand.{Rising}
-use Rattle.spec.specs.Judged.{passed}
-use Rattle.spec.specs.Sheet.{Parsed, vertexCount, readSheet}
+use Rattle.spec.specs.Sheet.{Parsed, vertexCount}
 
 -- ---- the bits
 
@@ -104,24 +103,6 @@ pub record Allowed (p : Parsed) : Type 0 where
   -- The lists are "for ranks 2 to R−1, each element's list". Rank 2 is the first of `lists`, and the second of `counts`.
   pub listed : length (p .lists) ≡ length (p .counts) - 1
   pub lists : (r : ℕ) → suc r < length (p .counts) → AllowedRank (getD (p .counts) r 0) (getD (p .counts) (suc r) 0) (getD (p .lists) r [])
-
--- ---- what is proved of packing and reading
-
-pub record RoundTrip : Type 0 where
-  -- The bytes of what was read are those that were read.
-  pub packs : (b : List ℕ) (p : Parsed) → Bytes b → readSheet b ≡ passed p → pack p ≡ b
-  -- Packing an accepted solid and reading it gives it back.
-  pub again : (b : List ℕ) (p : Parsed) → Bytes b → readSheet b ≡ passed p → readSheet (pack p) ≡ passed p
-  -- Two accepted sheets with the same reading are the same bytes.
-  pub once : (a b : List ℕ) (p : Parsed) → Bytes a → Bytes b → readSheet a ≡ passed p → readSheet b ≡ passed p → a ≡ b
-
--- Whatever may be packed is read back from its bytes.
-abbrev pub PackedAllowed : Type 0
-PackedAllowed = (p : Parsed) → Allowed p → (readSheet (pack p) ≡ passed p) × Bytes (pack p)
-
--- Nothing else is ever read.
-abbrev pub ReadAllowed : Type 0
-ReadAllowed = (b : List ℕ) (p : Parsed) → readSheet b ≡ passed p → Allowed p
 
 -- ---- an example
 

@@ -1,22 +1,17 @@
--- Solids in the terms of McMullen and Schulte (Abstract Regular Polytopes, section 2A), who decide what flags and the diamond are: the order of a
--- solid's elements, its maximal chains, and the two elements between any two whose ranks differ by two. Each is said here as the book says it, and
--- the theorems below tie it to the list or to the test that the calls go by. The book counts ranks from -1, which is the rank of the least element;
--- here they count from 0. Document 01 does not ask for the book's property P3, that a polytope is strongly connected, so compounds pass and no
--- statement here speaks of it.
+-- Solids in the terms of McMullen and Schulte (Abstract Regular Polytopes, section 2A), who decide what flags and the diamond are: the order of a solid's
+-- elements, its maximal chains, and the two elements between any two whose ranks differ by two. Each is said here as the book says it, and the theorems of
+-- crate `laws` tie it to the list or to the test that the calls go by.
+-- The book counts ranks from -1, which is the rank of the least element; here they count from 0. Document 01 does not ask for the book's property P3, that a
+-- polytope is strongly connected, so compounds pass and no statement here speaks of it.
 -- Assumes nothing.
 use mathlib.Core.Path.{_≡_}
 use mathlib.Core.Logic.{_≢_, _⊎_, _↔_}
-use Prim.Native.Nat.{ℕ, suc, _-_, _≤_, _<_}
-use mathlib.Core.Bool.{true}
+use Prim.Native.Nat.{ℕ, suc, _≤_, _<_}
 use mathlib.Core.List.{List, [], _∷_, map}
 use lib.ListN.{length}
 use Rattle.spec.specs.Lists.{In, range}
 use Rattle.spec.specs.Types.{Solid, top, size, subs}
-use Rattle.spec.specs.Demand.{Sound}
-use Rattle.spec.specs.Judged.{passed}
-use Rattle.spec.specs.Solid.{Concrete, bound, diamond, preflight}
 use Rattle.spec.specs.Flags.{Flag, elementAt, flags, IsFlag}
-use Rattle.spec.specs.Search.{exchangedIn}
 
 -- ---- the order
 
@@ -132,36 +127,8 @@ Between s F G H = Below s F H × Below s H G
 abbrev pub Diamonds : Solid → Type 0
 Diamonds s = (F G : Element) → IsElement s F → IsElement s G → Below s F G → G .rank ≡ suc (suc (F .rank)) → ExactlyTwo (Between s F G)
 
--- ---- theorems
-
--- Every element but the least has a sub.
-abbrev pub Filled : Solid → Type 0
-Filled s = (r e : ℕ) → e < size s (suc r) → 0 < length (subs s (suc r) e)
-
-abbrev pub EveryOrder : Type 0
-EveryOrder = (s : Solid) → Sound s → Filled s → bound s ≡ true → Ordered s
-
--- The test behind refusal 5 passes exactly when every element is at most the top.
-abbrev pub EveryBound : Type 0
-EveryBound = (s : Solid) → Sound s → Filled s → (bound s ≡ true) ↔ ((F : Element) → IsElement s F → AtMost s F (topElement s))
-
-abbrev pub EveryMaximalChain : Type 0
-EveryMaximalChain = (s : Solid) → Sound s → Filled s → bound s ≡ true → MaximalChains s
-
--- The test behind refusal 6 passes exactly when the solid has P4.
-abbrev pub EveryDiamond : Type 0
-EveryDiamond = (s : Solid) → Sound s → (diamond s ≡ true) ↔ Diamonds s
-
 -- These are the book's properties of a polytope, except P3.
 pub record Polytope (s : Solid) : Type 0 where
   pub order : Ordered s
   pub chains : MaximalChains s
   pub diamonds : Diamonds s
-
--- The solid as read has these properties, and so has the one that search walks, where facet f has changed places with facet 0.
-pub record Polytopes (c : Concrete) : Type 0 where
-  pub read : Polytope (c .abs)
-  pub searched : 2 ≤ top (c .abs) → (f : ℕ) → f < size (c .abs) (top (c .abs) - 1) → Polytope (exchangedIn (c .abs) f)
-
-abbrev pub EveryPolytope : Type 0
-EveryPolytope = (b : List ℕ) (words floats : ℕ) (c : Concrete) → preflight b words floats ≡ passed c → Polytopes c

@@ -7,7 +7,7 @@ use native.Mathlib.Omega.{arith}
 use lib.Dec.{lit<}
 use Rattle.spec.specs.Lists.{In}
 use Rattle.spec.specs.Types.{subs}
-use Rattle.spec.specs.Polytope.{Element, element, IsElement, AtMost, itself, over, Comparable, leastElement, topElement, IsChain, IsMaximal, elementsOf, ExactlyTwo, Between, Diamonds}
+use Rattle.spec.specs.Polytope.{Element, element, IsElement, AtMost, itself, over, Comparable, leastElement, topElement, IsChain, IsMaximal, ExactlyTwo, Between, Diamonds}
 use Rattle.spec.specs.SolidExamples.{square}
 
 -- Corner 1 is at most edge 0, and at most the top.
@@ -37,8 +37,3 @@ not-maximal w = w .largest (leastElement ∷ []) lone-chain (λ F m. absurd m) l
 pub corners : Diamonds square → ExactlyTwo (Between square leastElement (element 2 0))
 unfolding subs
 corners d = d leastElement (element 2 0) (omega arith, lit< tt) (lit< tt, lit< tt) (over (over itself (refl, inl refl)) (refl, inl refl), λ e. omega (arith, ap (λ (H : Element). H .rank) e)) refl
-
--- This is what the theorems say of the square: the elements of its first flag are a maximal chain, and P4 holds.
-pub record OfSquare : Type 0 where
-  pub chain : IsMaximal square (elementsOf (0 ∷ 0 ∷ 0 ∷ 0 ∷ []))
-  pub diamonds : Diamonds square

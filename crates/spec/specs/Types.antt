@@ -1,6 +1,7 @@
 -- This file has section 2's solids as plain lists, and section 4: the types of a solid's elements, by steps and sweeps.
 -- Assumes nothing.
-use Prim.Native.Nat.{ℕ, zero, suc, pred, _+_, _-_}
+use mathlib.Core.Path.{_≡_}
+use Prim.Native.Nat.{ℕ, zero, suc, pred, _+_, _-_, _<_}
 use mathlib.Core.Bool.{Bool, true, false, _&&_}
 use mathlib.Core.Option.{Option, none, some}
 use mathlib.Core.List.{List, [], _∷_, _++_, map, reverse}
@@ -58,6 +59,18 @@ typeOf S r e = getD (typesAt S r) e 0
 -- not be counted.
 unfoldable pub typeCount : Solid → State → ℕ
 typeCount s S = sum (map (λ r. length (distinct eqb (typesAt S r))) (properRanks s))
+
+-- Counts the types that a rank's elements have.
+unfoldable pub inUse : State → ℕ → ℕ
+inUse S r = length (distinct eqb (typesAt S r))
+
+-- The types of the rank r are numbered as section 4 says: "numbers go from 0 in each rank by first appearance".
+pub record Numbered (s : Solid) (S : State) (r : ℕ) : Type 0 where
+  -- There is one type for each element.
+  pub each : length (typesAt S r) ≡ size s r
+  pub low : (e : ℕ) → e < size s r → typeOf S r e < inUse S r
+  -- The types by first appearance are 0, 1, 2 and so on.
+  pub first : distinct eqb (typesAt S r) ≡ range 0 (inUse S r)
 
 -- ---- start
 

@@ -13,7 +13,7 @@ use Rattle.spec.specs.Copying.{written}
 use Rattle.spec.specs.Flags.{Flag}
 use Rattle.spec.specs.Search.{Member, Setting}
 use Rattle.spec.specs.Calls.{Room, fitting}
-use Rattle.spec.proofs.Shapes.{Fit}
+use Rattle.laws.proofs.Shapes.{Fit}
 use Rattle.symmetry.specs.Listing.{given, matrixCells, rowCells, keptIn, Listed}
 use Rattle.symmetry.proofs.Running.{running-end}
 use Rattle.symmetry.proofs.Going.{Going}

@@ -18,10 +18,10 @@ use Rattle.spec.specs.Copying.{written}
 use Rattle.spec.specs.Flags.{Flag}
 use Rattle.spec.specs.Search.{Member, Setting, candidate, sameTypes, tested, isRotation}
 use Rattle.spec.specs.Calls.{Room, haveRoom, fitting}
-use Rattle.spec.proofs.CopyLaws.{written-length}
+use Rattle.laws.proofs.CopyLaws.{written-length}
 use Rattle.float.proofs.Tails.{tail-is}
 use Rattle.float.proofs.Tails.{part-written}
-use Rattle.spec.proofs.Shapes.{Fit, Shape, square-long, Holds, none-held, fits-holds, candidate-shape, tested-shape}
+use Rattle.laws.proofs.Shapes.{Fit, Shape, square-long, Holds, none-held, fits-holds, candidate-shape, tested-shape}
 use Rattle.symmetry.specs.Listing.{listedIf, gives, given, matrixCells, rowCells, Running, tried, fits}
 use Rattle.symmetry.specs.declared.listing.Tried.{Tried}
 use Rattle.symmetry.specs.declared.listing.Tried.the-variants.{Skipped, Added, Short}

@@ -12,7 +12,7 @@ use Rattle.spec.specs.Solid.{Concrete}
 use Rattle.spec.specs.Flags.{Flag, flags}
 use Rattle.spec.specs.Search.{Setting}
 use Rattle.spec.specs.Calls.{Room}
-use Rattle.spec.proofs.Shapes.{Fit}
+use Rattle.laws.proofs.Shapes.{Fit}
 use Rattle.float.specs.Reading.{corner}
 use Rattle.float.proofs.Corner.{length-corner}
 use Rattle.ranked.specs.declared.Shape.{Shape}

@@ -18,9 +18,9 @@ use Rattle.spec.specs.Copying.{written, parts}
 use Rattle.spec.specs.Solid.{Concrete}
 use Rattle.spec.specs.Flags.{Flag, IsFlag, firstFlag}
 use Rattle.spec.specs.Search.{Member, flagColumns, candidate, sameTypes, rowOf, markOf, tested, isRotation}
-use Rattle.spec.proofs.Lists.{length-table}
-use Rattle.spec.proofs.Marked.{both}
-use Rattle.spec.proofs.FlagList.{every-first}
+use Rattle.laws.proofs.Lists.{length-table}
+use Rattle.laws.proofs.Marked.{both}
+use Rattle.laws.proofs.FlagList.{every-first}
 use Rattle.ranked.specs.declared.Shape.{Shape}
 use Rattle.ranked.specs.Words.{sizeAt, subsIn, absIn}
 use Rattle.ranked.specs.Bench.{solidAt}

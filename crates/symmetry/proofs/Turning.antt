@@ -10,8 +10,8 @@ use lib.Seq.{drop-cons}
 use Rattle.spec.specs.Lists.{eqList, place}
 use Rattle.spec.specs.Types.{Solid}
 use Rattle.spec.specs.Flags.{Flag, flags}
-use Rattle.spec.proofs.Counts.{lists}
-use Rattle.spec.proofs.FlagList.{every-flag-once}
+use Rattle.laws.proofs.Counts.{lists}
+use Rattle.laws.proofs.FlagList.{every-flag-once}
 use Rattle.ranked.specs.declared.Shape.{Shape}
 use Rattle.ranked.specs.Words.{absIn, Held}
 use Rattle.flag.specs.Reading.{Follows, Nth}

@@ -14,8 +14,8 @@ use Rattle.spec.specs.Copying.{parts, written}
 use Rattle.spec.specs.Search.{Member, rotationsOf}
 use Rattle.spec.specs.Calls.{typeCells}
 use Rattle.spec.specs.KitText.{membersLine}
-use Rattle.spec.proofs.Lists.{map-map, map-same, in-map}
-use Rattle.spec.proofs.Shapes.{Square, square-long, type-cells}
+use Rattle.laws.proofs.Lists.{map-map, map-same, in-map}
+use Rattle.laws.proofs.Shapes.{Square, square-long, type-cells}
 use Rattle.text.specs.Cells.{typesFrom}
 use Rattle.text.specs.Members.{membersText, rotationCount}
 use Rattle.text.proofs.Tables.{types-back}

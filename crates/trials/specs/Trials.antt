@@ -19,12 +19,12 @@ use Rattle.spec.specs.Judged.{passed}
 use Rattle.spec.specs.Sheet.{Parsed, readSheet}
 use Rattle.spec.specs.Copying.{axisOrders, copyCall}
 use Rattle.spec.specs.Calls.{TypesOut, typesCall, SearchOut, searchCall, rotationsCall}
-use Rattle.spec.specs.CallLaws.{NoProperRank}
+use Rattle.laws.specs.CallLaws.{NoProperRank}
 use Rattle.spec.specs.KitText.{elementCells, typeRecords, lent, workWords, workFloats, longest, kitText}
 use Rattle.spec.specs.Eval.{evaluate}
 use Rattle.spec.specs.NumberExamples.{all}
 use Rattle.spec.specs.CallExamples.{dyad, lopsided, tiny, close}
-use Rattle.spec.proofs.LowSheets.{every-low-sheet, kit-laws}
+use Rattle.laws.proofs.LowSheets.{every-low-sheet, kit-laws}
 use Rattle.trials.specs.Sheets.{square, doubled, rhombus, single}
 use Rattle.trials.specs.AxisOrders.{forty-eight}
 

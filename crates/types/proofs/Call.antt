@@ -21,8 +21,8 @@ use Rattle.spec.specs.Copying.{written}
 use Rattle.spec.specs.Solid.{Concrete, preflight}
 use Rattle.spec.specs.Classes.{typesOf}
 use Rattle.spec.specs.Calls.{Given, typeCells, TypesOut, typesGiven, typesWritten, typesCall}
-use Rattle.spec.proofs.Lists.{map-same}
-use Rattle.spec.proofs.Counts.{sum-le}
+use Rattle.laws.proofs.Lists.{map-same}
+use Rattle.laws.proofs.Counts.{sum-le}
 use Rattle.ranked.specs.declared.Shape.{Shape}
 use Rattle.ranked.specs.Words.{absIn}
 use Rattle.distances.specs.Solids.{proper}

@@ -16,9 +16,9 @@ use Rattle.spec.specs.Demand.{Proper}
 use Rattle.spec.specs.Copying.{written}
 use Rattle.spec.specs.Calls.{TypesOut, typesCall}
 use Rattle.spec.specs.Demand3Calls.{Demand3Call}
-use Rattle.spec.proofs.Lists.{map-same}
-use Rattle.spec.proofs.TypeLaws.{type-laws}
-use Rattle.spec.proofs.Demand3Calls.{demand3-calls}
+use Rattle.laws.proofs.Lists.{map-same}
+use Rattle.laws.proofs.TypeLaws.{type-laws}
+use Rattle.laws.proofs.Demand3Calls.{demand3-calls}
 use Rattle.distances.specs.Solids.{beforeIn}
 use Rattle.types.specs.Demand3.{typeCell, Demand3Cells, Demand3Outputs}
 

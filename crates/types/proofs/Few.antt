@@ -15,10 +15,10 @@ use Rattle.spec.specs.Judged.{Judged, refused, passed}
 use Rattle.spec.specs.Solid.{Concrete, preflight}
 use Rattle.spec.specs.Classes.{typesOf}
 use Rattle.spec.specs.Calls.{Given, TypesOut, typesGiven, typesWritten, typesCall}
-use Rattle.spec.proofs.Lists.{length-range, of-range}
-use Rattle.spec.proofs.Accepted.{every-passed}
-use Rattle.spec.proofs.CallProofs.{behind}
-use Rattle.spec.proofs.TypeLaws.{type-laws}
+use Rattle.laws.proofs.Lists.{length-range, of-range}
+use Rattle.laws.proofs.Accepted.{every-passed}
+use Rattle.laws.proofs.CallProofs.{behind}
+use Rattle.laws.proofs.TypeLaws.{type-laws}
 use Rattle.element_types.proofs.Room.{sum-under}
 use Rattle.types.proofs.Rows.{many-few}
 use Rattle.types.proofs.Call.{types-counted}

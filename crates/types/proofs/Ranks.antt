@@ -12,11 +12,11 @@ use lib.ListN.{length, getD, take, drop, set, length-append, length-take, length
 use lib.Seq.{sets, length-sets, take-add, take-suc, take-all, drop-drop, getD-take, getD-drop, length-take-le}
 use Rattle.spec.specs.Lists.{In, distinct, range, join}
 use Rattle.spec.specs.Types.{Solid, State, typesAt, properRanks, elements, typeCount, given, ElementType, elementTypesAt, elementTypes}
-use Rattle.spec.specs.TypeLaws.{inUse}
+use Rattle.spec.specs.Types.{inUse}
 use Rattle.spec.specs.Copying.{written}
-use Rattle.spec.proofs.Lists.{in-getD, map-same, of-range, getD-table}
-use Rattle.spec.proofs.FlagList.{in-either}
-use Rattle.spec.proofs.Shapes.{type-cells}
+use Rattle.laws.proofs.Lists.{in-getD, map-same, of-range, getD-table}
+use Rattle.laws.proofs.FlagList.{in-either}
+use Rattle.laws.proofs.Shapes.{type-cells}
 use Rattle.ranked.specs.declared.Shape.{Shape}
 use Rattle.ranked.specs.Words.{firstAt, sizeAt, absIn}
 use Rattle.ranked.proofs.Solids.{top-is, size-is}

@@ -14,11 +14,11 @@ use lib.Seq.{sets, length-sets, take-suc, take-all, getD-take, getD-drop, getD-s
 use Rattle.spec.specs.Lists.{In, distinct, place, count, range, join}
 use Rattle.spec.specs.Types.{ElementType}
 use Rattle.spec.specs.Calls.{typeCells}
-use Rattle.spec.proofs.Lists.{in-getD, map-same, length-range, getD-range, of-range, getD-table, length-table}
-use Rattle.spec.proofs.Distinct.{Split, split, in-distinct, of-distinct, in?, place-yes, place-no, count-yes, count-no, count-out, pigeons, once-distinct}
-use Rattle.spec.proofs.Counts.{numbers}
-use Rattle.spec.proofs.Scan.{distinct-new, distinct-old}
-use Rattle.spec.proofs.Shapes.{type-cells}
+use Rattle.laws.proofs.Lists.{in-getD, map-same, length-range, getD-range, of-range, getD-table, length-table}
+use Rattle.laws.proofs.Distinct.{Split, split, in-distinct, of-distinct, in?, place-yes, place-no, count-yes, count-no, count-out, pigeons, once-distinct}
+use Rattle.laws.proofs.Counts.{numbers}
+use Rattle.laws.proofs.Scan.{distinct-new, distinct-old}
+use Rattle.laws.proofs.Shapes.{type-cells}
 use Rattle.element_types.proofs.Scanned.{table-snoc}
 use Rattle.types.specs.Cells.{describe, cellsOf, InOrder, Listable}
 use Rattle.types.proofs.Sets.{join-append, sets-append, set-sets, getD-sets}

@@ -12,7 +12,7 @@ use lib.Seq.{length-take-le}
 use Rattle.spec.specs.Lists.{In, eqList, holds}
 use Rattle.spec.specs.Types.{Solid, size}
 use Rattle.spec.specs.Mark.{vertices, vertexSets}
-use Rattle.spec.proofs.Lists.{in-place}
+use Rattle.laws.proofs.Lists.{in-place}
 use Rattle.ranked.specs.declared.Shape.{Shape}
 use Rattle.ranked.specs.Words.{firstAt, sizeAt, total, absIn, Held}
 use Rattle.ranked.specs.Marks.{Front}

@@ -13,9 +13,9 @@ use lib.Dec.{eqb}
 use Rattle.spec.specs.Lists.{In, range, keep, holds, eqList}
 use Rattle.spec.specs.Types.{Solid, size}
 use Rattle.spec.specs.Mark.{noRepeats, inOrder, reach, vertices, vertexSets}
-use Rattle.spec.proofs.Lists.{in-getD, of-range, length-range, getD-table, length-table}
-use Rattle.spec.proofs.Distinct.{Split, split}
-use Rattle.spec.proofs.Counts.{lists, in-keep}
+use Rattle.laws.proofs.Lists.{in-getD, of-range, length-range, getD-table, length-table}
+use Rattle.laws.proofs.Distinct.{Split, split}
+use Rattle.laws.proofs.Counts.{lists, in-keep}
 use Rattle.ranked.specs.Marks.{Front}
 use Rattle.vertex_sets.specs.Prints.{printOf}
 

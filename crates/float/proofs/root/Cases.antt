@@ -14,8 +14,8 @@ use lib.Ieee.Fits.{up-pos}
 use lib.Ieee.Positive.{positive, first-pos}
 use Rattle.spec.specs.Float.{rootUnits, root}
 use Rattle.spec.specs.Root.{inUnits}
-use Rattle.spec.proofs.RootIs.{argument, root-is}
-use Rattle.spec.proofs.RootOnly.{finite-pattern}
+use Rattle.laws.proofs.RootIs.{argument, root-is}
+use Rattle.laws.proofs.RootOnly.{finite-pattern}
 
 yes-of : {b : Bool} → b ≡ true → T b
 yes-of e = subst T (sym e) tt

@@ -9,7 +9,7 @@ use lib.Dec.{leb, le→leb}
 use lib.Arith.{lt→nleb}
 use lib.Ieee.Bits.{is-true, is-false}
 use Rattle.spec.specs.Float.{rootDown}
-use Rattle.spec.proofs.RootIs.{sq-twice, sq-suc, rootDown-is, sq-le}
+use Rattle.laws.proofs.RootIs.{sq-twice, sq-suc, rootDown-is, sq-le}
 
 -- ---- one digit more
 

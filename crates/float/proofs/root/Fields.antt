@@ -8,8 +8,8 @@ use lib.Count.{leadingZeros, leading-top}
 use lib.Pow.{pow-add, pow-mono, shl-lt, shl-exact}
 use lib.Ieee.{binary64, ofBits}
 use Rattle.spec.specs.Root.{inUnits}
-use Rattle.spec.proofs.RootIs.{units-at}
-use Rattle.spec.proofs.RootOnly.{zero-field}
+use Rattle.laws.proofs.RootIs.{units-at}
+use Rattle.laws.proofs.RootOnly.{zero-field}
 
 -- The numbers d and z are the digits and the zeros of the argument with the pattern b.
 abbrev pub IsArgument : ℕ → ℕ → ℕ → Type 0

@@ -10,7 +10,7 @@ use lib.Pow.{pow-add, pow-pos, pow-mono, shl-lt, shl-exact}
 use lib.Ieee.{Float, binary64, size, nearest, units, ofBits}
 use lib.Ieee.Bits.{ofBits-toBits}
 use Rattle.spec.specs.Float.{rootDown, rootUnits}
-use Rattle.spec.proofs.RootIs.{sq-twice, sq-suc, four-two, four-pos, Kept, kept-is, digits-of, at-units, units-fit, pattern-at, Cmp, cmp}
+use Rattle.laws.proofs.RootIs.{sq-twice, sq-suc, four-two, four-pos, Kept, kept-is, digits-of, at-units, units-fit, pattern-at, Cmp, cmp}
 use Rattle.float.proofs.root.Digits.{Root}
 
 -- ---- an even number of zeros dropped

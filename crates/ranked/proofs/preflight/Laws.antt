@@ -19,8 +19,8 @@ use Rattle.spec.specs.Copying.{parts}
 use Rattle.spec.specs.Judged.{Judged, refused, passed, judge, _>>=_, _>>_}
 use Rattle.spec.specs.Sheet.{Parsed, readSheet}
 use Rattle.spec.specs.Solid.{solidOf, entries, roomy, bound, diamond, Concrete, preflight}
-use Rattle.spec.specs.Passed.{Passed}
-use Rattle.spec.proofs.Accepted.{never, same, every-passed}
+use Rattle.laws.specs.Passed.{Passed}
+use Rattle.laws.proofs.Accepted.{never, same, every-passed}
 use Rattle.sheet.specs.declared.Header.{Header}
 use Rattle.sheet.specs.declared.Verdict.{Verdict}
 use Rattle.sheet.specs.declared.Verdict.the-variants.{Accepted, Refused}

@@ -10,7 +10,7 @@ use lib.ListN.{length, length-set}
 use borrow.Author.Needs.{needs}
 use borrow.Author.Tests.{not-true, not-false, leb-true}
 use Rattle.spec.specs.Limits.{maxCount}
-use Rattle.spec.proofs.Accepted.{times-read}
+use Rattle.laws.proofs.Accepted.{times-read}
 use Rattle.spec.specs.Sheet.{times, count}
 use Rattle.sheet.specs.Judge.{proper}
 use Rattle.sheet.specs.Reading.{countedOf}

@@ -9,7 +9,7 @@ use lib.ListN.{length, getD, take}
 use borrow.Author.Needs.{needs}
 use Rattle.spec.specs.Matrix.{Vector}
 use Rattle.spec.specs.Copying.{copiesFrom, copies, parts, points, matrices}
-use Rattle.spec.proofs.CopyLaws.{copies-add}
+use Rattle.laws.proofs.CopyLaws.{copies-add}
 use Rattle.copying.specs.Post.{Kept, withPoint}
 use Rattle.copying.proofs.Growth.{Grown, grown-first, grown-next, grown-full, grown-end, Done, done-first, done-next, done-longer, done-end, copies-nothing, copies-turn, point-is, length-points, point-longer}
 use Rattle.copying.proofs.Squares.{point-end}

@@ -13,7 +13,7 @@ use Rattle.spec.specs.Copying.{spread, parts, matrices}
 use Rattle.float.proofs.Parts.{length-parts}
 use Rattle.float.proofs.Padded.{take-image}
 use Rattle.copying.proofs.Growth.{Grown, grown-first, grown-next, grown-full, grown-end, Done, done-first, done-next, done-longer, done-end, spread-nothing, spread-turn, matrix-is, length-matrices, image-longer}
-use Rattle.spec.proofs.CopyLaws.{spread-adds}
+use Rattle.laws.proofs.CopyLaws.{spread-adds}
 use Rattle.copying.specs.Post.{Kept, withImage}
 use Rattle.copying.proofs.Squares.{square, square-pos, point-end}
 use Rattle.copying.proofs.joining.spread.Statement.{statement}

@@ -9,7 +9,7 @@ use borrow.Author.Needs.{needs}
 use Rattle.spec.specs.Limits.{maxDimension}
 use Rattle.spec.specs.Matrix.{Vector, mulVec}
 use Rattle.spec.specs.Copying.{find, parts, copyRow}
-use Rattle.spec.proofs.CopyLaws.{not-found}
+use Rattle.laws.proofs.CopyLaws.{not-found}
 use Rattle.float.specs.Reading.{corner}
 use Rattle.float.specs.Finding.{foundAt}
 use Rattle.float.proofs.Corner.{length-corner}

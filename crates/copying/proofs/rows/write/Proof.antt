@@ -10,7 +10,7 @@ use lib.ListN.{length, getD, length-drop}
 use borrow.Author.Needs.{needs}
 use borrow.Rule.Slice.PartMut.{same-len-mid}
 use Rattle.spec.specs.Copying.{parts, matrices, copyRow, copyTable}
-use Rattle.spec.proofs.CopyLaws.{table-length}
+use Rattle.laws.proofs.CopyLaws.{table-length}
 use Rattle.float.specs.Reading.{corner}
 use Rattle.float.proofs.Parts.{length-parts, part-end}
 use Rattle.copying.proofs.Squares.{square, square-pos, point-end}

@@ -6,7 +6,7 @@ use mathlib.Core.Path.{ap, _∙_}
 use Rattle.spec.specs.Matrix.{inverse}
 use Rattle.spec.specs.Flags.{IsFlag}
 use Rattle.spec.specs.Search.{flagColumns}
-use Rattle.spec.proofs.FlagList.{every-first}
+use Rattle.laws.proofs.FlagList.{every-first}
 use Rattle.ranked.specs.Words.{absIn}
 use Rattle.distances.specs.Solids.{solidOn}
 use Rattle.flag.specs.Reading.{flagIn}

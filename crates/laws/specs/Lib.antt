@@ -1,0 +1,11 @@
+pub mod Passed
+pub mod SolidLaws
+pub mod FlagLaws
+pub mod PolytopeLaws
+pub mod RootLaws
+pub mod RoundTrip
+pub mod TypeLaws
+pub mod Demand3
+pub mod CleanLaws
+pub mod CallLaws
+pub mod KitLaws
