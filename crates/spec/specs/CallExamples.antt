@@ -8,9 +8,10 @@ use mathlib.Core.Option.{some}
 use mathlib.Core.List.{List, [], _∷_, map}
 use lib.ListN.{length, getD, replicate}
 use lib.Ieee.{nan, binary64, ofBits, toBits}
-use Rattle.spec.specs.declared.Refusal.the-variants.{Format, BadList, DoubleCorner, Centred, Flat, ShortSheet}
+use Rattle.spec.specs.declared.Refusal.the-variants.{CutSheet, Format, OffTheBoard, BadList, Loose, Mitre, Bench, NotFull, DoubleCorner, Centred, Flat, Blank, ShortSheet, Open, Unsettled}
 use Rattle.spec.specs.declared.Answer.{Answer}
 use Rattle.spec.specs.declared.Answer.the-variants.{Done, Refused}
+use Rattle.spec.specs.Refusal.{number}
 use Rattle.spec.specs.Ascii.{ascii}
 use Rattle.spec.specs.Lists.{range}
 use Rattle.spec.specs.Types.{Solid, Classes, result, elementTypes}
@@ -253,6 +254,13 @@ unfolding evaluate
 repeat-clause = refl
 
 -- ---- single rules
+
+-- The refusals have the numbers of the table of answers, in its order: its column "No." runs from 1 to 15.
+pub table-numbers : map number (
+    CutSheet ∷ Format ∷ OffTheBoard ∷ BadList ∷ Loose ∷ Mitre ∷ Bench ∷ NotFull ∷ DoubleCorner ∷ Centred ∷ Flat ∷ Blank ∷ ShortSheet ∷ Open ∷ Unsettled ∷ [])
+    ≡ range 1 15
+unfolding evaluate
+table-numbers = refl
 
 -- "a list's length counts as entries when it is read": entry 8,192 passes, and entry 8,193 is refused 2 before the sheet's end, which comes next, is
 -- seen. A length of 0 adds no entry, and is refused 4.

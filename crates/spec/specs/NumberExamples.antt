@@ -4,6 +4,7 @@ use mathlib.Core.Path.{_≡_, refl}
 use Prim.Native.Nat.{ℕ}
 use mathlib.Core.Option.{none, some}
 use mathlib.Core.List.{List, [], _∷_, map}
+use lib.ListN.{replicate}
 use lib.Ieee.{Float, binary64, size, units, neg, add, sub, mul, div, lt, le, eq, ofBits, toBits}
 use Rattle.spec.specs.declared.Refusal.the-variants.{CutSheet, Format, OffTheBoard, Blank, ShortSheet, Open}
 use Rattle.spec.specs.declared.Answer.the-variants.{Done, Refused}
@@ -300,3 +301,13 @@ pub refused-13-before-14 : copyCall 2 (vec (0x3ff0_0000_0000_0000 ∷ 0 ∷ []))
     ≡ (Refused ShortSheet 1, vec (0 ∷ 0x3ff0_0000_0000_0000 ∷ 0x401c_0000_0000_0000 ∷ 0x401c_0000_0000_0000 ∷ []), [])
 unfolding all
 refused-13-before-14 = refl
+
+-- 13 comes for "copies over 2,048", whatever room there is: an output of 4,096 cells has room for 2,048 points of one coordinate, and of 2,049 copies the first
+-- 2,048 are kept.
+pub room-2048 : copyCall 1 (oneF ∷ []) (oneF ∷ []) (replicate 4096 zeroF) [] ≡ copyOut 2048 (((oneF ∷ []) ∷ []) ∷ []) ((oneF ∷ []) ∷ []) (replicate 4096 zeroF) []
+unfolding most
+room-2048 = refl
+
+pub copies-2049 : copyOut 2048 [] (replicate 2049 []) [] [] .0 ≡ Refused ShortSheet 2048
+unfolding all
+copies-2049 = refl
