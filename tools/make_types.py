@@ -17,7 +17,7 @@ facets have in common. The parts of a compound stand side by side. Then some sol
 relabelled, by Python's random (seed 20261116).
 
 Every solid has outputs of just its size or with cells to spare. Some are asked again with each output one cell short (13), and with each
-half of the workspace one cell short (7). No sheet is refused 15: crate `spec` proves that none is.
+half of the workspace one cell short (7). No sheet is refused 15: crate `laws` proves that none is.
 """
 import itertools
 import math
