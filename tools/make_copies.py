@@ -11,7 +11,7 @@ and table alone, in another language and another shape than the program. On clea
 The copyings are the 48 on seeds of every kind of place and on several at once; cyclic and dihedral groups in two dimensions; one dimension;
 four dimensions with the 120 unit icosians, the 192 rotations of a tesseract and double turns; points at, just within and just past EPS of
 another; every refusal at its boundary and each before the next; both outputs one short, exactly full, empty and with cells to spare; 2,048
-copies and more; and random seeds (Python's random, seed 20261115). Three kinds are there for the guesses of crate `lookup`: points of which
+copies and more; and random seeds (Python's random, seed 20261115). Three kinds are there for the guesses of crate `points`: points of which
 some have a twin a little further off than EPS, under a matrix whose images are near both; numbers of copies about the one at which it goes
 from comparing one by one to guessing; and many seeds under the identity.
 

@@ -13,11 +13,11 @@ use lib.Ieee.{Float}
 use Rattle.spec.specs.Matrix.{Vector}
 use Rattle.spec.specs.Mark.{noRepeats}
 use Rattle.spec.specs.Copying.{near, found, find, parts}
-use Rattle.float.specs.declared.points.Found.{Found}
-use Rattle.float.specs.declared.points.Found.the-variants.{At, Nothing}
-use Rattle.float.specs.Finding.{foundAt}
-use Rattle.float.proofs.Parts.{length-parts, part-at, part-end}
-use Rattle.float.proofs.Finding.{is-found, is-missing}
+use Rattle.points.specs.declared.Found.{Found}
+use Rattle.points.specs.declared.Found.the-variants.{At, Nothing}
+use Rattle.points.specs.Finding.{foundAt}
+use Rattle.points.proofs.Parts.{length-parts, part-at, part-end}
+use Rattle.points.proofs.Finding.{is-found, is-missing}
 
 -- ---- one point after another
 

@@ -8,8 +8,8 @@ use lib.ListN.{getD, take}
 use lib.Ieee.{Float, nan, inf, fin, lt}
 use Rattle.spec.specs.Float.{absF, finite}
 use Rattle.spec.specs.Matrix.{row}
-use Rattle.float.specs.Reading.{corner, leading}
-use Rattle.float.proofs.Leading.{row-leading}
+use Rattle.matrix.specs.Reading.{corner, leading}
+use Rattle.matrix.proofs.Leading.{row-leading}
 
 -- A float is finite exactly if its magnitude is below infinity.
 pub below-infinity : (x : Float) → lt (absF x) (inf false) ≡ finite x

@@ -1,5 +1,4 @@
 pub mod Doubles
 pub mod Finite
 pub mod Rounds
-pub mod Rows
 pub mod Types

@@ -20,9 +20,9 @@ use Rattle.spec.specs.Classes.{pointOf}
 use Rattle.spec.specs.Search.{changes, walk, flagColumns}
 use Rattle.laws.proofs.FlagChange.{every-change}
 use Rattle.laws.proofs.Lists.{map-map}
-use Rattle.float.specs.Reading.{corner}
+use Rattle.matrix.specs.Reading.{corner}
 use Rattle.float.proofs.Written.{Written, none, next, end}
-use Rattle.float.proofs.Parts.{part-at, part-end}
+use Rattle.points.proofs.Parts.{part-at, part-end}
 use Rattle.ranked.specs.declared.Shape.{Shape}
 use Rattle.ranked.specs.Words.{absIn, Held}
 use Rattle.ranked.proofs.Solids.{size-is}

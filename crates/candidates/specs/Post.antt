@@ -1,11 +1,9 @@
--- This file says what the parts of a candidate's test give, over flags and rows as plain lists.
+-- What the parts of a candidate's test say, over flags as plain lists.
 -- Assumes nothing.
 use mathlib.Core.Path.{_≡_}
-use mathlib.Core.Bool.{Bool, true}
-use mathlib.Core.List.{List}
+use mathlib.Core.Bool.{Bool}
 use Prim.Native.Nat.{ℕ, suc}
-use lib.ListN.{take}
-use lib.Dec.{eqb, ltb}
+use lib.Dec.{eqb}
 use Rattle.spec.specs.Lists.{range, every}
 use Rattle.spec.specs.Types.{Solid, State, typeOf, properRanks}
 use Rattle.spec.specs.Flags.{Flag, IsFlag, elementAt}
@@ -19,8 +17,3 @@ pub record Turned (s : Solid) (F G : Flag) : Type 0 where
 -- Tells whether F's elements have G's types, at ranks 0 to R. With the first flag for G, that is spec's `sameTypes`.
 abbrev pub typesAgree : State → ℕ → Flag → Flag → Bool
 typesAgree z R F G = every (λ r. eqb (typeOf z r (elementAt F r)) (typeOf z r (elementAt G r))) (range 0 (suc R))
-
--- The answer r says whether every image is among the n vertices. If so, the first n cells hold their numbers.
-pub record Rowed (n : ℕ) (new cells : List ℕ) (r : Bool) : Type 0 where
-  pub found : r ≡ every (λ v. ltb v n) new
-  pub row : r ≡ true → take n cells ≡ new

@@ -4,7 +4,7 @@ ghost use mathlib.Core.Path.{_≡_};
 ghost use mathlib.Core.Bool.{true};
 ghost use Prim.Native.Nat.{_+_, _*_, _≤_};
 ghost use lib.ListN.{length, take};
-ghost use Rattle.spec.specs.Limits.{maxDimension, maxCount};
+ghost use Rattle.spec.specs.Limits.{maxDimension};
 ghost use Rattle.spec.specs.Lists.{every};
 ghost use Rattle.spec.specs.Float.{finite};
 ghost use Rattle.spec.specs.Matrix.{mulMat};
@@ -12,22 +12,17 @@ ghost use Rattle.spec.specs.Copying.{near, parts};
 ghost use Rattle.spec.specs.Mark.{noRepeats};
 ghost use Rattle.spec.specs.Solid.{diamond};
 ghost use Rattle.spec.specs.Flags.{IsFlag};
-ghost use Rattle.spec.specs.Search.{flagColumns, rowOf, allFinite};
-ghost use Rattle.float.specs.Reading.{corner};
-ghost use Rattle.lookup.specs.Points.{Apart, Lone};
+ghost use Rattle.spec.specs.Search.{flagColumns, allFinite};
+ghost use Rattle.matrix.specs.Reading.{corner};
 ghost use Rattle.ranked.specs.Words.{total, absIn, Held};
 ghost use Rattle.distances.specs.Solids.{coordinates, solidOn};
 ghost use Rattle.element_types.specs.State.{stateIn};
 ghost use Rattle.flag.specs.Reading.{flagIn};
-ghost use Rattle.candidates.specs.Post.{Turned, typesAgree, Rowed};
+ghost use Rattle.candidates.specs.Post.{Turned, typesAgree};
 use flag::Flag;
 use float::DIMENSION;
-use float::matrix;
-use float::points;
-use float::points::Found;
 use float::tolerance;
-use lookup::PLACES;
-use lookup::found;
+use points::Found;
 use ranked::Shape;
 use ranked::lists;
 
@@ -108,34 +103,6 @@ pub fn same_types(words: &[u32], low: usize, sh: Shape, flag: Flag, first: Flag)
             return false;
         }
         r += 1;
-    }
-    true
-}
-
-// Writes the lowest vertex that each vertex's image is within EPS of, and says whether there is one for every image. The vertices are looked
-// up by rising number. The first image that is not found ends the look-up, and what the row holds is then free.
-pub fn row_of(
-    points: &[f64],
-    d: usize,
-    n: usize,
-    lone: bool,
-    places: &[u16; PLACES],
-    m: [[f64; DIMENSION]; DIMENSION],
-    row: &mut [u16],
-) -> bool
-    requires { ⌜ (1 ≤ d) × (d ≤ maxDimension) × (n ≤ maxCount) × (n * d ≤ length (now points)) × (n ≤ length (now row)) × Apart (parts n d (now points)) ⌝ }
-    requires { ⌜ (lone ≡ true → Lone (parts n d (now points))) ⌝ }
-    ensures { λ r. ⌜ Rowed n (rowOf (parts n d (now (points .entry))) (corner d m)) (now (row .exit)) r ⌝ }
-{
-    let mut k: usize = 0;
-    while k < n {
-        let q = matrix::image(m, points::loaded(points, d, k), d);
-        let at = match found(points, d, n, lone, places, q) {
-            Found::At(at) => at,
-            Found::Nothing => return false,
-        };
-        row[k] = at as u16;
-        k += 1;
     }
     true
 }

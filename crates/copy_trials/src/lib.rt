@@ -10,7 +10,7 @@ ghost use Rattle.spec.specs.declared.Answer.the-variants.{Done, Refused};
 ghost use Rattle.spec.specs.Lists.{join};
 ghost use Rattle.spec.specs.Float.{zeroF, oneF};
 ghost use Rattle.spec.specs.Copying.{axisOrders, copyCall};
-ghost use Rattle.float.specs.Reading.{corner};
+ghost use Rattle.matrix.specs.Reading.{corner};
 ghost use Rattle.trials.specs.AxisOrders.{AxisOrderTable};
 use copying::axes;
 use float::DIMENSION;

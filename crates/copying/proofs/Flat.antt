@@ -12,7 +12,8 @@ use Rattle.spec.specs.Lists.{join, range}
 use Rattle.spec.specs.Float.{zip, zeroF, oneF}
 use Rattle.spec.specs.Matrix.{Matrix}
 use Rattle.spec.specs.Copying.{orders, signed, axisOrder, axisOrders}
-use Rattle.float.specs.Reading.{corner, padded, paddedRows}
+use Rattle.float.specs.Reading.{padded}
+use Rattle.matrix.specs.Reading.{corner, paddedRows}
 use Rattle.copying.proofs.Growth.{join-append}
 
 -- ---- one matrix

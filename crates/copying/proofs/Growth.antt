@@ -15,7 +15,7 @@ use Rattle.spec.specs.Matrix.{Vector, Matrix, mulVec}
 use Rattle.spec.specs.Copying.{found, spread, copiesFrom, parts, points, matrices, written}
 use Rattle.laws.proofs.Lists.{getD-map}
 use Rattle.laws.proofs.CopyLaws.{spread-adds}
-use Rattle.float.proofs.Parts.{length-parts, part-at, parts-more, parts-same, join-parts}
+use Rattle.points.proofs.Parts.{length-parts, part-at, parts-more, parts-same, join-parts}
 use Rattle.copying.specs.Post.{Fitting, Overfull, withImage, withPoint}
 
 -- ---- what is written over

@@ -5,4 +5,3 @@ pub mod Tables
 pub mod Judgements
 pub mod Outcome
 pub mod Flat
-pub mod Apart

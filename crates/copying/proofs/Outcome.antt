@@ -21,9 +21,10 @@ use Rattle.spec.specs.Judged.{refused, passed}
 use Rattle.spec.specs.Copying
 use Rattle.spec.specs.Copying.{copies, matrices, copyTable, written, judgeCopy, copyOut, copyCall}
 use Rattle.laws.proofs.CopyLaws.{table-length}
-use Rattle.float.proofs.Parts.{length-parts}
+use Rattle.points.proofs.Parts.{length-parts}
 use Rattle.copying.proofs.Tables.{filled-is}
-use Rattle.copying.specs.Post.{Fitting, Overfull, Closed, Opened}
+use Rattle.points.specs.Cells.{Closed, Opened}
+use Rattle.copying.specs.Post.{Fitting, Overfull}
 
 module _ (n : ℕ) (ms : List Matrix) (cs : List Vector) (points : List Float) (table : List ℕ) where
   abbrev cells : ℕ

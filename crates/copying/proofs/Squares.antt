@@ -3,7 +3,7 @@
 use Prim.Native.Nat.{ℕ, _+_, _*_, _/_, _≤_, _<_}
 use native.Mathlib.Nat.{mul-le-mul, mul-pos, le-trans, div-mul-le-self}
 use Rattle.spec.specs.Limits.{maxDimension}
-use Rattle.float.proofs.Parts.{part-end}
+use Rattle.points.proofs.Parts.{part-end}
 
 -- The square of a dimension is at most 16.
 pub square : (d : ℕ) → d ≤ maxDimension → d * d ≤ 16

@@ -2,17 +2,16 @@
 -- Assumes nothing.
 use mathlib.Core.Path.{_≡_}
 use Prim.Native.Nat.{ℕ, _≤_, _<_}
-use mathlib.Core.Bool.{Bool, true, false}
+use mathlib.Core.Bool.{true, false}
 use mathlib.Core.List.{List, [], _∷_, _++_}
-use lib.ListN.{length, take, drop}
-use lib.Dec.{eqb}
+use lib.ListN.{length, take}
 use lib.Ieee.{Float}
 use Rattle.copying.specs.declared.judging.Judgement.{Judgement}
 use Rattle.copying.specs.declared.judging.Judgement.the-variants.{Passed, Refused}
 use Rattle.copying.specs.declared.joining.Room.{Room}
 use Rattle.copying.specs.declared.joining.Room.the-variants as room
 use Rattle.spec.specs.Judged.{Judged, refused, passed}
-use Rattle.spec.specs.Lists.{join, holds}
+use Rattle.spec.specs.Lists.{join}
 use Rattle.spec.specs.Matrix.{Vector, Matrix}
 use Rattle.spec.specs.Copying.{found, spread, parts, written}
 
@@ -44,18 +43,3 @@ pub record Overfull (limit : ℕ) (all : List Vector) (before after : List Float
 abbrev pub Kept : (d limit : ℕ) (all : List Vector) (before after : List Float) → Room → Type 0
 Kept d limit all before after (room.Fits n) = Fitting d limit all before after n
 Kept d limit all before after room.Full = Overfull limit all before after
-
--- The numbers `new` are a buffer's first cells, and none of them is x.
-pub record Closed (x : ℕ) (new before after : List ℕ) : Type 0 where
-  pub none : holds eqb x new ≡ false
-  pub is : after ≡ written new before
-
--- One of the numbers `new` is x. In the buffer, no cell has changed past the first ones, as many as these numbers are.
-pub record Opened (x : ℕ) (new before after : List ℕ) : Type 0 where
-  pub some : holds eqb x new ≡ true
-  pub past : drop (length new) after ≡ drop (length new) before
-
--- Says what a table holds by the answer, where `new` are its cells and x is the number of an image that is not found.
-abbrev pub Tabled : (x : ℕ) (new before after : List ℕ) → Bool → Type 0
-Tabled x new before after true = Closed x new before after
-Tabled x new before after false = Opened x new before after

@@ -6,7 +6,7 @@ ghost use Prim.Native.Nat.{_*_, _≤_};
 ghost use lib.ListN.{length, drop};
 ghost use Rattle.spec.specs.Lists.{join};
 ghost use Rattle.spec.specs.Copying.{axisOrders};
-ghost use Rattle.float.specs.Reading.{corner, paddedRows};
+ghost use Rattle.matrix.specs.Reading.{corner, paddedRows};
 use float::DIMENSION;
 
 // These are the rows that occur: the unit of each axis, as it is and negated, and the fourth row, which no matrix of three dimensions uses.

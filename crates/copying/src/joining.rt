@@ -5,12 +5,10 @@ ghost use Prim.Native.Nat.{_*_, _≤_};
 ghost use lib.ListN.{length, take, drop};
 ghost use Rattle.spec.specs.Limits.{maxDimension};
 ghost use Rattle.spec.specs.Copying.{parts, spread as spreadOf, copies as copiesOf, points as pointsOf, matrices, written};
-ghost use Rattle.float.specs.Reading.{corner};
+ghost use Rattle.matrix.specs.Reading.{corner};
 ghost use Rattle.copying.specs.Post.{Kept, withImage, withPoint};
 use float::DIMENSION;
-use float::matrix;
-use float::points;
-use float::points::Found;
+use points::Found;
 
 // This says how many copies there are, or is the answer that there is no room for them all.
 pub enum Room {

@@ -5,7 +5,6 @@ ghost use Rattle.spec.specs.Float.{inRange};
 ghost use Rattle.spec.specs.Copying.{judgeCopy};
 ghost use Rattle.copying.specs.Post.{judgementOf};
 use float::DIMENSION;
-use float::points;
 use spec::Refusal;
 
 // This says whether the points and matrices can be copied, or by which refusal they are turned down.

@@ -1,14 +1,4 @@
 pub mod Magnitude
 pub mod Dots
 pub mod Written
-pub mod Sized
-pub mod Corner
-pub mod Leading
-pub mod PivotScan
-pub mod Beside
-pub mod Columns
 pub mod Padded
-pub mod Parts
-pub mod Nearness
-pub mod Tails
-pub mod Finding

@@ -4,10 +4,10 @@ use mathlib.Core.Path.{_≡_, refl, sym, ap, ap₂, _∙_}
 use mathlib.Core.List.{List, [], _∷_, _++_, map, map-append, map-id}
 use Prim.Native.Nat.{ℕ, zero, suc, _+_, _-_, _≤_, _<_}
 use native.Mathlib.Numerals.{add-one}
-use native.Mathlib.Nat.{add-zero, sub-zero, zero-sub, suc-sub-suc}
+use native.Mathlib.Nat.{add-zero, zero-add, suc-add, sub-zero, zero-sub, suc-sub-suc}
 use native.Mathlib.Omega.{arith}
 use lib.ListN.{getD, take, drop, set, length, length-set, take-append-drop, replicate}
-use lib.Seq.{take-all, take-suc-set, drop-set-lt, drop-drop}
+use lib.Seq.{take-all, take-nil, take-suc-set, drop-nil, drop-set-lt, drop-drop}
 use Rattle.spec.specs.Lists.{range}
 use Rattle.spec.specs.Float.{zip}
 
@@ -58,6 +58,17 @@ pub drop-replicate : {A : Type 0} (n k : ℕ) (x : A) → drop n (replicate k x)
 drop-replicate zero k x = rw sub-zero
 drop-replicate (suc n) zero x = rw zero-sub
 drop-replicate (suc n) (suc k) x = drop-replicate n k x ∙ rw suc-sub-suc
+
+module _ {A : Type 0} where
+  pub take-replicate : (d n : ℕ) (x : A) → d ≤ n → take d (replicate n x) ≡ replicate d x
+  take-replicate zero n x h = refl
+  take-replicate (suc d) zero x h = absurd (omega arith)
+  take-replicate (suc d) (suc n) x h = ap (λ (z : List A). x ∷ z) (take-replicate d n x (omega arith))
+
+  pub drop-take : (d n : ℕ) (l : List A) → drop d (take (d + n) l) ≡ take n (drop d l)
+  drop-take zero n l = rw zero-add
+  drop-take (suc d) n [] = ap (drop (suc d)) (take-nil (suc d + n)) ∙ drop-nil (suc d) ∙ sym (take-nil n)
+  drop-take (suc d) n (x ∷ l) = rw suc-add (drop-take d n l)
 
 -- ---- a map over the cells' numbers is a map over the lists that the values come from
 

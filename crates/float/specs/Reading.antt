@@ -1,46 +1,18 @@
--- This file says how the arrays of the code are read, and what the cells that no entry needs hold.
--- A d by d matrix is the leading part of an array of arrays.
+-- How the arrays of the code are read, and what the cells that no entry needs hold.
 -- Assumes nothing.
 use mathlib.Core.Path.{_≡_}
 use mathlib.Core.Bool.{Bool, true, false}
-use mathlib.Core.List.{List, [], _++_, map}
-use mathlib.Core.Option.{Option, none, some}
-use Prim.Native.Nat.{ℕ, _+_, _-_}
-use lib.ListN.{take, length, replicate}
+use mathlib.Core.List.{List, _++_}
+use Prim.Native.Nat.{_-_}
+use lib.ListN.{length, replicate}
 use lib.Ieee.{Float}
 use Rattle.spec.specs.Limits.{maxDimension}
 use Rattle.spec.specs.Float.{zeroF}
-use Rattle.spec.specs.Matrix.{Vector, Matrix}
-
--- A working row of the elimination has room for a row of the matrix and one of the identity.
-abbrev pub width : ℕ
-width = maxDimension + maxDimension
-
--- Gives the first n entries of the first d rows.
-unfoldable pub leading : ℕ → ℕ → List (List Float) → Matrix
-leading d n m = map (take n) (take d m)
-
--- Gives the d by d matrix that an array of arrays begins with.
-unfoldable pub corner : ℕ → List (List Float) → Matrix
-corner d m = map (take d) (take d m)
+use Rattle.spec.specs.Matrix.{Vector}
 
 -- Puts a vector into an array: its entries stand first, and +0.0 in each cell after them.
 unfoldable pub padded : Vector → List Float
 padded v = v ++ replicate (maxDimension - length v) zeroF
-
--- Puts a matrix into an array of arrays: its rows stand first, each padded, and rows of +0.0 after them.
-unfoldable pub paddedRows : Matrix → List (List Float)
-paddedRows m = map padded m ++ replicate (maxDimension - length m) (replicate maxDimension zeroF)
-
--- Gives the matrix, if the answer beside it says that there is one.
-unfoldable pub ifRegular : Bool → Matrix → Option Matrix
-ifRegular true m = some m
-ifRegular false m = none
-
--- Gives every cell of the array that holds an inverse. Where there is no inverse, each cell is +0.0.
-unfoldable pub inverseCells : Option Matrix → List (List Float)
-inverseCells none = paddedRows []
-inverseCells (some m) = paddedRows m
 
 -- Two floats are the same float where the answer is true, and are not where it is false.
 abbrev pub Alike : Bool → Float → Float → Type 0

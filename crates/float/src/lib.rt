@@ -1,13 +1,10 @@
-// This crate has the numbers of document 01, section 1: 64-bit floats, each operation rounded once; the tolerance, the root, vectors and matrices.
+// The numbers of document 01, section 1: 64-bit floats, each operation rounded once; the tolerance, the root and vectors.
 pub mod bits;
-pub mod elimination;
-pub mod matrix;
-pub mod points;
 pub mod root;
 pub mod tolerance;
 pub mod vector;
 
 use spec::MAX_DIMENSION;
 
-// This is the largest dimension. Every array is this wide, or twice as wide in the elimination.
+// The largest dimension, which is the width of every array.
 pub const DIMENSION: usize = MAX_DIMENSION;

@@ -1,10 +1,10 @@
 // This module has vectors, as slices of any length and as the first d entries of arrays.
 ghost use mathlib.Core.Path.{_≡_};
-ghost use Prim.Native.Nat.{_≤_, _-_};
-ghost use mathlib.Core.List.{_++_};
-ghost use lib.ListN.{length, take, replicate};
+ghost use Prim.Native.Nat.{_≤_};
+ghost use lib.ListN.{length, take};
 ghost use Rattle.spec.specs.Limits.{maxDimension};
-ghost use Rattle.spec.specs.Float.{zeroF, dot, zip, minus, norm};
+ghost use Rattle.spec.specs.Float.{dot, zip, minus, norm};
+ghost use Rattle.float.specs.Reading.{padded};
 use crate::DIMENSION;
 use crate::root;
 
@@ -50,7 +50,7 @@ pub fn difference(a: &[f64], b: [f64; DIMENSION]) -> [f64; DIMENSION]
 // Returns the slice's entries in an array, with zeros after them.
 pub fn load(p: &[f64]) -> [f64; DIMENSION]
     requires { ⌜ length (now p) ≤ maxDimension ⌝ }
-    ensures { λ r. ⌜ r ≡ now (p .entry) ++ replicate (maxDimension - length (now (p .entry))) zeroF ⌝ }
+    ensures { λ r. ⌜ r ≡ padded (now (p .entry)) ⌝ }
 {
     let mut r = [0.0; DIMENSION];
     let mut i: usize = 0;

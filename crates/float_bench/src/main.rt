@@ -3,7 +3,6 @@
 // tools/bench_float.sh times it. In the gate it runs a few times only.
 use float::DIMENSION;
 use float::bits;
-use float::matrix;
 
 // The arguments wander over the numbers from 0 to 1, so that the processor cannot foretell any digit of a root.
 fn repeat_root(times: u64) -> f64 {

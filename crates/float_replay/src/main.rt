@@ -6,7 +6,6 @@ ghost use Prim.Native.Nat.{_<_, _≤_, _^_};
 ghost use Rattle.spec.specs.Limits.{maxDimension};
 use float::DIMENSION;
 use float::bits;
-use float::matrix;
 
 // This is the number that stands for the end of the input, where a dimension would come.
 const END: u64 = DIMENSION as u64 + 1;

@@ -15,16 +15,15 @@ use Rattle.spec.specs.Float.{eps, over, norm}
 use Rattle.spec.specs.Matrix.{Vector}
 use Rattle.spec.specs.Hull.{Hull, joined, nothing, rest, joins, add}
 use Rattle.laws.proofs.Lists.{map-same, of-range}
-use Rattle.float.proofs.Written.{range-snoc}
-use Rattle.float.proofs.Beside.{drop-take}
+use Rattle.float.proofs.Written.{range-snoc, drop-take}
 use Rattle.geometry.specs.Reading.{vectorAt}
 
 -- Lists that agree up to n agree in each part up to n.
 agree : {A : Type 0} (n a d : ℕ) (r l : List A) → a + d ≤ n → n ≤ length r → n ≤ length l → take n r ≡ take n l → take d (drop a r) ≡ take d (drop a l)
 agree n a d r l h hr hl e =
-    sym (drop-take a d r (omega arith))
+    sym (drop-take a d r)
     ∙ ap (drop a) (sym (take-take (a + d) n r h) ∙ ap (take (a + d)) e ∙ take-take (a + d) n l h)
-    ∙ drop-take a d l (omega arith)
+    ∙ drop-take a d l
 
 -- One vector more joins the basis.
 pub one-more : (d n : ℕ) (b r : List Float) (v : Vector) → d ≤ maxDimension → n < maxDimension →

@@ -8,7 +8,7 @@ ghost use Rattle.spec.specs.Hull.{hullOf, distance};
 ghost use Rattle.geometry.specs.Reading.{pointAt};
 use crate::hull::Hull;
 use crate::hull::Joined;
-use float::points::point;
+use points::point;
 
 // Returns the list's number i, as an index.
 fn number(list: &[u16], i: usize) -> usize

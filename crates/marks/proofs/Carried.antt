@@ -21,8 +21,8 @@ use Rattle.laws.proofs.Distinct.{Once}
 use Rattle.laws.proofs.Counts.{lists}
 use Rattle.laws.proofs.Result.{proper-rank}
 use Rattle.laws.proofs.Marked.{every-in, no-repeats, Permutes}
-use Rattle.float.specs.declared.points.Found.{Found}
-use Rattle.float.specs.declared.points.Found.the-variants.{At, Nothing}
+use Rattle.points.specs.declared.Found.{Found}
+use Rattle.points.specs.declared.Found.the-variants.{At, Nothing}
 use Rattle.ranked.specs.declared.Shape.{Shape}
 use Rattle.ranked.specs.Words.{firstAt, sizeAt, total, absIn, Held}
 use Rattle.ranked.proofs.Solids.{top-is, size-is, size-past, number-in}

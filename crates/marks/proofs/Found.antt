@@ -13,9 +13,9 @@ use borrow.Author.Tests.{eq-eqb, ne-eqb}
 use Rattle.spec.specs.Lists.{In, holds, keep, every}
 use Rattle.spec.specs.Types.{subs, sups}
 use Rattle.laws.proofs.Lists.{in-getD}
-use Rattle.float.specs.declared.points.Found.{Found}
-use Rattle.float.specs.declared.points.Found.the-variants.{At, Nothing}
-use Rattle.float.specs.Finding.{firstOf}
+use Rattle.points.specs.declared.Found.{Found}
+use Rattle.points.specs.declared.Found.the-variants.{At, Nothing}
+use Rattle.points.specs.Finding.{firstOf}
 use Rattle.ranked.specs.declared.Shape.{Shape}
 use Rattle.ranked.specs.Words.{firstAt, sizeAt, total, listAt, absIn, Held}
 use Rattle.ranked.specs.Reading.{Lies, subsWord, supsWord, Each}

@@ -20,8 +20,8 @@ use Rattle.laws.proofs.Counts.{lists, keep-in, in-keep}
 use Rattle.laws.proofs.Carry.{rising-once}
 use Rattle.laws.proofs.FlagList.{join-in, in-join}
 use Rattle.laws.proofs.Marked.{in-order, of-order, order-same, goes-proper, goes-improper, goes-vertices, set-place, Permutes, row-low, goes-apart, fit-of}
-use Rattle.float.specs.declared.points.Found.the-variants.{At}
-use Rattle.float.specs.Finding.{firstOf}
+use Rattle.points.specs.declared.Found.the-variants.{At}
+use Rattle.points.specs.Finding.{firstOf}
 use Rattle.ranked.proofs.Between.{sup-means, means-sup}
 use Rattle.marks.specs.Rises.{onto, risesTo, Reached}
 use Rattle.marks.proofs.Sets.{not-passed, order-self, Same, sets-same, onto-same, same-onto}

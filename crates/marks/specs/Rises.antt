@@ -9,9 +9,9 @@ use lib.Dec.{eqb}
 use Rattle.spec.specs.Lists.{holds, keep, every}
 use Rattle.spec.specs.Types.{Solid, size, subs, sups, Classes}
 use Rattle.spec.specs.Mark.{goes, carriesElement}
-use Rattle.float.specs.declared.points.Found.{Found}
-use Rattle.float.specs.declared.points.Found.the-variants.{At, Nothing}
-use Rattle.float.specs.Finding.{firstOf}
+use Rattle.points.specs.declared.Found.{Found}
+use Rattle.points.specs.declared.Found.the-variants.{At, Nothing}
+use Rattle.points.specs.Finding.{firstOf}
 
 -- Tells whether the numbers es, which rise and go to different numbers, go exactly onto the numbers gs, which rise: there are as many, and each lands
 -- among gs.

@@ -15,7 +15,7 @@ use Rattle.spec.specs.Solid.{Concrete}
 use Rattle.spec.specs.Classes.{classTable, byTable}
 use Rattle.spec.specs.Copying.{parts}
 use Rattle.laws.proofs.Lists.{getD-map}
-use Rattle.float.proofs.Parts.{part-at, length-parts}
+use Rattle.points.proofs.Parts.{part-at, length-parts}
 use Rattle.products.specs.Products.{composed}
 use Rattle.products.specs.Marking.{markIn, rowAt, Factored}
 use Rattle.products.proofs.Composed.{marked-composed}

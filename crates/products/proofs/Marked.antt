@@ -10,8 +10,8 @@ use lib.Seq.{take-at}
 use borrow.Rule.Slice.PartMut.{midOf, putMid, same-len-mid, mid-len}
 use Rattle.spec.specs.Copying.{parts, written}
 use Rattle.spec.specs.Solid.{Concrete}
-use Rattle.float.proofs.Parts.{length-parts, parts-more}
-use Rattle.float.proofs.Tails.{part-written}
+use Rattle.points.proofs.Parts.{length-parts, parts-more}
+use Rattle.points.proofs.Tails.{part-written}
 use Rattle.products.specs.Marking.{markIn, rowAt}
 
 -- Setting the first cell writes a list of one.

@@ -9,8 +9,8 @@ use lib.Ieee.{Float}
 use Rattle.spec.specs.Mark.{setsApart, marked}
 use Rattle.spec.specs.Solid.{Concrete}
 use Rattle.spec.specs.Classes.{classTable, byTable}
-use Rattle.float.specs.declared.points.Found.{Found}
-use Rattle.float.specs.declared.points.Found.the-variants.{At, Nothing}
+use Rattle.points.specs.declared.Found.{Found}
+use Rattle.points.specs.declared.Found.the-variants.{At, Nothing}
 use Rattle.ranked.specs.declared.Shape.{Shape}
 use Rattle.ranked.specs.Words.{total, absIn, Held}
 use Rattle.marks.specs.Rows.{ClassesIn}

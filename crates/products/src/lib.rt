@@ -1,7 +1,7 @@
 // This crate gives the marks of a list of rows. A row that is the product of two confirmed rows is confirmed, because the symmetries of a solid are a
 // group. So nearly every row of a search is settled by comparing it with a product, and only the others are followed element by element.
-use float::points::Found;
 use marks::mark;
+use points::Found;
 use ranked::Shape;
 ghost use mathlib.Core.Path.{_≡_};
 ghost use mathlib.Core.Bool.{true};

@@ -16,7 +16,7 @@ use Rattle.spec.specs.Solid.{Concrete}
 use Rattle.spec.specs.Flags.{flags}
 use Rattle.spec.specs.Search.{exchangedIn, exchanged}
 use Rattle.spec.specs.Calls.{SearchOut, roomOf}
-use Rattle.float.proofs.Parts.{length-parts}
+use Rattle.points.proofs.Parts.{length-parts}
 use Rattle.ranked.specs.declared.Shape.{Shape}
 use Rattle.ranked.specs.Words.{sizeAt, total, absIn}
 use Rattle.ranked.specs.Bench.{solidAt, Bench, Laid}

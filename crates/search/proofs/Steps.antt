@@ -27,8 +27,8 @@ use Rattle.spec.specs.Search.{Member, Setting, firstFar, exchangedIn, exchanged
 use Rattle.spec.specs.Calls.{SearchOut, roomOf}
 use Rattle.laws.proofs.Shapes.{Holds}
 use Rattle.laws.proofs.Marked.{both}
-use Rattle.float.specs.Reading.{ifRegular}
-use Rattle.float.proofs.Parts.{parts-take}
+use Rattle.matrix.specs.Reading.{ifRegular}
+use Rattle.points.proofs.Parts.{parts-take}
 use Rattle.sheet.specs.declared.Verdict.the-variants as verdict
 use Rattle.ranked.specs.declared.Shape.{Shape}
 use Rattle.ranked.specs.declared.preflight.Ready.{Ready}

@@ -19,7 +19,7 @@ use Rattle.spec.specs.Solid.{Concrete}
 use Rattle.spec.specs.Classes.{distanceOf}
 use Rattle.spec.specs.Search.{firstFar, full}
 use Rattle.laws.proofs.Lists.{length-range, getD-range, of-range}
-use Rattle.float.proofs.Parts.{parts-take}
+use Rattle.points.proofs.Parts.{parts-take}
 use Rattle.ranked.specs.declared.Shape.{Shape}
 use Rattle.ranked.specs.Words.{sizeAt, absIn}
 use Rattle.ranked.specs.Bench.{solidAt}

@@ -24,7 +24,7 @@ ghost use Prim.Native.Nat.{_-_, _≤_, _<_};
 ghost use lib.ListN.{length};
 ghost use Rattle.spec.specs.Judged.{passed};
 ghost use Rattle.spec.specs.Search.{exchanged, setting};
-ghost use Rattle.float.specs.Reading.{corner};
+ghost use Rattle.matrix.specs.Reading.{corner};
 ghost use Rattle.ranked.specs.Words.{sizeAt};
 ghost use Rattle.ranked.specs.Bench.{solidAt, Bench};
 ghost use Rattle.element_types.specs.State.{stateIn, Countable};

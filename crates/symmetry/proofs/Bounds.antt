@@ -1,6 +1,6 @@
 -- While flags are tried, the vertices' coordinates lie in the floats, and are the searched solid's points.
 -- Assumes nothing.
-use mathlib.Core.Path.{_≡_, sym, ap, subst, _∙_}
+use mathlib.Core.Path.{_≡_, sym, ap, _∙_}
 use mathlib.Core.List.{List, map}
 use Prim.Native.Nat.{ℕ, zero, suc, _-_, _*_, _≤_}
 use native.Mathlib.Nat.{mul-le-mul-left}
@@ -11,13 +11,11 @@ use Rattle.spec.specs.Limits.{maxCount}
 use Rattle.spec.specs.Lists.{range, sum}
 use Rattle.spec.specs.Types.{Solid, top, size, properRanks, elements}
 use Rattle.spec.specs.Copying.{parts}
-use Rattle.lookup.specs.Points.{Apart}
-use Rattle.lookup.proofs.Apart.{apart-of}
 use Rattle.ranked.specs.declared.Shape.{Shape}
 use Rattle.ranked.specs.Words.{firstAt, sizeAt, absIn}
 use Rattle.ranked.specs.Bench.{solidAt}
 use Rattle.ranked.proofs.Solids.{top-is, size-is}
-use Rattle.float.proofs.Parts.{length-parts, parts-take}
+use Rattle.points.proofs.Parts.{length-parts, parts-take}
 use Rattle.symmetry.specs.Searching.{Searching}
 
 vertices-proper : (s : Solid) → 2 ≤ top s → size s 1 ≤ elements s
@@ -55,6 +53,3 @@ module _ {sh : Shape} {low : ℕ} {ws : List ℕ} {fs : List Float} {at : ℕ} (
     -- The points are v in number, as the code reads them.
     pub points-read : solidAt sh low ws fs .points ≡ parts v (sh .dimension) fs
     points-read = points-are ∙ ap (λ n. parts n (sh .dimension) fs) (vertices-are ∙ sym many)
-
-    pub points-apart : Apart (parts v (sh .dimension) fs)
-    points-apart = subst Apart points-read (apart-of (solidAt sh low ws fs .points) (h .parted .distinct))

@@ -13,8 +13,8 @@ use Rattle.spec.specs.Flags.{Flag, flags}
 use Rattle.spec.specs.Search.{Setting}
 use Rattle.spec.specs.Calls.{Room}
 use Rattle.laws.proofs.Shapes.{Fit}
-use Rattle.float.specs.Reading.{corner}
-use Rattle.float.proofs.Corner.{length-corner}
+use Rattle.matrix.specs.Reading.{corner}
+use Rattle.matrix.proofs.Corner.{length-corner}
 use Rattle.ranked.specs.declared.Shape.{Shape}
 use Rattle.ranked.specs.Words.{sizeAt, absIn}
 use Rattle.ranked.specs.Bench.{solidAt}

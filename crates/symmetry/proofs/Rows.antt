@@ -8,7 +8,7 @@ use lib.ListN.{length, getD, take}
 use lib.Seq.{take-suc}
 use lib.Ieee.{Float}
 use Rattle.spec.specs.Lists.{join}
-use Rattle.float.specs.Reading.{leading}
+use Rattle.matrix.specs.Reading.{leading}
 use Rattle.ranked.proofs.store.Listing.{join-append}
 
 -- One row more joins those before it.

@@ -9,8 +9,8 @@ ghost use Rattle.spec.specs.Matrix.{Matrix};
 ghost use Rattle.spec.specs.Solid.{Concrete};
 ghost use Rattle.spec.specs.Flags.{IsFlag, firstFlag, flags};
 ghost use Rattle.spec.specs.Search.{rowOf, tested};
-ghost use Rattle.float.specs.Reading.{corner};
-ghost use Rattle.lookup.specs.Points.{Lone};
+ghost use Rattle.matrix.specs.Reading.{corner};
+ghost use Rattle.points.specs.Guesses.{Guesses};
 ghost use Rattle.ranked.specs.Words.{firstAt, sizeAt, absIn};
 ghost use Rattle.ranked.specs.Bench.{solidAt};
 ghost use Rattle.element_types.specs.State.{stateIn};
@@ -21,14 +21,13 @@ ghost use Rattle.symmetry.specs.Searching.{Searching, passing};
 use crate::writing::put_entries;
 use crate::writing::put_matrix;
 use candidates::candidate;
-use candidates::row_of;
 use candidates::same_types;
 use flag::Advance;
 use flag::Flag;
 use float::DIMENSION;
-use float::matrix;
-use lookup::PLACES;
-use lookup::is_lone;
+use points::lookup::PLACES;
+use points::lookup::places;
+use points::lookup::row_of;
 use ranked::Shape;
 use spec::MAX_COUNT;
 use vertex_sets::examples::examples_go;
@@ -87,21 +86,20 @@ fn passes(
     sh: Shape,
     at: usize,
     floats: &[f64],
-    lone: bool,
     places: &[u16; PLACES],
     m: [[f64; DIMENSION]; DIMENSION],
     row: &mut [u16],
 ) -> bool
     requires { ⌜ Searching sh low (now words) (now floats) at ⌝ }
     requires { ⌜ size (absIn sh (take low (now words))) 1 ≤ length (now row) ⌝ }
-    requires { ⌜ (lone ≡ true → Lone (solidAt sh low (now words) (now floats) .points)) ⌝ }
+    requires { ⌜ Guesses (solidAt sh low (now words) (now floats) .points) (now places) ⌝ }
     ensures { λ r. ⌜ r ≡ passing (solidAt sh low (now (words .entry)) (now (floats .entry))) (stateIn sh low (now (words .entry)))
         (corner (sh .dimension) m) ⌝ }
     ensures { λ r. ⌜ (r ≡ true → take (size (absIn sh (take low (now (words .entry)))) 1) (now (row .exit))
         ≡ rowOf (solidAt sh low (now (words .entry)) (now (floats .entry)) .points) (corner (sh .dimension) m)) ⌝ }
 {
     let v = vertex_count(sh);
-    if !row_of(floats, sh.dimension, v, lone, places, m, row) {
+    if !row_of(floats, sh.dimension, v, places, m, row) {
         return false;
     }
     examples_go(words, low, sh, at, row)
@@ -115,7 +113,6 @@ fn try_candidate(
     sh: Shape,
     at: usize,
     floats: &[f64],
-    lone: bool,
     places: &[u16; PLACES],
     m: [[f64; DIMENSION]; DIMENSION],
     rotations: bool,
@@ -124,7 +121,7 @@ fn try_candidate(
     rows: &mut [u16],
 ) -> Tried
     requires { ⌜ Searching sh low (now words) (now floats) at ⌝ }
-    requires { ⌜ (lone ≡ true → Lone (solidAt sh low (now words) (now floats) .points)) ⌝ }
+    requires { ⌜ Guesses (solidAt sh low (now words) (now floats) .points) (now places) ⌝ }
     ensures { λ t. ⌜ ((c : Concrete) (i : Matrix) → Came (sh .dimension) (length (solidAt sh low (now (words .entry)) (now (floats .entry)) .points)) left
         (listedIf rotations (tested (settingOf c (solidAt sh low (now (words .entry)) (now (floats .entry))) (stateIn sh low (now (words .entry))) i)
         (corner (sh .dimension) m))) t (now (matrices .entry)) (now (matrices .exit)) (now (rows .entry)) (now (rows .exit))) ⌝ }
@@ -136,7 +133,7 @@ fn try_candidate(
         }
     }
     let mut row = [0u16; MAX_COUNT];
-    if !passes(words, low, sh, at, floats, lone, places, m, &mut row) {
+    if !passes(words, low, sh, at, floats, places, m, &mut row) {
         return Tried::Skipped;
     }
     let v = vertex_count(sh);
@@ -155,7 +152,6 @@ fn try_flag(
     sh: Shape,
     at: usize,
     floats: &[f64],
-    lone: bool,
     places: &[u16; PLACES],
     flag: Flag,
     first: Flag,
@@ -168,7 +164,7 @@ fn try_flag(
     requires { ⌜ Searching sh low (now words) (now floats) at ⌝ }
     requires { ⌜ IsFlag (absIn sh (take low (now words))) (flagIn (sh .rank) flag) ⌝ }
     requires { ⌜ flagIn (sh .rank) first ≡ firstFlag (absIn sh (take low (now words))) ⌝ }
-    requires { ⌜ (lone ≡ true → Lone (solidAt sh low (now words) (now floats) .points)) ⌝ }
+    requires { ⌜ Guesses (solidAt sh low (now words) (now floats) .points) (now places) ⌝ }
     ensures { λ t. ⌜ ((c : Concrete) → Came (sh .dimension) (length (solidAt sh low (now (words .entry)) (now (floats .entry)) .points)) left
         (gives (settingOf c (solidAt sh low (now (words .entry)) (now (floats .entry))) (stateIn sh low (now (words .entry)))
         (corner (sh .dimension) inv)) rotations (flagIn (sh .rank) flag)) t (now (matrices .entry)) (now (matrices .exit)) (now (rows .entry))
@@ -184,7 +180,6 @@ fn try_flag(
         sh,
         at,
         floats,
-        lone,
         places,
         m,
         rotations,
@@ -216,8 +211,7 @@ pub fn list_members(
     let first = Flag::first(&words[..low], sh);
     let d = sh.dimension;
     let v = vertex_count(sh);
-    let lone = is_lone(floats, d, v);
-    let places = lookup::places(floats, d, v);
+    let places = places(floats, d, v);
     let mut flag = first;
     let mut n: usize = 0;
     loop {
@@ -227,7 +221,6 @@ pub fn list_members(
             sh,
             at,
             floats,
-            lone,
             &places,
             flag,
             first,

@@ -5,9 +5,8 @@ ghost use lib.ListN.{length, take};
 ghost use Rattle.spec.specs.Limits.{maxDimension};
 ghost use Rattle.spec.specs.Lists.{join};
 ghost use Rattle.spec.specs.Copying.{written};
-ghost use Rattle.float.specs.Reading.{corner};
+ghost use Rattle.matrix.specs.Reading.{corner};
 use float::DIMENSION;
-use float::points;
 
 // Writes the d by d matrix, row by row.
 pub fn put_matrix(m: [[f64; DIMENSION]; DIMENSION], d: usize, out: &mut [f64])

@@ -16,7 +16,7 @@ use Rattle.spec.specs.Matrix.{Matrix, determinant}
 use Rattle.spec.specs.Copying.{parts}
 use Rattle.spec.specs.Search.{Member, isRotation, rotationsOf}
 use Rattle.spec.specs.KitText.{membersLine}
-use Rattle.float.proofs.Parts.{parts-more, length-parts}
+use Rattle.points.proofs.Parts.{parts-more, length-parts}
 use Rattle.text.specs.Members.{membersText, rotationCount}
 
 sum-snoc : (l : List ℕ) (x : ℕ) → sum (l ++ (x ∷ [])) ≡ sum l + x

@@ -6,11 +6,9 @@ ghost use mathlib.Core.List.{[], _∷_, map};
 ghost use Rattle.spec.specs.Limits.{maxDimension};
 ghost use Rattle.spec.specs.Lists.{sum};
 ghost use Rattle.spec.specs.Copying.{parts};
-ghost use Rattle.float.specs.Reading.{corner};
+ghost use Rattle.matrix.specs.Reading.{corner};
 ghost use Rattle.text.specs.Members.{rotationCount};
 use float::DIMENSION;
-use float::matrix;
-use float::points;
 
 fn wide(x: u8) -> usize
     ensures { λ r. ⌜ (r ≡ x) × (r < 256) ⌝ }

@@ -10,8 +10,8 @@ use Rattle.spec.specs.Limits.{maxDimension}
 use Rattle.spec.specs.Lists.{every}
 use Rattle.spec.specs.Float.{finite}
 use Rattle.spec.specs.Search.{allFinite}
-use Rattle.float.specs.Reading.{corner}
-use Rattle.float.proofs.Corner.{length-corner}
+use Rattle.matrix.specs.Reading.{corner}
+use Rattle.matrix.proofs.Corner.{length-corner}
 use Rattle.ranked.proofs.Turns.{Every, every-yes, every-no, every-end}
 use Rattle.candidates.proofs.Finite.{row-corner}
 use Rattle.candidates.proofs.all_finite.Statement.{statement}

@@ -6,9 +6,9 @@ use lib.ListN.{length}
 use borrow.Author.Needs.{needs}
 use Rattle.spec.specs.Limits.{maxDimension}
 use Rattle.spec.specs.Matrix.{Matrix, mulMat}
-use Rattle.float.specs.Reading.{corner}
-use Rattle.float.proofs.Corner.{length-corner}
-use Rattle.float.proofs.Padded.{corner-product}
+use Rattle.matrix.specs.Reading.{corner}
+use Rattle.matrix.proofs.Corner.{length-corner}
+use Rattle.matrix.proofs.Padded.{corner-product}
 use Rattle.candidates.proofs.candidate.Statement.{statement}
 use Rattle.candidates.proofs.candidate.Tie as tie
 

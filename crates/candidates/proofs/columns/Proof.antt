@@ -7,9 +7,9 @@ use mathlib.Core.Path.{_≡_}
 use Prim.Native.Nat.{_-_}
 use lib.ListN.{replicate}
 use lib.Ieee.{binary64, ofBits}
-use Rattle.float.specs.Reading.{corner}
-use Rattle.float.proofs.Corner.{length-corner}
-use Rattle.float.proofs.Padded.{corner-columns}
+use Rattle.matrix.specs.Reading.{corner}
+use Rattle.matrix.proofs.Corner.{length-corner}
+use Rattle.matrix.proofs.Padded.{corner-columns}
 use Rattle.flag.specs.Reading.{flagIn}
 use Rattle.candidates.proofs.Rounds.{Walking, vertex-in, walk-first, walk-next, columns-are}
 use Rattle.candidates.proofs.columns.Statement.{statement}

@@ -6,7 +6,7 @@ use mathlib.Core.Path.{_≡_, refl}
 use Prim.Native.Nat.{_+_, _*_, _≤_, _-_}
 use lib.ListN.{length}
 use Rattle.spec.specs.Copying.{parts}
-use Rattle.float.proofs.Parts.{length-parts, part-end}
+use Rattle.points.proofs.Parts.{length-parts, part-end}
 use Rattle.candidates.proofs.Doubles.{Apart, apart-end, start-in, later-in, double-not, double-next}
 use Rattle.candidates.proofs.no_double.Statement.{statement}
 use Rattle.candidates.proofs.no_double.Tie as tie

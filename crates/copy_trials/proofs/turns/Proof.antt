@@ -5,7 +5,7 @@ use mathlib.Core.List.{List, map}
 use borrow.Author.Needs.{needs}
 use Rattle.spec.specs.Lists.{join}
 use Rattle.spec.specs.Matrix.{Matrix}
-use Rattle.float.specs.Reading.{corner}
+use Rattle.matrix.specs.Reading.{corner}
 use Rattle.copying.proofs.Flat.{table-corners}
 use Rattle.copy_trials.proofs.turns.Statement.{statement}
 use Rattle.copy_trials.proofs.turns.Tie as tie

@@ -10,10 +10,10 @@ use borrow.Author.Needs.{needs}
 use Rattle.spec.specs.Limits.{maxCount}
 use Rattle.spec.specs.Matrix.{Vector, Matrix}
 use Rattle.spec.specs.Copying.{copies, points, matrices, copyOut, copyTable, written}
-use Rattle.copying.specs.Post.{Fitting, Tabled}
+use Rattle.points.specs.Cells.{Tabled}
+use Rattle.copying.specs.Post.{Fitting}
 use Rattle.copying.proofs.Squares.{square, square-pos}
 use Rattle.copying.proofs.Growth.{length-matrices}
-use Rattle.copying.proofs.Apart.{copies-apart}
 use Rattle.copying.proofs.Judgements.{Judgeable, judged-passed}
 use Rattle.copying.proofs.Outcome.{room-fits, answer-full, answer-short, answer-done, answer-open, too-few, enough, some-matrices}
 use Rattle.copying.proofs.copied.Statement.{statement}
@@ -104,7 +104,6 @@ write-requires c κs =
       omega (arith, f .room, r .room .ensures),
       omega (arith, mul-le-mul-right (s .args .d) (f .room), rw (sym (r .room .ensures)) at (room-fits (length (s .args .out .now)) (s .args .d)), k .before .before .before .before .before .copies .kept .1 .1 .1 .1 .0),
       rw (length-matrices (s .args .d) (s .args .turns .now)) at (roomy e),
-      rw (f .read) (copies-apart (ms s) (points (s .args .d) (s .args .from .now))),
     )
 
 -- What the table holds is told in terms of the copies.

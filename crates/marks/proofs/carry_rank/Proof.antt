@@ -5,7 +5,7 @@ use native.Mathlib.Omega.{arith}
 use mathlib.Core.Bool.{false≢true}
 use Prim.Native.Nat.{_+_, _-_, _<_}
 use lib.ListN.{length}
-use Rattle.float.specs.declared.points.Found.the-variants.{At}
+use Rattle.points.specs.declared.Found.the-variants.{At}
 use Rattle.ranked.specs.Words.{firstAt, absIn}
 use Rattle.marks.specs.Rises.{Landed}
 use Rattle.marks.specs.Rows.{classesOn}

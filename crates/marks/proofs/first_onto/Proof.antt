@@ -7,7 +7,7 @@ use mathlib.Core.Bool.{Bool}
 use mathlib.Core.List.{List}
 use Prim.Native.Nat.{ℕ, _+_, _*_, _≤_, _-_}
 use lib.ListN.{length, getD}
-use Rattle.float.specs.declared.points.Found.the-variants.{At}
+use Rattle.points.specs.declared.Found.the-variants.{At}
 use Rattle.ranked.specs.Words.{listAt}
 use Rattle.ranked.specs.Reading.{Lies}
 use Rattle.ranked.proofs.Turns.{entry-in}

@@ -3,8 +3,8 @@
 use borrow.Author.Needs.{needs}
 use mathlib.Core.Path.{_≡_, sym, _∙_, subst}
 use lib.Dec.{eqb}
-use Rattle.float.specs.declared.points.Found.{Found}
-use Rattle.float.specs.declared.points.Found.the-variants.{At}
+use Rattle.points.specs.declared.Found.{Found}
+use Rattle.points.specs.declared.Found.the-variants.{At}
 use Rattle.ranked.specs.Words.{absIn}
 use Rattle.marks.specs.Rises.{Reached}
 use Rattle.marks.specs.Rows.{classesOn}

@@ -5,7 +5,7 @@ use mathlib.Core.Path.{sym, ap, ap₂, _∙_}
 use mathlib.Core.Bool.{false≢true}
 use Prim.Native.Nat.{_+_, _*_, _≤_}
 use lib.ListN.{length}
-use Rattle.float.proofs.Parts.{part-end}
+use Rattle.points.proofs.Parts.{part-end}
 use Rattle.products.specs.Products.{composed}
 use Rattle.products.proofs.Factors.{row-long}
 use native.Mathlib.Omega.{arith}

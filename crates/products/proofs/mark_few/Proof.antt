@@ -5,7 +5,7 @@ use native.Mathlib.Omega.{arith}
 use mathlib.Core.Path.{ap, _∙_}
 use Prim.Native.Nat.{_+_, _-_, _*_, _≤_}
 use lib.ListN.{length}
-use Rattle.float.proofs.Parts.{part-end}
+use Rattle.points.proofs.Parts.{part-end}
 use Rattle.marks.specs.Rows.{concrete}
 use Rattle.products.specs.Marking.{markIn}
 use Rattle.products.proofs.Factors.{row-long}

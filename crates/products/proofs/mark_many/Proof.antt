@@ -6,7 +6,7 @@ use mathlib.Core.Path.{sym}
 use Prim.Native.Nat.{_+_, _-_, _*_, _≤_}
 use lib.ListN.{length}
 use lib.Seq.{length-take-le}
-use Rattle.float.proofs.Parts.{part-end}
+use Rattle.points.proofs.Parts.{part-end}
 use Rattle.marks.specs.Rows.{concrete}
 use Rattle.products.proofs.Marked.{MarkedTo, loop-first, loop-left, loop-next, loop-end, marks-taken}
 use Rattle.products.proofs.mark_many.Statement.{statement}

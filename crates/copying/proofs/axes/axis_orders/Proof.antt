@@ -5,7 +5,8 @@ use lib.Ieee.{ofBits, neg}
 use Rattle.spec.specs.Float.{zip, zeroF, oneF}
 use Rattle.spec.specs.Lists.{join, range}
 use Rattle.spec.specs.Copying.{orders, signed, axisOrder, axisOrders}
-use Rattle.float.specs.Reading.{padded, paddedRows}
+use Rattle.float.specs.Reading.{padded}
+use Rattle.matrix.specs.Reading.{paddedRows}
 use Rattle.copying.proofs.axes.axis_orders.Statement.{statement}
 use Rattle.copying.proofs.axes.axis_orders.Tie as tie
 

@@ -10,7 +10,7 @@ use denote.Floats.{FloatOf}
 use borrow.Author.Needs.{needs}
 use Rattle.spec.specs.Limits.{maxDimension}
 use Rattle.float.proofs.Written.{Written, none, next, end-plain}
-use Rattle.float.proofs.Sized.{wide}
+use Rattle.matrix.proofs.Sized.{wide}
 use Rattle.copying.proofs.Flat.{floatAt, nine}
 use Rattle.copying.proofs.axes.put_turn.Statement.{statement}
 use Rattle.copying.proofs.axes.put_turn.Tie as tie

@@ -9,7 +9,7 @@ use borrow.Rule.Slice.PartMut.{putMid}
 use lib.ListN.{length, take, drop, length-drop, length-append}
 use lib.Seq.{length-take-le}
 use lib.Ieee.{Float}
-use Rattle.float.proofs.Tails.{tail-is, tail-back}
+use Rattle.points.proofs.Tails.{tail-is, tail-back}
 use Rattle.copying.proofs.Flat.{Laid, laid-none, laid-next, laid-all}
 use Rattle.copying.proofs.axes.put_turns.Statement.{statement}
 use Rattle.copying.proofs.axes.put_turns.Tie as tie

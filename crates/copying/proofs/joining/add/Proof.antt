@@ -11,9 +11,9 @@ use lib.Seq.{length-take-le}
 use borrow.Author.Needs.{needs}
 use Rattle.spec.specs.Limits.{maxDimension}
 use Rattle.spec.specs.Copying.{found, parts}
-use Rattle.float.proofs.Parts.{length-parts, part-end}
-use Rattle.float.proofs.Finding.{is-found, is-missing}
-use Rattle.float.proofs.Tails.{tail-is, tail-written}
+use Rattle.points.proofs.Parts.{length-parts, part-end}
+use Rattle.points.proofs.Finding.{is-found, is-missing}
+use Rattle.points.proofs.Tails.{tail-is, tail-written}
 use Rattle.copying.proofs.Growth.{image-found, image-full, image-joined}
 use Rattle.copying.proofs.joining.add.Statement.{statement}
 use Rattle.copying.proofs.joining.add.Tie as tie

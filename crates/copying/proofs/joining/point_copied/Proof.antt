@@ -6,8 +6,8 @@ use native.Mathlib.Omega.{arith}
 use lib.ListN.{take}
 use borrow.Author.Needs.{needs}
 use Rattle.spec.specs.Copying.{parts, matrices}
-use Rattle.float.proofs.Parts.{length-parts}
-use Rattle.float.proofs.Finding.{is-found, is-missing}
+use Rattle.points.proofs.Parts.{length-parts}
+use Rattle.points.proofs.Finding.{is-found, is-missing}
 use Rattle.copying.proofs.Growth.{grown-first, grown-end, point-old, point-new}
 use Rattle.copying.proofs.joining.point_copied.Statement.{statement}
 use Rattle.copying.proofs.joining.point_copied.Tie as tie

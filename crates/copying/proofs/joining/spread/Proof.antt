@@ -10,8 +10,8 @@ use lib.ListN.{length, getD, take}
 use borrow.Author.Needs.{needs}
 use Rattle.spec.specs.Matrix.{Matrix, Vector, mulVec}
 use Rattle.spec.specs.Copying.{spread, parts, matrices}
-use Rattle.float.proofs.Parts.{length-parts}
-use Rattle.float.proofs.Padded.{take-image}
+use Rattle.points.proofs.Parts.{length-parts}
+use Rattle.matrix.proofs.Padded.{take-image}
 use Rattle.copying.proofs.Growth.{Grown, grown-first, grown-next, grown-full, grown-end, Done, done-first, done-next, done-longer, done-end, spread-nothing, spread-turn, matrix-is, length-matrices, image-longer}
 use Rattle.laws.proofs.CopyLaws.{spread-adds}
 use Rattle.copying.specs.Post.{Kept, withImage}

@@ -10,6 +10,7 @@ use lib.Ieee.{Float, nan, ofBits}
 use borrow.Author.Needs.{needs}
 use Rattle.spec.specs.Limits.{maxDimension}
 use Rattle.spec.specs.Float.{zeroF}
+use Rattle.float.specs.Reading.{padded}
 use Rattle.float.proofs.Written.{Written, none, next, copied}
 use Rattle.float.proofs.vector.load.Statement.{statement}
 use Rattle.float.proofs.vector.load.Tie as tie
@@ -33,6 +34,7 @@ loop-again c =
     (search needs, next _ (omega arith) refl (l .inv .1))
 
 returns : tie.Need-returns Inv-loop μ-loop
+unfolding padded
 returns c =
     let l = c .before .loop in
     let p = c .before .before .args .p .now in

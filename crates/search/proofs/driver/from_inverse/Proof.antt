@@ -4,7 +4,7 @@ use borrow.Author.Needs.{needs}
 use native.Mathlib.Omega.{arith}
 use mathlib.Core.Path.{refl}
 use Rattle.spec.specs.Calls.{roomOf}
-use Rattle.float.specs.Reading.{corner}
+use Rattle.matrix.specs.Reading.{corner}
 use Rattle.ranked.proofs.Benches.{laid}
 use Rattle.symmetry.specs.Tails.{outOf}
 use Rattle.symmetry.specs.Listing.{answerOf}

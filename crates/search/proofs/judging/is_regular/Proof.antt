@@ -1,7 +1,7 @@
 -- The test goes by whether an inverse was found.
 -- Assumes nothing.
 use borrow.Author.Needs.{needs}
-use Rattle.float.specs.Reading.{ifRegular}
+use Rattle.matrix.specs.Reading.{ifRegular}
 use Rattle.search.specs.Reading.{regular}
 use Rattle.search.proofs.judging.is_regular.Statement.{statement}
 use Rattle.search.proofs.judging.is_regular.Tie as tie

@@ -13,7 +13,7 @@ use borrow.Author.Needs.{needs}
 use borrow.Rule.Slice.PartMut.{putMid, same-len-mid}
 use Rattle.spec.specs.Limits.{maxDimension, maxCount}
 use Rattle.spec.specs.Flags.{Flag, IsFlag}
-use Rattle.lookup.specs.Points.{Lone}
+use Rattle.points.specs.Guesses.{Guesses}
 use Rattle.ranked.specs.Words.{absIn}
 use Rattle.ranked.specs.Bench.{solidAt}
 use Rattle.flag.specs.Reading.{flagIn, moreOf}
@@ -26,20 +26,20 @@ use Rattle.symmetry.proofs.listing.list_members.Statement.{statement}
 use Rattle.symmetry.proofs.listing.list_members.Tie as tie
 
 abbrev Inv : tie.InvT-loop
-Inv words low sh at floats inv rotations room matrices₀ rows₀ first d v lone places flag₀ n₀ matrices rows flag n =
+Inv words low sh at floats inv rotations room matrices₀ rows₀ first d v places flag₀ n₀ matrices rows flag n =
     (length matrices ≡ length matrices₀) × (length rows ≡ length rows₀)
     × Turn (absIn sh (take low words)) (flagIn (sh .rank) flag) (Tally sh low words floats inv rotations room (sh .dimension) v matrices₀ matrices rows₀ rows n)
 
 abbrev μ : tie.MeasureT-loop
-μ words low sh at floats inv rotations room matrices₀ rows₀ first d v lone places flag₀ n₀ matrices rows flag n =
+μ words low sh at floats inv rotations room matrices₀ rows₀ first d v places flag₀ n₀ matrices rows flag n =
     toCome (absIn sh (take low words)) (flagIn (sh .rank) flag)
 
 abbrev start : tie.At-loop Inv μ → tie.Start Inv μ
-start c = c .before .before .before .before .before .before .before .before .before .before
+start c = c .before .before .before .before .before .before .before .before .before
 
 -- This is the point where the vertices are counted.
 abbrev counted : tie.At-loop Inv μ → tie.After-vertex-count Inv μ
-counted l = l .before .before .before
+counted l = l .before .before
 
 slice-aggregate-first : tie.Need-slice-aggregate-first Inv μ
 slice-aggregate-first c = let s = c .before .before .before .before .before in sym (length-take-le (s .args .low) (s .args .words .now) (s .pre .bench .words-in))
@@ -64,7 +64,7 @@ points-requires v =
 
 loop-holds : tie.Need-loop-holds Inv μ
 loop-holds c =
-    let v = c .before .before in
+    let v = c .before in
     let s = v .before .before .before .before .before .before .before in
     let a = s .args in (
       refl,
@@ -135,32 +135,32 @@ try-flag-requires : tie.Need-try-flag-requires Inv μ
 try-flag-requires c κs =
     let l = c .before .before .before in
     let s = start l in
-    (s .pre, (is-flag l, (counted l .before .first .ensures, λ e. subst Lone (sym (points-read (s .pre) (counted l .vertex-count .result) (counted l .vertex-count .ensures))) (l .before .before .is-lone .ensures e))))
+    (s .pre, (is-flag l, (counted l .before .first .ensures, subst (λ ps. Guesses ps (l .before .places .result)) (sym (points-read (s .pre) (counted l .vertex-count .result) (counted l .vertex-count .ensures))) (l .before .places .ensures))))
 
 -- These are the outputs after the flag is tried.
 abbrev matrices : tie.After-try-flag Inv μ → List Float
 matrices t =
     let l = t .before .before .before .before in
     let k = l .loop .n * (start l .args .sh .dimension * start l .args .sh .dimension) in
-    putMid k (length (l .loop .matrices) - k) (l .loop .matrices) (t .try-flag .last .1 .1 .1 .1 .1 .1 .1 .1 .1 .1 .1 .1 .0)
+    putMid k (length (l .loop .matrices) - k) (l .loop .matrices) (t .try-flag .last .1 .1 .1 .1 .1 .1 .1 .1 .1 .1 .1 .0)
 
 abbrev rows : tie.After-try-flag Inv μ → List ℕ
 rows t =
     let l = t .before .before .before .before in
     let k = l .loop .n * counted l .vertex-count .result in
-    putMid k (length (l .loop .rows) - k) (l .loop .rows) (t .try-flag .last .1 .1 .1 .1 .1 .1 .1 .1 .1 .1 .1 .1 .1 .0)
+    putMid k (length (l .loop .rows) - k) (l .loop .rows) (t .try-flag .last .1 .1 .1 .1 .1 .1 .1 .1 .1 .1 .1 .1 .0)
 
 many : (t : tie.After-try-flag Inv μ) → length (matrices t) ≡ length (start (t .before .before .before .before) .args .matrices .now)
 many t =
     let l = t .before .before .before .before in
     let k = l .loop .n * (start l .args .sh .dimension * start l .args .sh .dimension) in
-    same-len-mid k (length (l .loop .matrices) - k) (l .loop .matrices) (t .try-flag .last .1 .1 .1 .1 .1 .1 .1 .1 .1 .1 .1 .1 .0) (t .try-flag .kept .1 .1 .1 .1 .1 .1 .1 .1 .1 .1 .1 .1 .0) ∙ l .loop .inv .0
+    same-len-mid k (length (l .loop .matrices) - k) (l .loop .matrices) (t .try-flag .last .1 .1 .1 .1 .1 .1 .1 .1 .1 .1 .1 .0) (t .try-flag .kept .1 .1 .1 .1 .1 .1 .1 .1 .1 .1 .1 .0) ∙ l .loop .inv .0
 
 long : (t : tie.After-try-flag Inv μ) → length (rows t) ≡ length (start (t .before .before .before .before) .args .rows .now)
 long t =
     let l = t .before .before .before .before in
     let k = l .loop .n * counted l .vertex-count .result in
-    same-len-mid k (length (l .loop .rows) - k) (l .loop .rows) (t .try-flag .last .1 .1 .1 .1 .1 .1 .1 .1 .1 .1 .1 .1 .1 .0) (t .try-flag .kept .1 .1 .1 .1 .1 .1 .1 .1 .1 .1 .1 .1 .1 .0) ∙ l .loop .inv .1
+    same-len-mid k (length (l .loop .rows) - k) (l .loop .rows) (t .try-flag .last .1 .1 .1 .1 .1 .1 .1 .1 .1 .1 .1 .1 .0) (t .try-flag .kept .1 .1 .1 .1 .1 .1 .1 .1 .1 .1 .1 .1 .0) ∙ l .loop .inv .1
 
 -- This is what stands then.
 abbrev Stood : tie.After-try-flag Inv μ → ℕ → List Flag → Type 0
@@ -175,7 +175,7 @@ skipped t r =
     let s = start l in
     let a = s .args in
     tally-skipped (s .pre) (a .inv) (tall s) (a .rotations) (a .room) (counted l .vertex-count .result) (counted l .vertex-count .ensures) (a .matrices .now) (a .rows .now) (l .loop .matrices) (l .loop .rows) (l .loop .n) (flag l) (rest l) (stands l)
-    (t .try-flag .result) (t .try-flag .last .1 .1 .1 .1 .1 .1 .1 .1 .1 .1 .1 .1 .0) (t .try-flag .last .1 .1 .1 .1 .1 .1 .1 .1 .1 .1 .1 .1 .1 .0) (t .try-flag .ensures) r
+    (t .try-flag .result) (t .try-flag .last .1 .1 .1 .1 .1 .1 .1 .1 .1 .1 .1 .0) (t .try-flag .last .1 .1 .1 .1 .1 .1 .1 .1 .1 .1 .1 .1 .0) (t .try-flag .ensures) r
 
 added : (t : tie.After-try-flag Inv μ) → t .try-flag .result ≡ Added → Stood t (t .before .before .before .before .loop .n + 1) (rest (t .before .before .before .before))
 added t r =
@@ -183,7 +183,7 @@ added t r =
     let s = start l in
     let a = s .args in
     tally-added (s .pre) (a .inv) (tall s) (a .rotations) (a .room) (counted l .vertex-count .result) (counted l .vertex-count .ensures) (a .matrices .now) (a .rows .now) (l .loop .matrices) (l .loop .rows) (l .loop .n) (flag l) (rest l) (stands l)
-    (t .try-flag .result) (t .try-flag .last .1 .1 .1 .1 .1 .1 .1 .1 .1 .1 .1 .1 .0) (t .try-flag .last .1 .1 .1 .1 .1 .1 .1 .1 .1 .1 .1 .1 .1 .0) (t .try-flag .ensures) r
+    (t .try-flag .result) (t .try-flag .last .1 .1 .1 .1 .1 .1 .1 .1 .1 .1 .1 .0) (t .try-flag .last .1 .1 .1 .1 .1 .1 .1 .1 .1 .1 .1 .1 .0) (t .try-flag .ensures) r
 
 add-n : tie.Need-add-n Inv μ
 add-n c =
@@ -207,7 +207,7 @@ returns r x =
     let a = s .args in
     rw (r .of .ensures)
     (tally-short (s .pre) (a .inv) (tall s) (a .rotations) (a .room) (counted l .vertex-count .result) (counted l .vertex-count .ensures) (a .matrices .now) (a .rows .now) (l .loop .matrices) (l .loop .rows) (l .loop .n) (flag l) (rest l) (stands l)
-    (t .try-flag .result) (t .try-flag .last .1 .1 .1 .1 .1 .1 .1 .1 .1 .1 .1 .1 .0) (t .try-flag .last .1 .1 .1 .1 .1 .1 .1 .1 .1 .1 .1 .1 .1 .0) (t .try-flag .ensures) (e .enum-told3 .given .1) x)
+    (t .try-flag .result) (t .try-flag .last .1 .1 .1 .1 .1 .1 .1 .1 .1 .1 .1 .0) (t .try-flag .last .1 .1 .1 .1 .1 .1 .1 .1 .1 .1 .1 .1 .0) (t .try-flag .ensures) (e .enum-told3 .given .1) x)
 
 slice-aggregate-next : tie.Need-slice-aggregate-next Inv μ
 slice-aggregate-next c =
@@ -281,7 +281,6 @@ list-members-spec =
     first-requires
     vertex-count-requires
     (λ c κs. points-requires c)
-    (λ c κs. points-requires (c .before))
     loop-holds
     (λ c. within (c .before) .2)
     mul-try-flag

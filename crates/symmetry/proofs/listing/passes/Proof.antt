@@ -5,10 +5,10 @@ use mathlib.Core.Bool.{false≢true}
 use native.Mathlib.Omega.{arith}
 use borrow.Author.Needs.{needs}
 use borrow.Author.Tests.{not-true, not-false}
-use Rattle.float.specs.Reading.{corner}
-use Rattle.lookup.specs.Points.{Lone}
+use Rattle.matrix.specs.Reading.{corner}
+use Rattle.points.specs.Guesses.{Guesses}
 use Rattle.element_types.specs.State.{stateIn}
-use Rattle.symmetry.proofs.Bounds.{rising, vertices-are, vertices-few, coordinates-in, points-read, points-apart}
+use Rattle.symmetry.proofs.Bounds.{rising, vertices-are, vertices-few, coordinates-in, points-read}
 use Rattle.symmetry.proofs.Passing.{row-is, passes-not, passes-is}
 use Rattle.symmetry.proofs.listing.passes.Statement.{statement}
 use Rattle.symmetry.proofs.listing.passes.Tie as tie
@@ -23,8 +23,8 @@ row-of-requires c κs =
     let v = c .before .vertex-count .ensures in
     let e = vertices-are h in
     let read = points-read h (c .before .vertex-count .result) v in (
-      (h .parted .axes, h .bench .held .wide, rw (v, ← e) (vertices-few h), rw (v, ← e) (coordinates-in h), rw (v, ← e) (s .pre .1 .0), points-apart h (c .before .vertex-count .result) v),
-      λ l. subst Lone read (s .pre .1 .1 l),
+      (h .parted .axes, h .bench .held .wide, rw (v, ← e) (vertices-few h), rw (v, ← e) (coordinates-in h), rw (v, ← e) (s .pre .1 .0)),
+      subst (λ ps. Guesses ps (s .args .places .now)) read (s .pre .1 .1),
     )
 
 returns : tie.Need-returns
@@ -32,7 +32,7 @@ returns c =
     let w = c .before .before .before in
     let s = w .before .before .before .before .before .before in
     let a = s .args in (
-      passes-not (s .pre .0) (stateIn (a .sh) (a .low) (a .words .now)) (corner (a .sh .dimension) (a .m)) (w .before .before .vertex-count .result) (w .before .before .vertex-count .ensures) (w .row-of .last .1 .1 .1 .1 .1 .1 .0) (w .row-of .result) (w .row-of .ensures) (not-true _ (c .if1 .taken)),
+      passes-not (s .pre .0) (stateIn (a .sh) (a .low) (a .words .now)) (corner (a .sh .dimension) (a .m)) (w .before .before .vertex-count .result) (w .before .before .vertex-count .ensures) (s .args .row .now) (w .row-of .last .1 .1 .1 .1 .1 .0) (w .row-of .result) (w .row-of .ensures) (not-true _ (c .if1 .taken)),
       λ e. absurd (false≢true e),
     )
 
@@ -40,16 +40,16 @@ examples-go-requires : tie.Need-examples-go-requires
 examples-go-requires c κs =
     let w = c .before .before .before .before in
     let s = w .before .before .before .before .before .before in
-    ((s .pre .0 .counted, s .pre .0 .prints), omega (arith, w .row-of .kept .1 .1 .1 .1 .1 .1 .0, s .pre .1 .0))
+    ((s .pre .0 .counted, s .pre .0 .prints), omega (arith, w .row-of .kept .1 .1 .1 .1 .1 .0, s .pre .1 .0))
 
 returns-2 : tie.Need-returns-2
 returns-2 c =
     let w = c .before .before .before .before .before in
     let s = w .before .before .before .before .before .before in
     let a = s .args in (
-      passes-is (s .pre .0) (stateIn (a .sh) (a .low) (a .words .now)) (corner (a .sh .dimension) (a .m)) (w .before .before .vertex-count .result) (w .before .before .vertex-count .ensures) (w .row-of .last .1 .1 .1 .1 .1 .1 .0) (w .row-of .result) (w .row-of .ensures)
+      passes-is (s .pre .0) (stateIn (a .sh) (a .low) (a .words .now)) (corner (a .sh .dimension) (a .m)) (w .before .before .vertex-count .result) (w .before .before .vertex-count .ensures) (s .args .row .now) (w .row-of .last .1 .1 .1 .1 .1 .0) (w .row-of .result) (w .row-of .ensures)
           (not-false _ (c .before .before .if1 .left)) (c .examples-go .result) (c .examples-go .ensures),
-      λ e. row-is (s .pre .0) (stateIn (a .sh) (a .low) (a .words .now)) (corner (a .sh .dimension) (a .m)) (w .before .before .vertex-count .result) (w .before .before .vertex-count .ensures) (w .row-of .last .1 .1 .1 .1 .1 .1 .0) (w .row-of .result) (w .row-of .ensures)
+      λ e. row-is (s .pre .0) (stateIn (a .sh) (a .low) (a .words .now)) (corner (a .sh .dimension) (a .m)) (w .before .before .vertex-count .result) (w .before .before .vertex-count .ensures) (s .args .row .now) (w .row-of .last .1 .1 .1 .1 .1 .0) (w .row-of .result) (w .row-of .ensures)
           (not-false _ (c .before .before .if1 .left)),
     )
 

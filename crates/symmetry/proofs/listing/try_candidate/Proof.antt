@@ -8,13 +8,14 @@ use lib.ListN.{length, take}
 use lib.Ieee.{lt}
 use borrow.Author.Needs.{needs}
 use borrow.Author.Tests.{not-true, not-false}
+use Rattle.spec.specs.Limits.{maxCount}
 use Rattle.spec.specs.Float.{zeroF}
 use Rattle.spec.specs.Types.{State}
 use Rattle.spec.specs.Matrix.{Matrix, determinant}
 use Rattle.spec.specs.Solid.{Concrete}
 use Rattle.spec.specs.Copying.{written}
 use Rattle.spec.specs.Search.{rowOf}
-use Rattle.float.specs.Reading.{corner}
+use Rattle.matrix.specs.Reading.{corner}
 use Rattle.ranked.specs.Bench.{solidAt}
 use Rattle.element_types.specs.State.{stateIn}
 use Rattle.symmetry.specs.Listing.{fits}
@@ -108,7 +109,7 @@ put-entries-requires c κs =
     let v = r .before .before in
     let p = v .before .before .before in
     let s = start (p .before .before) in
-    let k : length (p .passes .last .1 .1 .1 .1 .1 .1 .1 .1 .0) ≡ 2048 = p .passes .kept .1 .1 .1 .1 .1 .1 .1 .1 .0 in
+    let k : length (p .passes .last .1 .1 .1 .1 .1 .1 .1 .0) ≡ maxCount = p .passes .kept .1 .1 .1 .1 .1 .1 .1 .0 in
     (omega (arith, k, v .vertex-count .ensures, vertices-are (s .pre .0), vertices-few (s .pre .0)), omega (arith, many v, fits-means _ _ _ _ _ (roomy r) .1))
 
 returns-4 : tie.Need-returns-4
@@ -121,7 +122,7 @@ returns-4 c x i =
     let p = e .before .before in
     let s = start (joined e) in
     let a = s .args in
-    let row = p .passes .last .1 .1 .1 .1 .1 .1 .1 .1 .0 in
+    let row = p .passes .last .1 .1 .1 .1 .1 .1 .1 .0 in
     let w : take (v .vertex-count .result) row ≡ rowOf (solid s .points) (matrix s) = ap (λ n. take n row) (v .vertex-count .ensures ∙ sym (vertices-are (s .pre .0))) ∙ p .passes .ensures .1 (not-false _ (e .if3 .left)) in
     candidate-added (solid s) (types s) (matrix s) (a .rotations) (a .sh .dimension) (length (solid s .points)) (a .left) (a .matrices .now) (a .rows .now) x i (passed e) (wanted (joined e)) (roomy r)
     (m .put-matrix .last .1 .1 .0) (q .put-entries .last .1 .1 .0) (m .put-matrix .ensures) (q .put-entries .ensures ∙ ap (λ l. written l (a .rows .now)) w)

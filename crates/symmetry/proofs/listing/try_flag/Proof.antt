@@ -6,7 +6,7 @@ use borrow.Author.Needs.{needs}
 use borrow.Author.Tests.{not-true, not-false}
 use lib.ListN.{length}
 use lib.Seq.{length-take-le}
-use Rattle.float.specs.Reading.{corner}
+use Rattle.matrix.specs.Reading.{corner}
 use Rattle.ranked.specs.Bench.{solidAt}
 use Rattle.element_types.specs.State.{stateIn}
 use Rattle.flag.specs.Reading.{flagIn}
@@ -49,7 +49,7 @@ returns-2 c x =
     let s = e .before .before .before .before .before .before in
     let a = s .args in
     flag-is (s .pre .0) (stateIn (a .sh) (a .low) (a .words .now)) (flagIn (a .sh .rank) (a .flag)) (flagIn (a .sh .rank) (a .first)) (s .pre .1 .1 .0) (a .rotations) (a .sh .dimension) (length (solidAt (a .sh) (a .low) (a .words .now) (a .floats .now) .points)) (a .left) (a .matrices .now) (a .rows .now) x (corner (s .args .sh .dimension) (s .args .inv)) (sym (not-false _ (e .if1 .left)) ∙ e .before .same-types .ensures)
-    (corner (a .sh .dimension) (m .candidate .result)) (m .candidate .ensures) (g .try-candidate .result) (g .try-candidate .last .1 .1 .1 .1 .1 .1 .1 .1 .1 .1 .0) (g .try-candidate .last .1 .1 .1 .1 .1 .1 .1 .1 .1 .1 .1 .0) (g .try-candidate .ensures x (corner (s .args .sh .dimension) (s .args .inv)))
+    (corner (a .sh .dimension) (m .candidate .result)) (m .candidate .ensures) (g .try-candidate .result) (g .try-candidate .last .1 .1 .1 .1 .1 .1 .1 .1 .1 .0) (g .try-candidate .last .1 .1 .1 .1 .1 .1 .1 .1 .1 .1 .0) (g .try-candidate .ensures x (corner (s .args .sh .dimension) (s .args .inv)))
 
 pub try-flag-spec : {M : Type 1} → statement M
 try-flag-spec =

@@ -6,7 +6,7 @@ use Prim.Native.Nat.{_≤_, _-_}
 use native.Mathlib.Omega.{arith}
 use lib.ListN.{length, take, drop, length-set}
 use borrow.Author.Needs.{needs}
-use Rattle.float.proofs.Tails.{front-next, front-end}
+use Rattle.points.proofs.Tails.{front-next, front-end}
 use Rattle.symmetry.proofs.writing.put_entries.Statement.{statement}
 use Rattle.symmetry.proofs.writing.put_entries.Tie as tie
 

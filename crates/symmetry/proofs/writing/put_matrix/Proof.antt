@@ -15,11 +15,11 @@ use borrow.Rule.Slice.PartMut.{same-len-mid}
 use Rattle.spec.specs.Limits.{maxDimension}
 use Rattle.spec.specs.Lists.{join}
 use Rattle.spec.specs.Copying.{written}
-use Rattle.float.specs.Reading.{leading, corner}
-use Rattle.float.proofs.Parts.{part-end}
-use Rattle.float.proofs.Sized.{wide}
-use Rattle.float.proofs.Tails.{tail-is}
-use Rattle.float.proofs.Tails.{part-written}
+use Rattle.matrix.specs.Reading.{leading, corner}
+use Rattle.points.proofs.Parts.{part-end}
+use Rattle.matrix.proofs.Sized.{wide}
+use Rattle.points.proofs.Tails.{tail-is}
+use Rattle.points.proofs.Tails.{part-written}
 use Rattle.symmetry.proofs.Rows.{rows-next}
 use Rattle.symmetry.proofs.writing.put_matrix.Statement.{statement}
 use Rattle.symmetry.proofs.writing.put_matrix.Tie as tie

@@ -8,7 +8,7 @@ use lib.ListN.{length, take, drop}
 use borrow.Author.Needs.{needs}
 use Rattle.spec.specs.Matrix.{Matrix}
 use Rattle.spec.specs.Copying.{parts}
-use Rattle.float.proofs.Parts.{part-end}
+use Rattle.points.proofs.Parts.{part-end}
 use Rattle.text.specs.Members.{rotationCount}
 use Rattle.text.proofs.Counted.{counted, counted-next, counted-most}
 use Rattle.text.proofs.counting.rotations.Statement.{statement}

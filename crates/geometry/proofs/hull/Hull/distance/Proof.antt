@@ -10,7 +10,7 @@ use Rattle.spec.specs.Limits.{maxDimension}
 use Rattle.spec.specs.Float.{zeroF, norm}
 use Rattle.spec.specs.Matrix.{Vector}
 use Rattle.spec.specs.Hull.{rest, origin, distance}
-use Rattle.float.proofs.Beside.{take-replicate}
+use Rattle.float.proofs.Written.{take-replicate}
 use Rattle.geometry.specs.Reading.{hullIn}
 use Rattle.geometry.proofs.hull.Hull.distance.Statement.{statement}
 use Rattle.geometry.proofs.hull.Hull.distance.Tie as tie

@@ -1,6 +1,0 @@
--- Assumes nothing.
-use Rattle.float.proofs.elimination.signed.Statement.{statement}
-use Rattle.float.proofs.elimination.signed.Tie as tie
-
-pub signed-spec : {M : Type 1} → statement M
-signed-spec = tie.close (tie.spec (λ c. rw (c .if1 .taken)) (λ c. rw (c .if1 .left)))

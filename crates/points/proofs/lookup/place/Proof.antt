@@ -1,0 +1,31 @@
+-- The loop's invariant is that h is below 2 ^ 44, so that no sum wraps. The measure is what is left of the axes.
+-- Assumes nothing.
+use Prim.Native.Nat.{_≤_, _<_, _-_}
+use borrow.Author.Needs.{needs}
+use Rattle.points.proofs.lookup.place.Statement.{statement}
+use Rattle.points.proofs.lookup.place.Tie as tie
+
+abbrev Inv-loop : tie.InvT-loop
+Inv-loop d q h₀ i₀ h i = (i ≤ d) × (h < 0x1000_0000_0000)
+
+abbrev μ-loop : tie.MeasureT-loop
+μ-loop d q h₀ i₀ h i = d - i
+
+pub place-spec : {M : Type 1} → statement M
+place-spec =
+    tie.close
+    (tie.spec
+    Inv-loop
+    μ-loop
+    (λ c. search needs)
+    (λ c. search needs)
+    (λ c. search needs)
+    (λ c κs. search needs)
+    (λ c. search needs)
+    (λ c. search needs)
+    (λ c. search needs)
+    (λ c. search needs)
+    (λ c. search needs)
+    (λ c. search needs)
+    (λ c. search needs)
+    (λ c. search needs))
