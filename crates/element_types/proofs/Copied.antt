@@ -9,8 +9,12 @@ use lib.ListN.{length, getD, set, take, drop}
 use lib.Seq.{slice, length-slice, getD-take, getD-drop, take-all, paste, paste-zero, paste-suc, length-paste, drop-paste}
 use Rattle.spec.specs.Lists.{renumber, eqList}
 use Rattle.laws.proofs.Counts.{lists}
+use Rattle.ranked.specs.declared.Shape.{Shape}
+use Rattle.ranked.specs.Words.{sizeAt}
+use Rattle.ranked.specs.Layout.{typesAt, scratchAt}
 use Rattle.element_types.specs.Runs.{over}
 use Rattle.element_types.specs.Numbers.{Ready, Numbered, keysTo}
+use Rattle.element_types.specs.State.{Stepping, steppedAt}
 use Rattle.element_types.proofs.Parts.{over-front}
 
 module _ (w : List ℕ) (to from n : ℕ) (apart : to + n ≤ from) (room : from + n ≤ length w) where
@@ -50,10 +54,21 @@ module _ (w : List ℕ) (to from n : ℕ) (apart : to + n ≤ from) (room : from
 -- ---- a step at a rank
 
 module _ (w v : List ℕ) (low lists n base from out : ℕ) (r : Ready w low lists n base from out) (d : Numbered w v low lists n base from out) where
-  pub stepped : (x : List ℕ) → x ≡ over v from (from + n) (slice out (out + n) v)
+  stepped : (x : List ℕ) → x ≡ over v from (from + n) (slice out (out + n) v)
       → take out x ≡ over (take out w) from (from + n) (renumber eqList (keysTo w low lists base from n))
   stepped x e =
       ap (take out) e
       ∙ over-front v from (from + n) (slice out (out + n) v) (ap (λ (k : ℕ). from + k) (length-slice out (out + n) v (omega (arith, r .room, d .long)) ∙ omega arith)) (omega (arith, r .own, r .room, d .long))
       out (r .own) (omega (arith, r .room, d .long))
       ∙ ap₂ (λ (l m : List ℕ). over l from (from + n) m) (d .kept) (d .numbers)
+
+-- In the code's terms, n, from and out are what it read of the shape.
+module _ (sh : Shape) (w : List ℕ) (r lists base : ℕ) (s : Stepping sh w r lists base) (n from out : ℕ) (en : n ≡ sizeAt sh r) (ef : from ≡ typesAt sh r)
+    (eo : out ≡ scratchAt sh) where
+  pub numbers-ready : Ready w (sh .low) lists n base from out
+  numbers-ready = rw (en, ef, eo) (s .ready)
+
+  pub stepped-at : (v : List ℕ) → Numbered w v (sh .low) lists n base from out → (x : List ℕ) → x ≡ over v from (from + n) (slice out (out + n) v)
+      → take (scratchAt sh) x ≡ steppedAt sh w r lists base
+  unfolding steppedAt
+  stepped-at v d x e = rw (en, ef, eo) at (stepped w v (sh .low) lists n base from out numbers-ready d x e)

@@ -10,7 +10,7 @@ use native.Mathlib.Decide.{ℕ-discrete}
 use native.Mathlib.Omega.{arith}
 use lib.Dec.{eqb}
 use lib.ListN.{length, getD, take}
-use Rattle.spec.specs.Limits.{maxCount}
+use Rattle.spec.specs.Limits.{maxRank, maxCount}
 use Rattle.spec.specs.Lists.{In, holds, range, keep, sum}
 use Rattle.spec.specs.Types.{Solid, top, size, subs, sups, properRanks, elements, Step, up, down, at}
 use Rattle.spec.specs.Solid as solids
@@ -19,7 +19,7 @@ use Rattle.laws.proofs.Distinct.{pigeons}
 use Rattle.laws.proofs.Counts.{numbers, sum-le, in-keep, once-keep, in-holds}
 use Rattle.laws.proofs.Carry.{rising-once}
 use Rattle.ranked.specs.declared.Shape.{Shape}
-use Rattle.ranked.specs.Words.{firstAt, sizeAt, total, absIn, Held}
+use Rattle.ranked.specs.Words.{firstAt, sizeAt, total, listsOf, absIn, Held}
 use Rattle.ranked.specs.Store.{subEntries, lowOf}
 use Rattle.ranked.proofs.Solids.{top-is, size-is}
 use Rattle.element_types.specs.State.{entries, needed, Sweepable}
@@ -158,25 +158,25 @@ module _ (sh : Shape) (l : List ℕ) (h : Held sh l) where
 
   -- ---- the limits
 
-  pub elements-few : E ≤ 8192
+  pub elements-few : E ≤ (maxRank - 1) * maxCount
   unfolding elements properRanks
   elements-few =
       let p = sum-under (λ q. size s q) maxCount (range 1 (top s - 1)) (λ r m. size-few r (omega (arith, of-range 1 (top s - 1) r m, top-is sh l))) in
-      let k : top s - 1 ≤ 4 = omega (arith, top-is sh l, h .tall) in
+      let k : top s - 1 ≤ maxRank - 1 = omega (arith, top-is sh l, h .tall) in
       omega (arith, rw (length-range 1 (top s - 1)) at p)
 
-  square : (r : ℕ) → suc r ≤ sh .rank → entries s (up (suc r)) ≤ 4194304
+  square : (r : ℕ) → suc r ≤ sh .rank → entries s (up (suc r)) ≤ maxCount * maxCount
   square r k =
       omega (arith, product r, mul-le-mul-left (size s (suc r)) (size-few r (omega arith)), size-few (suc r) k)
 
-  stored-few : I ≤ 12582912
+  stored-few : I ≤ (maxRank - 2) * (maxCount * maxCount)
   unfolding solids.entries
   stored-few =
-      let p = sum-under (λ q. sum (map length (getD s q []))) 4194304 (range 2 (top s - 2)) (λ r m. one r (of-range 2 (top s - 2) r m)) in
-      let k : top s - 2 ≤ 3 = omega (arith, top-is sh l, h .tall) in
+      let p = sum-under (λ q. sum (map length (getD s q []))) (maxCount * maxCount) (range 2 (top s - 2)) (λ r m. one r (of-range 2 (top s - 2) r m)) in
+      let k : top s - 2 ≤ maxRank - 2 = omega (arith, top-is sh l, h .tall) in
       omega (arith, rw (length-range 2 (top s - 2)) at p)
     where
-      one : (r : ℕ) → (2 ≤ r) × (r < 2 + (top s - 2)) → sum (map length (getD s r [])) ≤ 4194304
+      one : (r : ℕ) → (2 ≤ r) × (r < 2 + (top s - 2)) → sum (map length (getD s r [])) ≤ maxCount * maxCount
       one zero b = absurd (omega arith)
       one (suc r) b = rw (rank-entries s (suc r)) (square r (omega (arith, top-is sh l)))
 
@@ -233,18 +233,18 @@ module _ (sh : Shape) (l : List ℕ) (h : Held sh l) where
       )
 
 -- A "workspace under 16 times (E+I+4) 32-bit words" is refused. One that is not is enough, and its words can hold any place in it that a step uses.
-pub room-enough : (sh : Shape) (low : ℕ) (w : List ℕ) → Held sh (take low w) → low ≡ lowOf sh (solids.entries (absIn sh (take low w)))
-    → 16 * (elements (absIn sh (take low w)) + solids.entries (absIn sh (take low w)) + 4) ≤ length w
-    → (x : Step) → 1 ≤ at x → at x < sh .rank → (needed sh low w x ≤ length w) × (needed sh low w x < 2 ^ 32)
+pub room-enough : (sh : Shape) (w : List ℕ) → Held sh (listsOf sh w) → sh .low ≡ lowOf sh (solids.entries (absIn sh (listsOf sh w)))
+    → 16 * (elements (absIn sh (listsOf sh w)) + solids.entries (absIn sh (listsOf sh w)) + 4) ≤ length w
+    → (x : Step) → 1 ≤ at x → at x < sh .rank → (needed sh w x ≤ length w) × (needed sh w x < 2 ^ 32)
 unfolding needed
-room-enough sh low w h e room x a b =
-    let p = step-words sh (take low w) h x a b in
-    (omega arith, omega (arith, elements-few sh (take low w) h, stored-few sh (take low w) h))
+room-enough sh w h e room x a b =
+    let p = step-words sh (listsOf sh w) h x a b in
+    (omega arith, omega (arith, elements-few sh (listsOf sh w) h, stored-few sh (listsOf sh w) h))
 
-pub sweepable : (sh : Shape) (low : ℕ) (w : List ℕ) → Held sh (take low w) → low ≡ lowOf sh (solids.entries (absIn sh (take low w)))
-    → 16 * (elements (absIn sh (take low w)) + solids.entries (absIn sh (take low w)) + 4) ≤ length w → Sweepable sh low w
-sweepable sh low w h e room = record {
+pub sweepable : (sh : Shape) (w : List ℕ) → Held sh (listsOf sh w) → sh .low ≡ lowOf sh (solids.entries (absIn sh (listsOf sh w)))
+    → 16 * (elements (absIn sh (listsOf sh w)) + solids.entries (absIn sh (listsOf sh w)) + 4) ≤ length w → Sweepable sh w
+sweepable sh w h e room = record {
   held = h;
-  room = λ x a b. room-enough sh low w h e room x a b .0;
-  small = λ x a b. room-enough sh low w h e room x a b .1;
+  room = λ x a b. room-enough sh w h e room x a b .0;
+  small = λ x a b. room-enough sh w h e room x a b .1;
 }

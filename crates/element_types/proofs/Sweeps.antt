@@ -5,11 +5,11 @@ use mathlib.Core.List.{List, [], _∷_, _++_, map, reverse, reverse-append}
 use Prim.Native.Nat.{ℕ, zero, suc, _+_, _-_, _≤_, _<_}
 use native.Mathlib.Numerals.{add-one}
 use native.Mathlib.Omega.{arith}
-use lib.ListN.{length, take}
+use lib.ListN.{length}
 use Rattle.spec.specs.Lists.{range}
 use Rattle.spec.specs.Types.{Solid, properRanks, State, Step, up, down, at, step, play, sweepSteps, sweep}
 use Rattle.ranked.specs.declared.Shape.{Shape}
-use Rattle.ranked.specs.Words.{absIn}
+use Rattle.ranked.specs.Words.{listsOf, absIn}
 use Rattle.ranked.proofs.Solids.{top-is}
 use Rattle.element_types.specs.State.{stateIn, needed, Steppable, Sweepable, ups, downs}
 
@@ -55,53 +55,53 @@ steps-are sh l = ap (λ (n : ℕ). map up (range 1 (n - 1)) ++ map down (reverse
 -- ---- in the words
 
 -- The lists of v are those of w, and what the steps xs make of v's state, the steps ys make of w's.
-pub record Swept (sh : Shape) (low : ℕ) (w v : List ℕ) (xs ys : List Step) : Type 0 where
+pub record Swept (sh : Shape) (w v : List ℕ) (xs ys : List Step) : Type 0 where
   pub long : length v ≡ length w
-  pub kept : take low v ≡ take low w
-  pub state : play (absIn sh (take low w)) (stateIn sh low v) xs ≡ play (absIn sh (take low w)) (stateIn sh low w) ys
+  pub kept : listsOf sh v ≡ listsOf sh w
+  pub state : play (absIn sh (listsOf sh w)) (stateIn sh v) xs ≡ play (absIn sh (listsOf sh w)) (stateIn sh w) ys
 
-pub swept-first : (sh : Shape) (low : ℕ) (w : List ℕ) (xs : List Step) → Swept sh low w w xs xs
-swept-first sh low w xs = record { long = refl; kept = refl; state = refl }
+pub swept-first : (sh : Shape) (w : List ℕ) (xs : List Step) → Swept sh w w xs xs
+swept-first sh w xs = record { long = refl; kept = refl; state = refl }
 
 -- The lists and the length are all that a step asks of the words.
-pub sweepable-kept : (sh : Shape) (low : ℕ) (w v : List ℕ) → length v ≡ length w → take low v ≡ take low w → Sweepable sh low w → Sweepable sh low v
+pub sweepable-kept : (sh : Shape) (w v : List ℕ) → length v ≡ length w → listsOf sh v ≡ listsOf sh w → Sweepable sh w → Sweepable sh v
 unfolding needed
-sweepable-kept sh low w v e k a = record {
+sweepable-kept sh w v e k a = record {
   held = rw k (a .held);
   room = λ x b c. rw (k, e) (a .room x b c);
   small = λ x b c. rw k (a .small x b c);
 }
 
-pub steppable : (sh : Shape) (low : ℕ) (w : List ℕ) → Sweepable sh low w → (x : Step) → 1 ≤ at x → at x < sh .rank → Steppable sh low w x
-steppable sh low w a x b c = record { held = a .held; above = b; under = c; room = a .room x b c; small = a .small x b c }
+pub steppable : (sh : Shape) (w : List ℕ) → Sweepable sh w → (x : Step) → 1 ≤ at x → at x < sh .rank → Steppable sh w x
+steppable sh w a x b c = record { held = a .held; above = b; under = c; room = a .room x b c; small = a .small x b c }
 
-module _ (sh : Shape) (low : ℕ) (w v : List ℕ) (xs ys : List Step) (i : Swept sh low w v xs ys) where
+module _ (sh : Shape) (w v : List ℕ) (xs ys : List Step) (i : Swept sh w v xs ys) where
   -- Any step can be done.
-  pub swept-ready : Sweepable sh low w → (x : Step) → 1 ≤ at x → at x < sh .rank → Steppable sh low v x
-  swept-ready a = steppable sh low v (sweepable-kept sh low w v (i .long) (i .kept) a)
+  pub swept-ready : Sweepable sh w → (x : Step) → 1 ≤ at x → at x < sh .rank → Steppable sh v x
+  swept-ready a = steppable sh v (sweepable-kept sh w v (i .long) (i .kept) a)
 
   -- The first of those left leaves the others.
-  pub swept-next : (x : Step) (zs : List Step) → xs ≡ x ∷ zs → (u : List ℕ) → length u ≡ length v → take low u ≡ take low v
-      → stateIn sh low u ≡ step (absIn sh (take low v)) (stateIn sh low v) x → Swept sh low w u zs ys
+  pub swept-next : (x : Step) (zs : List Step) → xs ≡ x ∷ zs → (u : List ℕ) → length u ≡ length v → listsOf sh u ≡ listsOf sh v
+      → stateIn sh u ≡ step (absIn sh (listsOf sh v)) (stateIn sh v) x → Swept sh w u zs ys
   unfolding play
   swept-next x zs e u long kept state = record {
     long = long ∙ i .long;
     kept = kept ∙ i .kept;
-    state = ap (λ (S : State). play (absIn sh (take low w)) S zs) (rw (i .kept) at state) ∙ (rw e at (i .state));
+    state = ap (λ (S : State). play (absIn sh (listsOf sh w)) S zs) (rw (i .kept) at state) ∙ (rw e at (i .state));
   }
 
-  pub swept-end : xs ≡ [] → (take low v ≡ take low w) × (stateIn sh low v ≡ play (absIn sh (take low w)) (stateIn sh low w) ys)
+  pub swept-end : xs ≡ [] → (listsOf sh v ≡ listsOf sh w) × (stateIn sh v ≡ play (absIn sh (listsOf sh w)) (stateIn sh w) ys)
   unfolding play
   swept-end e = (i .kept, rw e at (i .state))
 
 -- A sweep is the ups and then the downs.
-pub both : (sh : Shape) (low : ℕ) (w v : List ℕ) → take low v ≡ take low w → stateIn sh low v ≡ play (absIn sh (take low w)) (stateIn sh low w) (ups 1 (sh .rank))
-    → (u : List ℕ) → take low u ≡ take low v → stateIn sh low u ≡ play (absIn sh (take low v)) (stateIn sh low v) (downs (sh .rank))
-    → (take low u ≡ take low w) × (stateIn sh low u ≡ sweep (absIn sh (take low w)) (stateIn sh low w))
+pub both : (sh : Shape) (w v : List ℕ) → listsOf sh v ≡ listsOf sh w → stateIn sh v ≡ play (absIn sh (listsOf sh w)) (stateIn sh w) (ups 1 (sh .rank))
+    → (u : List ℕ) → listsOf sh u ≡ listsOf sh v → stateIn sh u ≡ play (absIn sh (listsOf sh v)) (stateIn sh v) (downs (sh .rank))
+    → (listsOf sh u ≡ listsOf sh w) × (stateIn sh u ≡ sweep (absIn sh (listsOf sh w)) (stateIn sh w))
 unfolding sweep
-both sh low w v k e u k′ e′ = (
+both sh w v k e u k′ e′ = (
   k′ ∙ k,
-  (rw k at e′) ∙ ap (λ (S : State). play (absIn sh (take low w)) S (downs (sh .rank))) e
-      ∙ sym (play-append (absIn sh (take low w)) (stateIn sh low w) (ups 1 (sh .rank)) (downs (sh .rank)))
-      ∙ ap (play (absIn sh (take low w)) (stateIn sh low w)) (sym (steps-are sh (take low w))),
+  (rw k at e′) ∙ ap (λ (S : State). play (absIn sh (listsOf sh w)) S (downs (sh .rank))) e
+      ∙ sym (play-append (absIn sh (listsOf sh w)) (stateIn sh w) (ups 1 (sh .rank)) (downs (sh .rank)))
+      ∙ ap (play (absIn sh (listsOf sh w)) (stateIn sh w)) (sym (steps-are sh (listsOf sh w))),
 )

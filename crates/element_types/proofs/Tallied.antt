@@ -16,7 +16,8 @@ use Rattle.laws.proofs.Lists.{in-getD, in-place, map-same, getD-table, in-range
 use Rattle.laws.proofs.Distinct.{pigeons, in-distinct, of-distinct, once-distinct}
 use Rattle.laws.proofs.Counts.{numbers}
 use Rattle.ranked.specs.declared.Shape.{Shape}
-use Rattle.ranked.specs.Words.{firstAt, total, absIn}
+use Rattle.ranked.specs.Words.{firstAt, sizeAt, total, listsOf, absIn}
+use Rattle.ranked.specs.Layout as layout
 use Rattle.ranked.proofs.Solids.{top-is}
 use Rattle.element_types.specs.State.{typesIn, stateIn, Countable}
 use Rattle.element_types.proofs.Room.{rising}
@@ -115,74 +116,75 @@ module _ (w : List ℕ) (from n : ℕ) (inside : from + n ≤ length w) where
 
 -- ---- all ranks
 
-unfoldable pub countIn : Shape → ℕ → List ℕ → ℕ → ℕ
-countIn sh low w r = length (distinct eqb (typesIn sh low w r))
+unfoldable pub countIn : Shape → List ℕ → ℕ → ℕ
+countIn sh w r = length (distinct eqb (typesIn sh w r))
 
 -- Counts the types of rank r and above.
-unfoldable pub countsFrom : Shape → ℕ → List ℕ → ℕ → ℕ
-countsFrom sh low w r = sum (map (countIn sh low w) (range r (sh .rank - r)))
+unfoldable pub countsFrom : Shape → List ℕ → ℕ → ℕ
+countsFrom sh w r = sum (map (countIn sh w) (range r (sh .rank - r)))
 
-module _ (sh : Shape) (low : ℕ) (w : List ℕ) where
-  types-at : (q : ℕ) → q ≤ sh .rank → typesAt (stateIn sh low w) q ≡ typesIn sh low w q
+module _ (sh : Shape) (w : List ℕ) where
+  types-at : (q : ℕ) → q ≤ sh .rank → typesAt (stateIn sh w) q ≡ typesIn sh w q
   unfolding stateIn
-  types-at q h = getD-table (typesIn sh low w) [] (suc (sh .rank)) q (omega arith)
+  types-at q h = getD-table (typesIn sh w) [] (suc (sh .rank)) q (omega arith)
 
-  pub counts-all : countsFrom sh low w 1 ≡ typeCount (absIn sh (take low w)) (stateIn sh low w)
+  pub counts-all : countsFrom sh w 1 ≡ typeCount (absIn sh (listsOf sh w)) (stateIn sh w)
   unfolding countsFrom typeCount properRanks countIn
   counts-all =
-      rw (top-is sh (take low w))
-      (ap sum (map-same (countIn sh low w) (λ r. length (distinct eqb (typesAt (stateIn sh low w) r))) (range 1 (sh .rank - 1))
+      rw (top-is sh (listsOf sh w))
+      (ap sum (map-same (countIn sh w) (λ r. length (distinct eqb (typesAt (stateIn sh w) r))) (range 1 (sh .rank - 1))
       (λ r m. ap (λ (t : List ℕ). length (distinct eqb t)) (sym (types-at r (omega (arith, of-range 1 (sh .rank - 1) r m)))))))
 
-  counts-next : (r : ℕ) → r < sh .rank → countsFrom sh low w r ≡ countIn sh low w r + countsFrom sh low w (r + 1)
+  counts-next : (r : ℕ) → r < sh .rank → countsFrom sh w r ≡ countIn sh w r + countsFrom sh w (r + 1)
   unfolding countsFrom range sum
   counts-next r h = let e : sh .rank - r ≡ suc (sh .rank - suc r) = omega arith in rw (e, add-one r) refl
 
-  counts-end : (r : ℕ) → sh .rank ≤ r → countsFrom sh low w r ≡ 0
+  counts-end : (r : ℕ) → sh .rank ≤ r → countsFrom sh w r ≡ 0
   unfolding countsFrom range sum
   counts-end r h = let e : sh .rank - r ≡ 0 = omega arith in rw e refl
 
 -- Below rank r, n types were counted.
-pub record Tally (sh : Shape) (low : ℕ) (w : List ℕ) (n r : ℕ) : Type 0 where
+pub record Tally (sh : Shape) (w : List ℕ) (n r : ℕ) : Type 0 where
   pub proper : 1 ≤ r
   pub few : n ≤ firstAt sh r
-  pub rest : n + countsFrom sh low w r ≡ countsFrom sh low w 1
+  pub rest : n + countsFrom sh w r ≡ countsFrom sh w 1
 
-pub tally-first : (sh : Shape) (low : ℕ) (w : List ℕ) → Tally sh low w 0 1
-tally-first sh low w = record { proper = omega arith; few = omega arith; rest = omega arith }
+pub tally-first : (sh : Shape) (w : List ℕ) → Tally sh w 0 1
+tally-first sh w = record { proper = omega arith; few = omega arith; rest = omega arith }
 
-module _ (sh : Shape) (low : ℕ) (w : List ℕ) (a : Countable sh low w) (n r : ℕ) (i : Tally sh low w n r) where
+module _ (sh : Shape) (w : List ℕ) (a : Countable sh w) (n r : ℕ) (i : Tally sh w n r) where
   module _ (h : r < sh .rank) where
-    -- The rank's offsets are in order and lie within the shape.
-    pub offsets : (firstAt sh r < firstAt sh (r + 1)) × (firstAt sh (r + 1) ≤ total sh) × (r + 1 < 7)
+    -- The rank's elements are among all elements.
+    pub offsets : (firstAt sh r < firstAt sh (suc r)) × (firstAt sh (suc r) ≤ total sh)
     offsets =
         let e : suc r + (sh .rank - r) ≡ suc (sh .rank) = omega arith in
-        rw (add-one r) (a .held .some r (omega arith), rw e at (rising sh (take low w) (a .held) (sh .rank - r) (suc r) (omega arith)), omega (arith, a .held .tall))
+        (a .held .some r (omega arith), rw e at (rising sh (listsOf sh w) (a .held) (sh .rank - r) (suc r) (omega arith)))
 
-    pub run-in : low + firstAt sh r + (firstAt sh (r + 1) - firstAt sh r) ≤ length w
-    run-in = omega (arith, offsets, a .room)
+    -- In the code's terms, the types of the rank's `many` elements stand from word `from` on.
+    module _ (from many : ℕ) (f : from ≡ layout.typesAt sh r) (m : many ≡ sizeAt sh r) where
+      pub run-in : from + many ≤ length w
+      run-in = omega (arith, offsets, a .room)
 
-    run-is : take (firstAt sh (r + 1) - firstAt sh r) (drop (low + firstAt sh r) w) ≡ typesAt (stateIn sh low w) r
-    unfolding typesIn
-    run-is = rw (add-one r) (sym (types-at sh low w r (omega arith)))
+      run-is : take many (drop from w) ≡ typesAt (stateIn sh w) r
+      unfolding typesIn
+      run-is = rw (f, m) (sym (types-at sh w r (omega arith)))
 
-    pub run-numbered : distinct eqb (take (firstAt sh (r + 1) - firstAt sh r) (drop (low + firstAt sh r) w))
-        ≡ range 0 (length (distinct eqb (take (firstAt sh (r + 1) - firstAt sh r) (drop (low + firstAt sh r) w))))
-    unfolding inUse
-    run-numbered = rw run-is (a .numbered r (i .proper) h .first)
+      pub run-numbered : distinct eqb (take many (drop from w)) ≡ range 0 (length (distinct eqb (take many (drop from w))))
+      unfolding inUse
+      run-numbered = rw run-is (a .numbered r (i .proper) h .first)
 
-    module _ (k : ℕ) (e : k ≡ length (distinct eqb (take (firstAt sh (r + 1) - firstAt sh r) (drop (low + firstAt sh r) w)))) where
-      few-more : n + k ≤ firstAt sh (r + 1)
-      few-more = omega (arith, e, types-few w (low + firstAt sh r) (firstAt sh (r + 1) - firstAt sh r) run-in, i .few, offsets)
+      module _ (k : ℕ) (e : k ≡ length (distinct eqb (take many (drop from w)))) where
+        few-more : n + k ≤ firstAt sh (suc r)
+        few-more = omega (arith, e, types-few w from many run-in, i .few, offsets)
 
-      pub sum-fits : n + k ≤ length w
-      sum-fits = omega (arith, few-more, offsets, a .room)
+        pub sum-fits : n + k ≤ length w
+        sum-fits = omega (arith, few-more, offsets, a .room)
 
-      pub tally-next : Tally sh low w (n + k) (r + 1)
-      unfolding countIn
-      tally-next =
-          let c : k ≡ countIn sh low w r = e ∙ ap (λ (t : List ℕ). length (distinct eqb t)) (run-is ∙ types-at sh low w r (omega arith)) in
-          record { proper = omega arith; few = few-more; rest = omega (arith, i .rest, counts-next sh low w r h) }
+        pub tally-next : Tally sh w (n + k) (r + 1)
+        unfolding countIn
+        tally-next =
+            let c : k ≡ countIn sh w r = e ∙ ap (λ (t : List ℕ). length (distinct eqb t)) (run-is ∙ types-at sh w r (omega arith)) in
+            record { proper = omega arith; few = rw (add-one r) few-more; rest = omega (arith, i .rest, counts-next sh w r h) }
 
-  pub tally-end : sh .rank ≤ r → n ≡ typeCount (absIn sh (take low w)) (stateIn sh low w)
-  tally-end h = omega (arith, i .rest, counts-end sh low w r h, counts-all sh low w)
+  pub tally-end : sh .rank ≤ r → n ≡ typeCount (absIn sh (listsOf sh w)) (stateIn sh w)
+  tally-end h = omega (arith, i .rest, counts-end sh w r h, counts-all sh w)

@@ -22,7 +22,7 @@ fn same_run(w: &[u32], a: usize, b: usize, n: usize) -> bool
 }
 
 // Tells whether the keys at words p and q are the same.
-pub fn same_key(w: &[u32], p: usize, q: usize) -> bool
+fn same_key(w: &[u32], p: usize, q: usize) -> bool
     requires { ⌜ Keyed (now w) p × Keyed (now w) q ⌝ }
     ensures { λ r. ⌜ r ≡ eqList (keyAt (now (w .entry)) p) (keyAt (now (w .entry)) q) ⌝ }
 {

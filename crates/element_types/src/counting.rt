@@ -7,7 +7,7 @@ ghost use lib.ListN.{length, take, drop};
 ghost use lib.Dec.{eqb};
 ghost use Rattle.spec.specs.Lists.{distinct, range};
 ghost use Rattle.spec.specs.Types.{typeCount};
-ghost use Rattle.ranked.specs.Words.{absIn};
+ghost use Rattle.ranked.specs.Words.{listsOf, absIn};
 ghost use Rattle.element_types.specs.State.{stateIn, Countable};
 
 // Counts the types of the n elements whose types stand from word `from`. They are numbered from 0 by first appearance, so there is one type more
@@ -29,18 +29,17 @@ fn types_in(words: &[u32], from: usize, n: usize) -> usize
     m
 }
 
-pub fn type_count(words: &[u32], low: usize, sh: Shape) -> usize
-    requires { ⌜ Countable sh low (now words) ⌝ }
-    ensures { λ n. ⌜ n ≡ typeCount (absIn sh (take low (now (words .entry)))) (stateIn sh low (now (words .entry))) ⌝ }
+pub fn type_count(words: &[u32], sh: Shape) -> usize
+    requires { ⌜ Countable sh (now words) ⌝ }
+    ensures { λ n. ⌜ n ≡ typeCount (absIn sh (listsOf sh (now (words .entry)))) (stateIn sh (now (words .entry))) ⌝ }
 {
     let rank = sh.rank;
     let mut n: usize = 0;
     let mut r: usize = 1;
     while r < rank {
-        let first = sh.first[r];
-        let next = sh.first[r + 1];
-        let k = types_in(words, low + first, next - first);
-        n += k;
+        let from = sh.types(r);
+        let size = sh.size(r);
+        n += types_in(words, from, size);
         r += 1;
     }
     n

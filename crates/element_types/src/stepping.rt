@@ -5,12 +5,11 @@ ghost use mathlib.Core.Path.{_≡_};
 ghost use Prim.Native.Nat.{_+_, _≤_, _<_};
 ghost use lib.ListN.{length, take};
 ghost use lib.Seq.{slice};
-ghost use Rattle.spec.specs.Lists.{renumber, eqList};
 ghost use Rattle.spec.specs.Types.{up, down, step};
-ghost use Rattle.ranked.specs.Words.{absIn};
+ghost use Rattle.ranked.specs.Words.{listsOf, absIn};
+ghost use Rattle.ranked.specs.Layout.{scratchAt};
 ghost use Rattle.element_types.specs.Runs.{over};
-ghost use Rattle.element_types.specs.Numbers.{Ready, keysTo};
-ghost use Rattle.element_types.specs.State.{stateIn, Steppable};
+ghost use Rattle.element_types.specs.State.{stateIn, Steppable, Stepping, steppedAt};
 
 // Copies n words from `from` to `to`, which lie apart.
 fn copy_down(words: &mut [u32], to: usize, from: usize, n: usize)
@@ -25,56 +24,37 @@ fn copy_down(words: &mut [u32], to: usize, from: usize, n: usize)
     }
 }
 
-// Makes the types of the n elements of a rank, which stand from word `from`, the numbers of their keys. The words from `out` hold the new numbers
-// until all are known.
-fn step_at(
-    words: &mut [u32],
-    low: usize,
-    lists: usize,
-    n: usize,
-    base: usize,
-    from: usize,
-    out: usize,
-)
-    requires { ⌜ Ready (now words) low lists n base from out ⌝ }
-    ensures { λ _. ⌜ take out (now (words .exit)) ≡ over (take out (now (words .entry))) from (from + n)
-        (renumber eqList (keysTo (now (words .entry)) low lists base from n)) ⌝ }
+// Makes the types of the elements of rank r the numbers of their keys. Element e's list is at word lists + 4 * e, and its neighbours' types stand
+// from word `base`. The free words hold the new numbers until all are known.
+fn step_at(words: &mut [u32], sh: Shape, r: usize, lists: usize, base: usize)
+    requires { ⌜ Stepping sh (now words) r lists base ⌝ }
+    ensures { λ _. ⌜ take (scratchAt sh) (now (words .exit)) ≡ steppedAt sh (now (words .entry)) r lists base ⌝ }
 {
-    number_rank(words, low, lists, n, base, from, out);
+    let n = sh.size(r);
+    let from = sh.types(r);
+    let out = sh.scratch();
+    number_rank(words, sh.low, lists, n, base, from, out);
     copy_down(words, from, out, n);
 }
 
 // "Step up at proper rank r": elements are told apart by their types and their subs' types.
-pub fn step_up(words: &mut [u32], low: usize, sh: Shape, r: usize)
-    requires { ⌜ Steppable sh low (now words) (up r) ⌝ }
-    ensures { λ _. ⌜ take low (now (words .exit)) ≡ take low (now (words .entry)) ⌝ }
-    ensures { λ _. ⌜ stateIn sh low (now (words .exit)) ≡ step (absIn sh (take low (now (words .entry)))) (stateIn sh low (now (words .entry))) (up r) ⌝ }
+pub fn step_up(words: &mut [u32], sh: Shape, r: usize)
+    requires { ⌜ Steppable sh (now words) (up r) ⌝ }
+    ensures { λ _. ⌜ listsOf sh (now (words .exit)) ≡ listsOf sh (now (words .entry)) ⌝ }
+    ensures { λ _. ⌜ stateIn sh (now (words .exit)) ≡ step (absIn sh (listsOf sh (now (words .entry)))) (stateIn sh (now (words .entry))) (up r) ⌝ }
 {
-    let rank = sh.rank;
-    let first = sh.first[r];
-    let n = sh.first[r + 1] - first;
-    let base = low + sh.first[r - 1];
-    let out = low + sh.first[rank + 1];
-    step_at(words, low, 4 * first, n, base, low + first, out);
+    let lists = sh.subs(r, 0);
+    let base = sh.types(r - 1);
+    step_at(words, sh, r, lists, base);
 }
 
 // "Step down: the same with sups and rank r+1": elements are told apart by their types and their sups' types.
-pub fn step_down(words: &mut [u32], low: usize, sh: Shape, r: usize)
-    requires { ⌜ Steppable sh low (now words) (down r) ⌝ }
-    ensures { λ _. ⌜ take low (now (words .exit)) ≡ take low (now (words .entry)) ⌝ }
-    ensures { λ _. ⌜ stateIn sh low (now (words .exit)) ≡ step (absIn sh (take low (now (words .entry)))) (stateIn sh low (now (words .entry))) (down r) ⌝ }
+pub fn step_down(words: &mut [u32], sh: Shape, r: usize)
+    requires { ⌜ Steppable sh (now words) (down r) ⌝ }
+    ensures { λ _. ⌜ listsOf sh (now (words .exit)) ≡ listsOf sh (now (words .entry)) ⌝ }
+    ensures { λ _. ⌜ stateIn sh (now (words .exit)) ≡ step (absIn sh (listsOf sh (now (words .entry)))) (stateIn sh (now (words .entry))) (down r) ⌝ }
 {
-    let rank = sh.rank;
-    let first = sh.first[r];
-    let next = sh.first[r + 1];
-    let out = low + sh.first[rank + 1];
-    step_at(
-        words,
-        low,
-        4 * first + 2,
-        next - first,
-        low + next,
-        low + first,
-        out,
-    );
+    let lists = sh.sups(r, 0);
+    let base = sh.types(r + 1);
+    step_at(words, sh, r, lists, base);
 }

@@ -3,43 +3,42 @@ use crate::stepping::step_down;
 use crate::stepping::step_up;
 use ranked::Shape;
 ghost use mathlib.Core.Path.{_≡_};
-ghost use lib.ListN.{take};
 ghost use Rattle.spec.specs.Types.{play, sweep};
-ghost use Rattle.ranked.specs.Words.{absIn};
+ghost use Rattle.ranked.specs.Words.{listsOf, absIn};
 ghost use Rattle.element_types.specs.State.{stateIn, Sweepable, ups, downs};
 
-fn sweep_up(words: &mut [u32], low: usize, sh: Shape)
-    requires { ⌜ Sweepable sh low (now words) ⌝ }
-    ensures { λ _. ⌜ take low (now (words .exit)) ≡ take low (now (words .entry)) ⌝ }
-    ensures { λ _. ⌜ stateIn sh low (now (words .exit)) ≡ play (absIn sh (take low (now (words .entry)))) (stateIn sh low (now (words .entry)))
+fn sweep_up(words: &mut [u32], sh: Shape)
+    requires { ⌜ Sweepable sh (now words) ⌝ }
+    ensures { λ _. ⌜ listsOf sh (now (words .exit)) ≡ listsOf sh (now (words .entry)) ⌝ }
+    ensures { λ _. ⌜ stateIn sh (now (words .exit)) ≡ play (absIn sh (listsOf sh (now (words .entry)))) (stateIn sh (now (words .entry)))
         (ups 1 (sh .rank)) ⌝ }
 {
     let rank = sh.rank;
     let mut r: usize = 1;
     while r < rank {
-        step_up(words, low, sh, r);
+        step_up(words, sh, r);
         r += 1;
     }
 }
 
-fn sweep_down(words: &mut [u32], low: usize, sh: Shape)
-    requires { ⌜ Sweepable sh low (now words) ⌝ }
-    ensures { λ _. ⌜ take low (now (words .exit)) ≡ take low (now (words .entry)) ⌝ }
-    ensures { λ _. ⌜ stateIn sh low (now (words .exit)) ≡ play (absIn sh (take low (now (words .entry)))) (stateIn sh low (now (words .entry)))
+fn sweep_down(words: &mut [u32], sh: Shape)
+    requires { ⌜ Sweepable sh (now words) ⌝ }
+    ensures { λ _. ⌜ listsOf sh (now (words .exit)) ≡ listsOf sh (now (words .entry)) ⌝ }
+    ensures { λ _. ⌜ stateIn sh (now (words .exit)) ≡ play (absIn sh (listsOf sh (now (words .entry)))) (stateIn sh (now (words .entry)))
         (downs (sh .rank)) ⌝ }
 {
     let mut r: usize = sh.rank;
     while 1 < r {
         r -= 1;
-        step_down(words, low, sh, r);
+        step_down(words, sh, r);
     }
 }
 
-pub fn sweep(words: &mut [u32], low: usize, sh: Shape)
-    requires { ⌜ Sweepable sh low (now words) ⌝ }
-    ensures { λ _. ⌜ take low (now (words .exit)) ≡ take low (now (words .entry)) ⌝ }
-    ensures { λ _. ⌜ stateIn sh low (now (words .exit)) ≡ sweep (absIn sh (take low (now (words .entry)))) (stateIn sh low (now (words .entry))) ⌝ }
+pub fn sweep(words: &mut [u32], sh: Shape)
+    requires { ⌜ Sweepable sh (now words) ⌝ }
+    ensures { λ _. ⌜ listsOf sh (now (words .exit)) ≡ listsOf sh (now (words .entry)) ⌝ }
+    ensures { λ _. ⌜ stateIn sh (now (words .exit)) ≡ sweep (absIn sh (listsOf sh (now (words .entry)))) (stateIn sh (now (words .entry))) ⌝ }
 {
-    sweep_up(words, low, sh);
-    sweep_down(words, low, sh);
+    sweep_up(words, sh);
+    sweep_down(words, sh);
 }

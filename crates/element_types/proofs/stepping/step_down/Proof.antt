@@ -2,7 +2,7 @@
 -- Assumes nothing.
 use borrow.Author.Needs.{needs}
 use native.Mathlib.Omega.{arith}
-use Rattle.element_types.proofs.States.{down-fits, down-ready, down-stepped}
+use Rattle.element_types.proofs.States.{down-starts, down-ready, down-stepped}
 use Rattle.element_types.proofs.stepping.step_down.Statement.{statement}
 use Rattle.element_types.proofs.stepping.step_down.Tie as tie
 
@@ -10,37 +10,16 @@ pub step-down-spec : {M : Type 1} → statement M
 step-down-spec =
     tie.close
     (tie.spec
-    -- The need is mul-first.
+    -- The needs are sups-requires, add-types and types-requires.
+    (λ c κs. (search needs, omega (arith, down-starts _ _ _ (c .before .pre))))
     (λ c. search needs)
-    -- The need is element-copy-out-first.
+    (λ c κs. (search needs, omega (arith, down-starts _ _ _ (c .before .before .pre))))
+    -- The needs are step-at-requires, same-length and returns.
+    (λ c κs. let t = c .before in
+    let l = t .before in
+    down-ready _ _ _ (l .before .before .pre) _ _ (l .sups .ensures) (t .types .ensures))
     (λ c. search needs)
-    -- The need is add-next.
-    (λ c. search needs)
-    -- The need is mul-next.
-    (λ c. search needs)
-    -- The need is element-copy-out-next.
-    (λ c. search needs)
-    -- The need is add-out.
-    (λ c. search needs)
-    -- The need is mul-out.
-    (λ c. search needs)
-    -- The need is element-copy-out-out.
-    (λ c. search needs)
-    -- The need is add-out-2.
-    (λ c. omega (arith, down-fits _ _ _ _ (c .before .before .before .before .pre)))
-    -- The need is mul-step-at.
-    (λ c. omega (arith, down-fits _ _ _ _ (c .before .before .before .before .before .pre)))
-    -- The need is add-step-at.
-    (λ c. omega (arith, down-fits _ _ _ _ (c .before .before .before .before .before .pre)))
-    -- The need is sub-step-at.
-    (λ c. down-fits _ _ _ _ (c .before .before .before .before .before .pre) .0)
-    -- The need is add-step-at-2.
-    (λ c. omega (arith, down-fits _ _ _ _ (c .before .before .before .before .before .pre)))
-    -- The need is add-step-at-3.
-    (λ c. omega (arith, down-fits _ _ _ _ (c .before .before .before .before .before .pre)))
-    -- The need is step-at-requires.
-    (λ c κs. down-ready _ _ _ _ (c .before .before .before .before .before .pre))
-    -- The need is same-length.
-    (λ c. search needs)
-    -- The need is returns.
-    (λ c. down-stepped _ _ _ _ (c .before .before .before .before .before .before .before .before .pre) _ (c .before .before .step-at .ensures)))
+    (λ c. let s = c .before .before in
+    let t = s .before .before in
+    let l = t .before in
+    down-stepped _ _ _ (l .before .before .pre) _ _ (l .sups .ensures) (t .types .ensures) _ (s .step-at .ensures)))

@@ -11,8 +11,8 @@ sweep-spec =
     (tie.spec
     -- The needs are sweep-up-requires, sweep-down-requires, same-length and returns.
     (λ c κs. search needs)
-    (λ c κs. let u = c .before .before .before in sweepable-kept _ _ _ _ (u .sweep-up .kept .0) (u .sweep-up .ensures .0) (u .before .before .before .pre))
+    (λ c κs. let u = c .before .before .before in sweepable-kept _ _ _ (u .sweep-up .kept .0) (u .sweep-up .ensures .0) (u .before .before .before .pre))
     (λ c. search needs)
     (λ c. let d = c .before .before in
     let u = d .before .before .before .before in
-    both _ _ _ _ (u .sweep-up .ensures .0) (u .sweep-up .ensures .1) _ (d .sweep-down .ensures .0) (d .sweep-down .ensures .1)))
+    both _ _ _ (u .sweep-up .ensures .0) (u .sweep-up .ensures .1) _ (d .sweep-down .ensures .0) (d .sweep-down .ensures .1)))
