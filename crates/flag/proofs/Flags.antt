@@ -4,7 +4,7 @@ use mathlib.Core.Path.{_≡_, refl, sym, _∙_, ap}
 use mathlib.Core.Bool.{Bool, true, false, not}
 use mathlib.Core.Option.{none, some}
 use mathlib.Core.List.{List, [], _∷_, _++_, append-assoc, append-nil}
-use Prim.Native.Nat.{ℕ, zero, suc, _+_, _-_, _*_, _≤_, _<_}
+use Prim.Native.Nat.{ℕ, zero, suc, _+_, _-_, _≤_, _<_}
 use native.Mathlib.Numerals.{add-one, sub-one}
 use native.Mathlib.Omega.{arith}
 use native.Mathlib.Decide.{ℕ-discrete}
@@ -12,16 +12,15 @@ use lib.ListN.{length, getD, set, take, drop, length-set, drop-of-length-le}
 use lib.Seq.{drop-cons, drop-set-lt, take-set-lt, getD-take, getD-set-same}
 use lib.Dec.{eqb}
 use borrow.Author.Tests.{eq-eqb, ne-eqb}
+use Rattle.spec.specs.Limits.{maxRank}
 use Rattle.spec.specs.Lists.{keep}
 use Rattle.spec.specs.Types.{subs}
 use Rattle.spec.specs.Solid.{between}
 use Rattle.spec.specs.Flags.{IsFlag, elementAt, firstTo, firstFlag, other, change}
 use Rattle.laws.proofs.Lists.{in-getD}
 use Rattle.ranked.specs.declared.Shape.{Shape}
-use Rattle.ranked.specs.Words.{firstAt, sizeAt, absIn, Held}
-use Rattle.ranked.specs.Reading.{subsWord, holding}
+use Rattle.ranked.specs.Words.{sizeAt, absIn, Held}
 use Rattle.ranked.proofs.Solids.{top-is, size-is, sub-in}
-use Rattle.ranked.proofs.Judged.{down-is}
 use Rattle.flag.specs.Reading.{firstIn, otherIn}
 
 -- ---- the first flag
@@ -42,7 +41,7 @@ pub record Down (sh : Shape) (w goal els : List ℕ) (r e : ℕ) : Type 0 where
   pub low : r ≤ sh .rank
   pub inside : e < sizeAt sh r
   pub here : getD els r 0 ≡ e
-  pub long : length els ≡ 6
+  pub long : length els ≡ suc maxRank
   pub done : firstTo (absIn sh w) r e ++ take (sh .rank - r) (drop (suc r) els) ≡ goal
 
 module _ (sh : Shape) (w : List ℕ) (h : Held sh w) where
@@ -139,16 +138,11 @@ module _ (e : ℕ) (l : List ℕ) where
 
 -- ---- a change
 
-between-is : (sh : Shape) (w : List ℕ) → Held sh w → (g r x : ℕ) → 0 < r → r < sh .rank → g < sizeAt sh (suc r)
-    → holding w (subsWord (firstAt sh (suc r)) g) (4 * (firstAt sh r + 0)) x ≡ between (absIn sh w) r g x
-between-is sh w h g zero x a b k = absurd (omega arith)
-between-is sh w h g (suc q) x a b k = let z : 4 * (firstAt sh (suc q) + 0) ≡ 4 * firstAt sh (suc q) = omega arith in rw z (down-is sh w h q b g k x)
-
-pub changed : (sh : Shape) (w : List ℕ) → Held sh w → (els : List ℕ) (r : ℕ) → 0 < r → r < sh .rank → getD els (suc r) 0 < sizeAt sh (suc r)
-    → (e : ℕ) → e ≡ other (getD els r 0) (holding w (subsWord (firstAt sh (suc r)) (getD els (suc r) 0)) (4 * (firstAt sh r + 0)) (getD els (r - 1) 0))
+pub changed : (sh : Shape) (w els : List ℕ) (r : ℕ) → 0 < r → r < sh .rank
+    → (e : ℕ) → e ≡ other (getD els r 0) (between (absIn sh w) r (getD els (suc r) 0) (getD els (r - 1) 0))
     → take (suc (sh .rank)) (set els r e) ≡ change (absIn sh w) r (take (suc (sh .rank)) els)
 unfolding change
-changed sh w h els r a b k e q =
+changed sh w els r a b e q =
     let n = suc (sh .rank) in
     rw (
       take-set-lt n els r e (omega arith),
@@ -156,7 +150,6 @@ changed sh w h els r a b k e q =
       getD-take n els (suc r) 0 (omega arith),
       ← sub-one r,
       getD-take n els (r - 1) 0 (omega arith),
-      ← between-is sh w h (getD els (suc r) 0) r (getD els (r - 1) 0) a b k,
       q,
     ) refl
 

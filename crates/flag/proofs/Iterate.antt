@@ -9,8 +9,9 @@ use native.Mathlib.Omega.{arith}
 use lib.ListN.{length, getD, set, take, drop}
 use lib.Seq.{take-suc, drop-set-lt, getD-take, getD-set-same}
 use lib.Dec.{eqb}
+use Rattle.spec.specs.Limits.{maxRank}
 use Rattle.spec.specs.Lists.{In, place}
-use Rattle.spec.specs.Types.{Solid, top, size, subs}
+use Rattle.spec.specs.Types.{Solid, size, subs}
 use Rattle.spec.specs.Flags.{Flag, IsFlag, elementAt, firstTo, flagsTo, flags}
 use Rattle.laws.proofs.Lists.{in-getD}
 use Rattle.ranked.specs.declared.Shape.{Shape}
@@ -28,8 +29,8 @@ module _ (sh : Shape) (w : List ℕ) (h : Held sh w) (els : List ℕ) (r : ℕ) 
   above-at : subsWord (firstAt sh (r + 1)) (getD els (r + 1) 0) ≡ subsWord (firstAt sh (suc r)) (getD els (suc r) 0)
   above-at = rw (add-one r) refl
 
-  pub word-fits : 4 * (firstAt sh (r + 1) + getD els (r + 1) 0) + 2 ≤ length w + 2
-  word-fits = omega (arith, above-at, subs-lie sh w h (suc r) (getD els (suc r) 0) b up .head)
+  pub word-fits : (r + 1 ≤ suc maxRank) × (subsWord (firstAt sh (r + 1)) (getD els (r + 1) 0) < length w)
+  word-fits = (omega (arith, h .tall, b), omega (arith, above-at, subs-lie sh w h (suc r) (getD els (suc r) 0) b up .head))
 
   -- The list that the element at r moves on in stands at word i.
   module _ (i : ℕ) (word : i ≡ 4 * (firstAt sh (r + 1) + getD els (r + 1) 0)) where
@@ -46,7 +47,7 @@ module _ (sh : Shape) (w : List ℕ) (h : Held sh w) (els : List ℕ) (r : ℕ) 
       next-is : k + 1 ≡ nextPlace (absIn sh w) els r
       next-is = rw (add-one k) (ap suc (at ∙ ap (place eqb (getD els r 0)) listed))
 
-      module _ (x : ℕ) (is : x ≡ getD (listAt w i) (k + 1) 0) (more : k + 1 < n) (long : length els ≡ 6) where
+      module _ (x : ℕ) (is : x ≡ getD (listAt w i) (k + 1) 0) (more : k + 1 < n) (long : length els ≡ suc maxRank) where
         set-is : getD (set els r x) r 0 ≡ x
         set-is = getD-set-same els r x 0 (omega (arith, h .tall, long, b))
 
@@ -69,7 +70,7 @@ module _ (sh : Shape) (w : List ℕ) (h : Held sh w) (els : List ℕ) (r : ℕ) 
 
 -- ---- the loop over the ranks
 
-module _ (sh : Shape) (w : List ℕ) (h : Held sh w) (els : List ℕ) (long : length els ≡ 6) (f : IsFlag (absIn sh w) (take (suc (sh .rank)) els)) where
+module _ (sh : Shape) (w : List ℕ) (h : Held sh w) (els : List ℕ) (long : length els ≡ suc maxRank) (f : IsFlag (absIn sh w) (take (suc (sh .rank)) els)) where
   abbrev s : Solid
   s = absIn sh w
 

@@ -13,7 +13,7 @@ use lib.Seq.{take-suc, drop-cons}
 use lib.Dec.{eqb}
 use borrow.Author.Tests.{eq-eqb, ne-eqb}
 use Rattle.spec.specs.Lists.{In, place}
-use Rattle.spec.specs.Types.{Solid, top, size, subs}
+use Rattle.spec.specs.Types.{Solid, size, subs}
 use Rattle.spec.specs.Demand.{Sound}
 use Rattle.spec.specs.Flags.{Flag, firstTo, flagsTo}
 use Rattle.flag.proofs.Order.{Last, After, starts-to, after-up, last-up, cross-up}

@@ -7,12 +7,16 @@ ghost use lib.ListN.{getD, take, drop};
 ghost use lib.Dec.{eqb};
 ghost use Rattle.spec.specs.Lists.{place};
 ghost use Rattle.spec.specs.Types.{subs};
+ghost use Rattle.spec.specs.Solid.{between};
 ghost use Rattle.spec.specs.Flags.{IsFlag, firstTo, firstFlag, change};
 ghost use Rattle.ranked.specs.Words.{sizeAt, listAt, absIn, Held};
-ghost use Rattle.ranked.specs.Reading.{Lies, Each, holding, Fork};
+ghost use Rattle.ranked.specs.Reading.{Lies, Each, holding};
 ghost use Rattle.flag.specs.Reading.{flagIn, otherIn, otherOf, moreOf, Follows, Moved};
 use ranked::Shape;
-use ranked::lists;
+use ranked::lists::count_at;
+use ranked::lists::entry_at;
+use ranked::lists::holds_at;
+use ranked::lists::sub;
 use spec::MAX_RANK;
 
 // The largest solid has this many ranks, which are 0 to the greatest R.
@@ -43,27 +47,27 @@ enum Other {
 }
 
 // Returns the first sub of element e of rank r.
-fn first_sub(w: &[u32], sh: Shape, r: usize, e: usize) -> usize
-    requires { ⌜ Held sh (now w) ⌝ }
+fn first_sub(lists: &[u32], sh: Shape, r: usize, e: usize) -> usize
+    requires { ⌜ Held sh (now lists) ⌝ }
     requires { ⌜ (0 < r) × (r ≤ sh .rank) × (e < sizeAt sh r) ⌝ }
-    ensures { λ f. ⌜ f ≡ getD (subs (absIn sh (now (w .entry))) r e) 0 0 ⌝ }
+    ensures { λ f. ⌜ f ≡ getD (subs (absIn sh (now (lists .entry))) r e) 0 0 ⌝ }
 {
-    lists::sub(w, sh, r, e, 0)
+    sub(lists, sh, r, e, 0)
 }
 
-// Returns the first entry y of the list at word i, other than e, that has x in its list at word base + 4 * y.
-fn other_at(w: &[u32], i: usize, base: usize, x: usize, e: usize) -> Other
-    requires { ⌜ Lies (now w) i ⌝ }
-    requires { ⌜ Each (now w) i base ⌝ }
-    ensures { λ res. ⌜ otherOf res ≡ otherIn e (holding (now (w .entry)) i base x) ⌝ }
+// Returns the first entry y of the list at a word, other than e, that has x in its list at word base + 4 * y.
+fn other_at(lists: &[u32], word: usize, base: usize, x: usize, e: usize) -> Other
+    requires { ⌜ Lies (now lists) word ⌝ }
+    requires { ⌜ Each (now lists) word base ⌝ }
+    ensures { λ res. ⌜ otherOf res ≡ otherIn e (holding (now (lists .entry)) word base x) ⌝ }
 {
-    let n = lists::count_at(w, i);
+    let n = count_at(lists, word);
     let mut k: usize = 0;
     while k < n {
-        let y = lists::entry_at(w, i, k);
+        let y = entry_at(lists, word, k);
         k += 1;
         if y != e {
-            if lists::holds_at(w, base + 4 * y, x) {
+            if holds_at(lists, base + 4 * y, x) {
                 return Other::Element(y);
             }
         }
@@ -71,46 +75,49 @@ fn other_at(w: &[u32], i: usize, base: usize, x: usize, e: usize) -> Other
     Other::Nothing
 }
 
-// Returns the first element other than e between g, whose subs are at word i, and h, whose sups are at word j. The shorter of the two lists is gone
+// Returns the first element of rank r, other than e, between g of the rank above and h of the rank below. The shorter of g's subs and h's sups is gone
 // through, which for a ridge with two sups below a top with many subs is that of the sups.
-fn other_between(w: &[u32], i: usize, j: usize, base: usize, g: usize, h: usize, e: usize) -> Other
-    requires { ⌜ Fork (now w) i j base g h ⌝ }
-    ensures { λ res. ⌜ otherOf res ≡ otherIn e (holding (now (w .entry)) i base h) ⌝ }
+fn other_between(lists: &[u32], sh: Shape, r: usize, g: usize, h: usize, e: usize) -> Other
+    requires { ⌜ Held sh (now lists) ⌝ }
+    requires { ⌜ (0 < r) × (r < sh .rank) × (g < sizeAt sh (suc r)) × (h < sizeAt sh (r - 1)) ⌝ }
+    ensures { λ res. ⌜ otherOf res ≡ otherIn e (between (absIn sh (now (lists .entry))) r g h) ⌝ }
 {
-    if lists::count_at(w, i) <= lists::count_at(w, j) {
-        other_at(w, i, base, h, e)
+    let above = sh.subs(r + 1, g);
+    let below = sh.sups(r - 1, h);
+    if count_at(lists, above) <= count_at(lists, below) {
+        other_at(lists, above, sh.subs(r, 0), h, e)
     } else {
-        other_at(w, j, base + 2, g, e)
+        other_at(lists, below, sh.sups(r, 0), g, e)
     }
 }
 
 // Returns the elements as they are at rank `from` and above, with first subs below it.
-fn down(w: &[u32], sh: Shape, start: [usize; RANKS], from: usize) -> [usize; RANKS]
-    requires { ⌜ Held sh (now w) ⌝ }
+fn down(lists: &[u32], sh: Shape, start: [usize; RANKS], from: usize) -> [usize; RANKS]
+    requires { ⌜ Held sh (now lists) ⌝ }
     requires { ⌜ (from ≤ sh .rank) × (getD start from 0 < sizeAt sh from) ⌝ }
     ensures { λ res. ⌜ take (suc (sh .rank)) res
-        ≡ firstTo (absIn sh (now (w .entry))) from (getD start from 0) ++ take (sh .rank - from) (drop (suc from) start) ⌝ }
+        ≡ firstTo (absIn sh (now (lists .entry))) from (getD start from 0) ++ take (sh .rank - from) (drop (suc from) start) ⌝ }
 {
     let mut elements = start;
     let mut e = start[from];
     let mut r = from;
     while 0 < r {
-        e = first_sub(w, sh, r, e);
+        e = first_sub(lists, sh, r, e);
         r -= 1;
         elements[r] = e;
     }
     elements
 }
 
-// Counts the entries of the list at word i that stand before x, which is the length of the list where x is absent.
-fn place_at(w: &[u32], i: usize, x: usize) -> usize
-    requires { ⌜ Lies (now w) i ⌝ }
-    ensures { λ res. ⌜ res ≡ place eqb x (listAt (now (w .entry)) i) ⌝ }
+// Counts the entries of the list at a word that stand before x, which is the length of the list where x is absent.
+fn place_at(lists: &[u32], word: usize, x: usize) -> usize
+    requires { ⌜ Lies (now lists) word ⌝ }
+    ensures { λ res. ⌜ res ≡ place eqb x (listAt (now (lists .entry)) word) ⌝ }
 {
-    let n = lists::count_at(w, i);
+    let n = count_at(lists, word);
     let mut k: usize = 0;
     while k < n {
-        if lists::entry_at(w, i, k) == x {
+        if entry_at(lists, word, k) == x {
             return k;
         }
         k += 1;
@@ -120,19 +127,18 @@ fn place_at(w: &[u32], i: usize, x: usize) -> usize
 
 // Returns the flag in which the element at rank r has moved on to the next sub of the one above, with first subs below it. Where that element is the
 // last sub, the answer is `Ended`.
-fn moved_at(w: &[u32], sh: Shape, elements: [usize; RANKS], r: usize) -> Next
-    requires { ⌜ Held sh (now w) ⌝ }
+fn moved_at(lists: &[u32], sh: Shape, elements: [usize; RANKS], r: usize) -> Next
+    requires { ⌜ Held sh (now lists) ⌝ }
     requires { ⌜ (r < sh .rank) × (getD elements (suc r) 0 < sizeAt sh (suc r)) ⌝ }
-    ensures { λ res. ⌜ Moved (absIn sh (now (w .entry))) (sh .rank) elements r (moreOf (res .advance)) (res .flag .elements) ⌝ }
+    ensures { λ res. ⌜ Moved (absIn sh (now (lists .entry))) (sh .rank) elements r (moreOf (res .advance)) (res .flag .elements) ⌝ }
 {
-    let first = sh.first;
-    let i = lists::subs_at(first[r + 1], elements[r + 1]);
-    let n = lists::count_at(w, i);
-    let k = place_at(w, i, elements[r]);
+    let above = sh.subs(r + 1, elements[r + 1]);
+    let n = count_at(lists, above);
+    let k = place_at(lists, above, elements[r]);
     if k + 1 < n {
         let mut moved = elements;
-        moved[r] = lists::entry_at(w, i, k + 1);
-        let lower = down(w, sh, moved, r);
+        moved[r] = entry_at(lists, above, k + 1);
+        let lower = down(lists, sh, moved, r);
         return Next {
             advance: Advance::More,
             flag: Flag { elements: lower },
@@ -146,34 +152,28 @@ fn moved_at(w: &[u32], sh: Shape, elements: [usize; RANKS], r: usize) -> Next
 
 impl Flag {
     // "`first_flag` takes the first sub at each rank, from the top down."
-    pub fn first(w: &[u32], sh: Shape) -> Flag
-        requires { ⌜ Held sh (now w) ⌝ }
-        ensures { λ res. ⌜ flagIn (sh .rank) res ≡ firstFlag (absIn sh (now (w .entry))) ⌝ }
+    pub fn first(lists: &[u32], sh: Shape) -> Flag
+        requires { ⌜ Held sh (now lists) ⌝ }
+        ensures { λ res. ⌜ flagIn (sh .rank) res ≡ firstFlag (absIn sh (now (lists .entry))) ⌝ }
     {
         let elements = [0usize; RANKS];
         let rank = sh.rank;
         Flag {
-            elements: down(w, sh, elements, rank),
+            elements: down(lists, sh, elements, rank),
         }
     }
 
     // "A change at r gives the other of the two elements between its neighbours."
-    pub fn change(self, w: &[u32], sh: Shape, r: usize) -> Flag
-        requires { ⌜ Held sh (now w) ⌝ }
+    pub fn change(self, lists: &[u32], sh: Shape, r: usize) -> Flag
+        requires { ⌜ Held sh (now lists) ⌝ }
         requires { ⌜ (0 < r) × (r < sh .rank) ⌝ }
         requires { ⌜ getD (self .elements) (suc r) 0 < sizeAt sh (suc r) ⌝ }
         requires { ⌜ getD (self .elements) (r - 1) 0 < sizeAt sh (r - 1) ⌝ }
-        ensures { λ res. ⌜ flagIn (sh .rank) res ≡ change (absIn sh (now (w .entry))) r (flagIn (sh .rank) self) ⌝ }
+        ensures { λ res. ⌜ flagIn (sh .rank) res ≡ change (absIn sh (now (lists .entry))) r (flagIn (sh .rank) self) ⌝ }
     {
-        let first = sh.first;
         let mut elements = self.elements;
-        let g = elements[r + 1];
-        let h = elements[r - 1];
-        let above = lists::subs_at(first[r + 1], g);
-        let below = lists::sups_at(first[r - 1], h);
-        let base = lists::subs_at(first[r], 0);
         let e = elements[r];
-        let found = other_between(w, above, below, base, g, h, e);
+        let found = other_between(lists, sh, r, elements[r + 1], elements[r - 1], e);
         let other = match found {
             Other::Element(y) => y,
             Other::Nothing => e,
@@ -183,16 +183,16 @@ impl Flag {
     }
 
     // Returns the flag after this one: "The iterator gives every flag once, the sub at rank 1 moving fastest."
-    pub fn next(self, w: &[u32], sh: Shape) -> Next
-        requires { ⌜ Held sh (now w) ⌝ }
-        requires { ⌜ IsFlag (absIn sh (now w)) (flagIn (sh .rank) self) ⌝ }
-        ensures { λ res. ⌜ Follows (absIn sh (now (w .entry))) (flagIn (sh .rank) self) (moreOf (res .advance)) (flagIn (sh .rank) (res .flag)) ⌝ }
+    pub fn next(self, lists: &[u32], sh: Shape) -> Next
+        requires { ⌜ Held sh (now lists) ⌝ }
+        requires { ⌜ IsFlag (absIn sh (now lists)) (flagIn (sh .rank) self) ⌝ }
+        ensures { λ res. ⌜ Follows (absIn sh (now (lists .entry))) (flagIn (sh .rank) self) (moreOf (res .advance)) (flagIn (sh .rank) (res .flag)) ⌝ }
     {
         let elements = self.elements;
         let rank = sh.rank;
         let mut r: usize = 0;
         while r < rank {
-            let t = moved_at(w, sh, elements, r);
+            let t = moved_at(lists, sh, elements, r);
             let advance = t.advance;
             match advance {
                 Advance::More => {

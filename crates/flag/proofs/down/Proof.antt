@@ -2,7 +2,7 @@
 -- Assumes nothing.
 use borrow.Author.Needs.{needs}
 use native.Mathlib.Omega.{arith}
-use mathlib.Core.Path.{_≡_, refl}
+use mathlib.Core.Path.{refl}
 use mathlib.Core.List.{_++_}
 use Prim.Native.Nat.{suc, _-_}
 use lib.ListN.{getD, take, drop}
@@ -34,6 +34,6 @@ down-spec =
     -- The needs are loop-less, loop-again and returns.
     (λ c. omega (arith, c .before .loop-test .taken))
     (λ c. let l = c .before .before .loop in let s = c .before .before .before .before in let a = s .args in
-    next-down (a .sh) (a .w .now) (s .pre .0) _ (l .elements) (l .r) (l .e) (l .inv) (c .before .loop-test .taken) (c .first-sub .result) (c .first-sub .ensures))
+    next-down (a .sh) (a .lists .now) (s .pre .0) _ (l .elements) (l .r) (l .e) (l .inv) (c .before .loop-test .taken) (c .first-sub .result) (c .first-sub .ensures))
     (λ c. let l = c .before .loop in let s = c .before .before .before in let a = s .args in
-    last-down (a .sh) (a .w .now) (s .pre .0) _ (l .elements) (l .r) (l .e) (l .inv) (c .loop-test .left)))
+    last-down (a .sh) (a .lists .now) (s .pre .0) _ (l .elements) (l .r) (l .e) (l .inv) (c .loop-test .left)))

@@ -11,5 +11,5 @@ first-sub-spec =
     (tie.spec
     -- The needs are sub-requires and returns.
     (λ c κs. let s = c .before in let a = s .args in
-    (s .pre .0, (s .pre .1 .1, s .pre .1 .2, some-sub (a .sh) (a .w .now) (s .pre .0) (a .r) (a .e) (s .pre .1 .0) (s .pre .1 .1) (s .pre .1 .2))))
+    (s .pre .0, (s .pre .1 .1, s .pre .1 .2, some-sub (a .sh) (a .lists .now) (s .pre .0) (a .r) (a .e) (s .pre .1 .0) (s .pre .1 .1) (s .pre .1 .2))))
     (λ c. search needs))

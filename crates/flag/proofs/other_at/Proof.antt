@@ -22,18 +22,18 @@ abbrev p : List ℕ → ℕ → ℕ → ℕ → Bool
 p w base x y = holds eqb x (listAt w (base + 4 * y))
 
 abbrev Inv : tie.InvT-loop
-Inv w i base x e n k₀ k = (k ≤ n) × (n ≡ length (listAt w i)) × OtherFrom e (p w base x) (listAt w i) k
+Inv w word base x e n k₀ k = (k ≤ n) × (n ≡ length (listAt w word)) × OtherFrom e (p w base x) (listAt w word) k
 
 abbrev μ : tie.MeasureT-loop
-μ w i base x e n k₀ k = n - k
+μ w word base x e n k₀ k = n - k
 
 -- The entry's list lies within the words.
-lies : (c : tie.After-entry-at Inv μ) → let a = c .before .before .before .before .before .args in Lies (a .w .now) (a .base + 4 * c .entry-at .result)
+lies : (c : tie.After-entry-at Inv μ) → let a = c .before .before .before .before .before .args in Lies (a .lists .now) (a .base + 4 * c .entry-at .result)
 lies c =
     let l = c .before .before in
     let s = l .before .before .before in
     let a = s .args in
-    s .pre .1 (c .entry-at .result) (entry-in (listAt (a .w .now) (a .i)) (l .loop .k) _ (omega (arith, c .before .loop-test .taken, l .loop .inv .1)) (c .entry-at .ensures))
+    s .pre .1 (c .entry-at .result) (entry-in (listAt (a .lists .now) (a .word)) (l .loop .k) _ (omega (arith, c .before .loop-test .taken, l .loop .inv .1)) (c .entry-at .ensures))
 
 pub other-at-spec : {M : Type 1} → statement M
 unfolding holding otherOf

@@ -2,7 +2,7 @@
 -- Assumes nothing.
 use borrow.Author.Needs.{needs}
 use native.Mathlib.Omega.{arith}
-use mathlib.Core.Path.{_≡_, refl, sym, _∙_}
+use mathlib.Core.Path.{_≡_, sym, _∙_}
 use Prim.Native.Nat.{_≤_, _-_}
 use lib.ListN.{length}
 use Rattle.ranked.specs.Words.{listAt}
@@ -11,10 +11,10 @@ use Rattle.flag.proofs.place_at.Statement.{statement}
 use Rattle.flag.proofs.place_at.Tie as tie
 
 abbrev Inv : tie.InvT-loop
-Inv w i x n k₀ k = (k ≤ n) × (n ≡ length (listAt w i)) × Place x (listAt w i) k
+Inv w word x n k₀ k = (k ≤ n) × (n ≡ length (listAt w word)) × Place x (listAt w word) k
 
 abbrev μ : tie.MeasureT-loop
-μ w i x n k₀ k = n - k
+μ w word x n k₀ k = n - k
 
 pub place-at-spec : {M : Type 1} → statement M
 place-at-spec =
