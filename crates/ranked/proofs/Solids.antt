@@ -1,8 +1,9 @@
 -- This file goes from words to the solid that they hold, with one law each for lists, subs, sups, sizes and the top.
 -- Assumes nothing.
 use mathlib.Core.Path.{_≡_, sym, _∙_, ap}
+use mathlib.Core.Logic.{_⊎_, inl, inr}
 use mathlib.Core.List.{List, [], map}
-use Prim.Native.Nat.{ℕ, zero, suc, _+_, _-_, _≤_, _<_}
+use Prim.Native.Nat.{ℕ, suc, _+_, _*_, _≤_, _<_}
 use native.Mathlib.Omega.{arith}
 use native.Mathlib.Numerals.{add-one}
 use lib.ListN.{length, getD, length-take, length-drop, List·getD-eq-default}
@@ -12,8 +13,11 @@ use Rattle.spec.specs.Types.{top, size, subs, sups}
 use Rattle.laws.proofs.Lists.{getD-table, length-table}
 use Rattle.ranked.specs.declared.Shape.{Shape}
 use Rattle.ranked.specs.Words.{firstAt, sizeAt, total, listAt, subsIn, supsIn, absIn, Inside, Held}
+use Rattle.ranked.specs.Layout.{coordinates}
 use Rattle.ranked.specs.Reading.{Lies, subsWord, supsWord}
 use Rattle.ranked.proofs.Between.{sup-means}
+use Rattle.ranked.proofs.store.Pairs.{lt-or-le}
+use Rattle.ranked.proofs.store.Places.{first-rises}
 
 -- ---- a list
 
@@ -53,14 +57,25 @@ module _ (sh : Shape) (w : List ℕ) where
   subs-is r e h k = ap (λ (l : List (List ℕ)). getD l e []) (rank-is r h) ∙ getD-table (subsIn sh w r) [] (sizeAt sh r) e k
 
 module _ (sh : Shape) (w : List ℕ) (h : Held sh w) where
-  -- The ranks up to r, and so the top's, lie one after another.
-  below-total : (n r : ℕ) → r + n ≡ sh .rank → firstAt sh (suc r) ≤ total sh
-  below-total zero r e = let q : suc r ≡ suc (sh .rank) = omega arith in rw q (omega arith)
-  below-total (suc n) r e = omega (arith, below-total n (suc r) (omega arith), h .some (suc r) (omega arith))
+  -- A rank above the top has no elements, in the solid and by its starts.
+  pub sizes-are : (r : ℕ) → size (absIn sh w) r ≡ sizeAt sh r
+  sizes-are r = go (lt-or-le (sh .rank) r)
+    where
+      go : (sh .rank < r) ⊎ (r ≤ sh .rank) → size (absIn sh w) r ≡ sizeAt sh r
+      go (inr q) = size-is sh w r q
+      go (inl q) = omega (arith, size-past sh w r q, h .rest (suc r) (omega arith))
+
+  -- The coordinates take as many floats as the solid's vertices need.
+  pub coordinates-are : size (absIn sh w) 1 * sh .dimension ≡ coordinates sh
+  coordinates-are = ap (λ (n : ℕ). n * sh .dimension) (sizes-are 1)
+
+  -- The ranks lie one after another.
+  pub in-order : (a b : ℕ) → a ≤ b → b ≤ suc (sh .rank) → firstAt sh a ≤ firstAt sh b
+  in-order = first-rises sh (h .some)
 
   -- An element's number over all ranks is below the number of all elements.
   pub number-in : (r e : ℕ) → r ≤ sh .rank → e < sizeAt sh r → firstAt sh r + e < total sh
-  number-in r e q k = omega (arith, below-total (sh .rank - r) r (omega arith))
+  number-in r e q k = omega (arith, in-order (suc r) (suc (sh .rank)) (omega arith) (omega arith))
 
   pub subs-lie : (r e : ℕ) → r ≤ sh .rank → e < sizeAt sh r → Lies w (subsWord (firstAt sh r) e)
   subs-lie r e q k =

@@ -53,6 +53,8 @@ pub record Held (sh : Shape) (w : List ℕ) : Type 0 where
   pub start : firstAt sh 0 ≡ 0
   pub some : (r : ℕ) → r ≤ sh .rank → firstAt sh r < firstAt sh (suc r)
   pub few : (r : ℕ) → r ≤ sh .rank → sizeAt sh r ≤ maxCount
+  -- The ranks above the top have no start.
+  pub rest : (r : ℕ) → suc (sh .rank) < r → firstAt sh r ≡ 0
   -- The starts and lengths stand in the words, and so do the lists.
   pub room : 4 * total sh ≤ length w
   pub subs-inside : (g : ℕ) → g < total sh → Inside w (4 * g)

@@ -31,6 +31,7 @@ use Rattle.ranked.specs.declared.preflight.Ready.{Ready}
 use Rattle.ranked.specs.Words.{listsOf, absIn}
 use Rattle.ranked.specs.Store.{parsedOf, shapeOf, said, Kept}
 use Rattle.ranked.specs.Preflight.{verdictOf, unreadyOf, readyOf, checksOf, Placed, Settled, Preflighted}
+use Rattle.ranked.proofs.Solids.{sizes-are}
 use Rattle.ranked.proofs.store.Reading.{allowed}
 use Rattle.ranked.proofs.store.Whole.{room-in}
 
@@ -201,7 +202,7 @@ module _ (b : List ℕ) (n m : ℕ) (r : Ready) (ws : List ℕ) (fs : List Float
             words = rw (here, same-words) (space .0);
             floats = rw (here, same-floats) (space .1);
           };
-          is = rw (here, k .dimension, k .points, ← v .points) (ap (λ (x : List (List Float)). record { dimension = p .dimension; points = x; abs = solidOf p }) (parts-join (p .dimension) (p .points) (λ x k. v .coordinates x k .0)));
+          is = rw (← sizes-are (r .shape) (listsOf (r .shape) ws) (k .held) 1, here, k .dimension, k .points, ← v .points) (ap (λ (x : List (List Float)). record { dimension = p .dimension; points = x; abs = solidOf p }) (parts-join (p .dimension) (p .points) (λ x k. v .coordinates x k .0)));
         }
           where
             here : absIn (r .shape) (listsOf (r .shape) ws) ≡ solidOf p
