@@ -1,4 +1,5 @@
 pub mod Numbered
+pub mod Starts
 pub mod Turns
 pub mod Solids
 pub mod Parts

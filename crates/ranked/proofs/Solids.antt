@@ -16,8 +16,7 @@ use Rattle.ranked.specs.Words.{firstAt, sizeAt, total, listAt, subsIn, s
 use Rattle.ranked.specs.Layout.{coordinates}
 use Rattle.ranked.specs.Reading.{Lies, subsWord, supsWord}
 use Rattle.ranked.proofs.Between.{sup-means}
-use Rattle.ranked.proofs.store.Pairs.{lt-or-le}
-use Rattle.ranked.proofs.store.Places.{first-rises}
+use Rattle.ranked.proofs.Starts.{lt-or-le, first-rises}
 
 -- ---- a list
 
