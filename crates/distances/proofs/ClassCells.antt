@@ -17,9 +17,10 @@ use Rattle.spec.specs.Classes.{distanceOf, distances, byRank, classTable, byTab
 use Rattle.laws.proofs.Lists.{length-table}
 use Rattle.ranked.specs.declared.Shape.{Shape}
 use Rattle.ranked.specs.Words.{absIn, Held}
+use Rattle.ranked.specs.Layout.{before}
 use Rattle.geometry.specs.Classes.{sameClass}
 use Rattle.geometry.proofs.ClassNumbers.{share-class}
-use Rattle.distances.specs.Solids.{before, beforeIn}
+use Rattle.distances.specs.Solids.{beforeIn}
 use Rattle.distances.proofs.Room.{sizes-sum}
 
 -- ---- parts one after another

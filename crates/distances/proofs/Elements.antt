@@ -4,28 +4,29 @@ use mathlib.Core.Path.{_≡_, refl, sym, ap, _∙_}
 use mathlib.Core.Logic.{inl, inr}
 use mathlib.Core.List.{List, [], _∷_, _++_, map}
 use Prim.Native.Nat.{ℕ, zero, suc, _+_, _-_, _*_, _≤_, _<_}
-use native.Mathlib.Nat.{mul-le-mul-right, suc-mul, zero-mul, le-trans}
+use native.Mathlib.Nat.{mul-le-mul-right, le-trans}
 use native.Mathlib.Omega.{arith}
 use lib.ListN.{length, getD, take, drop, length-append}
-use lib.Seq.{take-at, drop-drop, getD-take}
+use lib.Seq.{take-at, getD-take}
 use lib.Dec.{eqb}
 use lib.Ieee.{Float}
 use Rattle.spec.specs.Lists.{In, range, holds, join}
 use Rattle.spec.specs.Types.{Solid, size, subs}
 use Rattle.spec.specs.Demand.{Sound}
 use Rattle.spec.specs.Mark.{inOrder, reach, vertices}
-use Rattle.spec.specs.Copying.{parts}
 use Rattle.spec.specs.Matrix.{Vector}
 use Rattle.spec.specs.Hull.{hullOf, distance}
 use Rattle.spec.specs.Classes.{pointOf, distanceOf}
 use Rattle.laws.proofs.Lists.{in-getD, in-range, of-range, map-same}
 use Rattle.laws.proofs.Counts.{keep-in, in-keep, holds-in}
+use Rattle.float.proofs.Parts.{part-at, parts-take}
 use Rattle.ranked.specs.declared.Shape.{Shape}
 use Rattle.ranked.specs.Words.{sizeAt, absIn, Held}
+use Rattle.ranked.specs.Layout.{coordinates}
+use Rattle.ranked.specs.Bench.{solidOn}
 use Rattle.ranked.specs.Marks.{Front}
-use Rattle.ranked.proofs.Solids.{size-is}
+use Rattle.ranked.proofs.Solids.{sizes-are}
 use Rattle.geometry.specs.Reading.{pointAt}
-use Rattle.distances.specs.Solids.{solidOn, coordinates}
 
 -- ---- vertices
 
@@ -68,43 +69,42 @@ vertex-below : (s : Solid) (r e v : ℕ) → In v (vertices s r e) → v < size 
 unfolding vertices inOrder
 vertex-below s r e v m = omega (arith, of-range 0 (size s 1) v (in-keep (λ u. holds eqb u (reach s r e)) v (range 0 (size s 1)) m .0))
 
--- ---- coordinates
-
-part-at : {A : Type 0} (d k : ℕ) (l : List A) (v : ℕ) → v < k → getD (parts k d l) v [] ≡ take d (drop (v * d) l)
-unfolding parts
-part-at d zero l v h = absurd (omega arith)
-part-at d (suc k) l zero h = rw (zero-mul d)
-part-at d (suc k) l (suc v) h =
-    let e : suc v * d ≡ d + v * d = omega (arith, suc-mul v d) in
-    part-at d k (drop d l) v (omega arith) ∙ rw (e, drop-drop (v * d) d l)
-
 -- ---- what the buffer's numbers give
 
-module _ (sh : Shape) (w : List ℕ) (points : List Float) (r e n : ℕ) (old list : List ℕ) (f : Front (vertices (absIn sh w) r e) old list n) where
+module _ (sh : Shape) (w : List ℕ) (h : Held sh w) (fs : List Float) (r e n : ℕ) (old list : List ℕ) (f : Front (vertices (absIn sh w) r e) old list n) where
+  abbrev d : ℕ
+  d = sh .dimension
+
   listed : take n list ≡ vertices (absIn sh w) r e
   listed = ap (take n) (f .cells) ∙ take-at (vertices (absIn sh w) r e) (drop n old) n (sym (f .many))
 
-  pub distance-is : distance (sh .dimension) (hullOf (sh .dimension) (map (pointAt (sh .dimension) points) (take n list))) ≡ distanceOf (solidOn sh w points (sh .dimension)) r e
-  unfolding distanceOf pointOf
+  vertex-in : (v : ℕ) → In v (vertices (absIn sh w) r e) → v < sizeAt sh 1
+  vertex-in v m = rw (sizes-are sh w h 1) at (vertex-below (absIn sh w) r e v m)
+
+  point-is : (v : ℕ) → v < sizeAt sh 1 → pointAt d fs v ≡ pointOf (solidOn sh w fs) v
+  unfolding pointOf
+  point-is v k = sym (ap (λ (ps : List Vector). getD ps v []) (parts-take (sizeAt sh 1) d fs) ∙ part-at (sizeAt sh 1) d fs v k)
+
+  pub distance-is : distance d (hullOf d (map (pointAt d fs) (take n list))) ≡ distanceOf (solidOn sh w fs) r e
+  unfolding distanceOf
   distance-is =
-      ap (λ (l : List Vector). distance (sh .dimension) (hullOf (sh .dimension) l))
-      (ap (map (pointAt (sh .dimension) points)) listed
-      ∙ map-same _ _ (vertices (absIn sh w) r e) (λ v m. sym (part-at (sh .dimension) (size (absIn sh w) 1) points v (vertex-below (absIn sh w) r e v m))))
+      ap (λ (l : List Vector). distance d (hullOf d l))
+      (ap (map (pointAt d fs)) listed ∙ map-same _ _ (vertices (absIn sh w) r e) (λ v m. point-is v (vertex-in v m)))
 
   pub list-long : n ≤ length list
   list-long = omega (arith, f .many, ap length (f .cells), length-append (vertices (absIn sh w) r e) (drop n old))
 
-  pub some-listed : Held sh w → 1 ≤ r → r ≤ sh .rank → e < sizeAt sh r → 0 < n
-  some-listed h low high i =
+  pub some-listed : 1 ≤ r → e < sizeAt sh r → 0 < n
+  some-listed low i =
       let q : suc (r - 1) ≡ r = omega arith in
-      let k : e < size (absIn sh w) (suc (r - 1)) = rw (q, size-is sh w r high) i in
+      let k : e < size (absIn sh w) (suc (r - 1)) = rw (q, sizes-are sh w h r) i in
       let z : 0 < length (vertices (absIn sh w) (suc (r - 1)) e) = some-vertex (absIn sh w) (h .sound) (h .filled) (r - 1) e k in
       let y : 0 < length (vertices (absIn sh w) r e) = rw q at z in
       omega (arith, f .many)
 
-  pub point-lies : coordinates sh w ≤ length points → (j : ℕ) → j < n → (getD list j 0 + 1) * sh .dimension ≤ length points
-  point-lies room j h =
-      let a : getD list j 0 ≡ getD (vertices (absIn sh w) r e) j 0 = sym (getD-take n list j 0 h) ∙ ap (λ (l : List ℕ). getD l j 0) listed in
-      let b = vertex-below (absIn sh w) r e (getD (vertices (absIn sh w) r e) j 0) (in-getD 0 (vertices (absIn sh w) r e) j (omega (arith, f .many))) in
-      let c : getD list j 0 + 1 ≤ size (absIn sh w) 1 = omega (arith, a, b) in
-      le-trans (mul-le-mul-right (sh .dimension) c) room
+  pub point-lies : coordinates sh ≤ length fs → (j : ℕ) → j < n → (getD list j 0 + 1) * d ≤ length fs
+  point-lies room j k =
+      let a : getD list j 0 ≡ getD (vertices (absIn sh w) r e) j 0 = sym (getD-take n list j 0 k) ∙ ap (λ (l : List ℕ). getD l j 0) listed in
+      let b = vertex-in (getD (vertices (absIn sh w) r e) j 0) (in-getD 0 (vertices (absIn sh w) r e) j (omega (arith, f .many))) in
+      let c : getD list j 0 + 1 ≤ sizeAt sh 1 = omega (arith, a, b) in
+      le-trans (mul-le-mul-right d c) room

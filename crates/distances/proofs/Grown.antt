@@ -30,9 +30,9 @@ classes-append l (x ∷ xs) ys = ap (λ (c : List Float). listing l x .0 ∷ c) 
 -- ---- cells
 
 -- At first no distance was taken.
-pub grown-none : (vd cell k : ℕ) (old : List Float) (n : ℕ) → Grown vd cell k old old n n []
+pub grown-none : (from cell k : ℕ) (old : List Float) (n : ℕ) → Grown from cell k old old n n []
 unfolding listAfter classesFrom
-grown-none vd cell k old n = record {
+grown-none from cell k old n = record {
   same = refl;
   long = refl;
   few = omega arith;
@@ -41,10 +41,10 @@ grown-none vd cell k old n = record {
 }
 
 -- The distances xs, and then ys, are taken.
-pub grown-more : {vd cell k h : ℕ} {a b c : List Float} {n m p : ℕ} {xs ys : List Float}
-    → Grown vd cell k a b n m xs → h ≡ k + length xs → Grown vd cell h b c m p ys → Grown vd cell k a c n p (xs ++ ys)
-grown-more {vd} {cell} {k} {h} {a} {b} {c} {n} {m} {p} {xs} {ys} f e g =
-    let l = take n (drop vd a) in
+pub grown-more : {from cell k h : ℕ} {a b c : List Float} {n m p : ℕ} {xs ys : List Float}
+    → Grown from cell k a b n m xs → h ≡ k + length xs → Grown from cell h b c m p ys → Grown from cell k a c n p (xs ++ ys)
+grown-more {from} {cell} {k} {h} {a} {b} {c} {n} {m} {p} {xs} {ys} f e g =
+    let l = take n (drop from a) in
     let s : k + length (xs ++ ys) ≡ h + length ys = omega (arith, length-append xs ys) in
     record {
       same = g .same ∙ f .same;
@@ -59,57 +59,57 @@ grown-more {vd} {cell} {k} {h} {a} {b} {c} {n} {m} {p} {xs} {ys} f e g =
           ∙ ap (λ (z : List Float). take k (drop cell a) ++ z) (sym (classes-append l xs ys));
     }
 
--- One distance is taken: the list stands in the part from vd on, and the class is written behind it.
-module _ (old after : List Float) (vd n cell k : ℕ) (x : Float) (t : Listing) (took : Takes (drop vd old) after n x t) (many : length after ≡ length (drop vd old))
-    (apart : vd + n < cell) (inside : cell + k < length old) where
-  low : length (take vd old) ≡ vd
-  low = length-take-le vd old (omega arith)
+-- One distance is taken: the list stands in the part from from on, and the class is written behind it.
+module _ (old after : List Float) (from n cell k : ℕ) (x : Float) (t : Listing) (took : Takes (drop from old) after n x t) (many : length after ≡ length (drop from old))
+    (apart : from + n < cell) (inside : cell + k < length old) where
+  low : length (take from old) ≡ from
+  low = length-take-le from old (omega arith)
 
-  mid-drop : drop vd (take vd old ++ after) ≡ after
-  mid-drop = drop-at (take vd old) after vd low
+  mid-drop : drop from (take from old ++ after) ≡ after
+  mid-drop = drop-at (take from old) after from low
 
-  mid-length : length (take vd old ++ after) ≡ length old
-  mid-length = omega (arith, length-append (take vd old) after, low, many, length-drop vd old)
+  mid-length : length (take from old ++ after) ≡ length old
+  mid-length = omega (arith, length-append (take from old) after, low, many, length-drop from old)
 
   -- The classes' cells are as they were.
-  beyond : drop cell (take vd old ++ after) ≡ drop cell old
+  beyond : drop cell (take from old ++ after) ≡ drop cell old
   beyond =
-      let i = cell - vd - t .count in
-      let e : (vd + t .count) + i ≡ cell = omega (arith, took .room) in
-      let step : (l : List Float) → drop cell l ≡ drop i (drop (t .count) (drop vd l)) =
-      (λ l. rw (drop-drop (t .count) vd l, drop-drop i (vd + t .count) l, e)) in
-      step (take vd old ++ after)
+      let i = cell - from - t .count in
+      let e : (from + t .count) + i ≡ cell = omega (arith, took .room) in
+      let step : (l : List Float) → drop cell l ≡ drop i (drop (t .count) (drop from l)) =
+      (λ l. rw (drop-drop (t .count) from l, drop-drop i (from + t .count) l, e)) in
+      step (take from old ++ after)
       ∙ ap (λ (l : List Float). drop i (drop (t .count) l)) mid-drop
       ∙ ap (drop i) (took .rest)
       ∙ sym (step old)
 
-  pub grown-one : Grown vd cell k old (set (take vd old ++ after) (cell + k) (t .value)) n (t .count) (x ∷ [])
+  pub grown-one : Grown from cell k old (set (take from old ++ after) (cell + k) (t .value)) n (t .count) (x ∷ [])
   unfolding listAfter classesFrom
   grown-one =
-      let j = cell + k - vd in
-      let e : cell + k ≡ vd + j = omega arith in
+      let j = cell + k - from in
+      let e : cell + k ≡ from + j = omega arith in
       record {
-        same = take-set-le vd (take vd old ++ after) (cell + k) (t .value) (omega arith) ∙ take-at (take vd old) after vd low;
-        long = length-set (take vd old ++ after) (cell + k) (t .value) ∙ mid-length;
+        same = take-set-le from (take from old ++ after) (cell + k) (t .value) (omega arith) ∙ take-at (take from old) after from low;
+        long = length-set (take from old ++ after) (cell + k) (t .value) ∙ mid-length;
         few = took .room;
         list =
-            ap (λ (i : ℕ). take (t .count) (drop vd (set (take vd old ++ after) i (t .value)))) e
-            ∙ ap (take (t .count)) (drop-set-add vd (take vd old ++ after) j (t .value) ∙ ap (λ (l : List Float). set l j (t .value)) mid-drop)
+            ap (λ (i : ℕ). take (t .count) (drop from (set (take from old ++ after) i (t .value)))) e
+            ∙ ap (take (t .count)) (drop-set-add from (take from old ++ after) j (t .value) ∙ ap (λ (l : List Float). set l j (t .value)) mid-drop)
             ∙ take-set-le (t .count) after j (t .value) (omega (arith, took .room))
             ∙ ap (λ (q : Float × List Float). q .1) (took .is);
         cells =
-            ap (λ (i : ℕ). take i (drop cell (set (take vd old ++ after) (cell + k) (t .value)))) (add-one k)
-            ∙ ap (take (suc k)) (drop-set-add cell (take vd old ++ after) k (t .value) ∙ ap (λ (l : List Float). set l k (t .value)) beyond)
+            ap (λ (i : ℕ). take i (drop cell (set (take from old ++ after) (cell + k) (t .value)))) (add-one k)
+            ∙ ap (take (suc k)) (drop-set-add cell (take from old ++ after) k (t .value) ∙ ap (λ (l : List Float). set l k (t .value)) beyond)
             ∙ take-suc-set (drop cell old) k (t .value) (omega (arith, length-drop cell old))
             ∙ ap (λ (v : Float). take k (drop cell old) ++ (v ∷ [])) (ap (λ (q : Float × List Float). q .0) (took .is));
       }
 
 -- The same holds as the part comes back, because what is lent is the part to the end, and nothing stands behind it.
-pub grown-part : (old after : List Float) (vd n cell k : ℕ) (x : Float) (t : Listing) → Takes (midOf vd (length old - vd) old) after n x t
-    → length after ≡ length (midOf vd (length old - vd) old) → vd + n < cell → cell + k < length old
-    → Grown vd cell k old (set (putMid vd (length old - vd) old after) (cell + k) (t .value)) n (t .count) (x ∷ [])
-grown-part old after vd n cell k x t took many apart inside =
-    let a : midOf vd (length old - vd) old ≡ drop vd old = take-all (length old - vd) (drop vd old) (omega (arith, length-drop vd old)) in
-    let b : postOf vd (length old - vd) old ≡ [] = drop-of-length-le (drop vd old) {i = length old - vd} (omega (arith, length-drop vd old)) in
-    let c : after ++ postOf vd (length old - vd) old ≡ after = ap (λ (l : List Float). after ++ l) b ∙ append-nil after in
-    rw c (grown-one old after vd n cell k x t (rw a at took) (rw a at many) apart inside)
+pub grown-part : (old after : List Float) (from n cell k : ℕ) (x : Float) (t : Listing) → Takes (midOf from (length old - from) old) after n x t
+    → length after ≡ length (midOf from (length old - from) old) → from + n < cell → cell + k < length old
+    → Grown from cell k old (set (putMid from (length old - from) old after) (cell + k) (t .value)) n (t .count) (x ∷ [])
+grown-part old after from n cell k x t took many apart inside =
+    let a : midOf from (length old - from) old ≡ drop from old = take-all (length old - from) (drop from old) (omega (arith, length-drop from old)) in
+    let b : postOf from (length old - from) old ≡ [] = drop-of-length-le (drop from old) {i = length old - from} (omega (arith, length-drop from old)) in
+    let c : after ++ postOf from (length old - from) old ≡ after = ap (λ (l : List Float). after ++ l) b ∙ append-nil after in
+    rw c (grown-one old after from n cell k x t (rw a at took) (rw a at many) apart inside)

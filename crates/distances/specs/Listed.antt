@@ -12,7 +12,8 @@ use Rattle.spec.specs.Classes.{distanceOf, distances}
 use Rattle.spec.specs.Solid.{Concrete}
 use Rattle.ranked.specs.declared.Shape.{Shape}
 use Rattle.ranked.specs.Words.{Held}
-use Rattle.distances.specs.Solids.{solidOn, coordinates, proper, before}
+use Rattle.ranked.specs.Layout.{proper, before, coordinates, classesAt}
+use Rattle.ranked.specs.Bench.{solidOn}
 
 -- Gives the list that results when distances join the list l one after another.
 unfoldable pub listAfter : List Float → List Float → List Float
@@ -23,29 +24,28 @@ listAfter l (x ∷ xs) = listAfter (listing l x .1) xs
 unfoldable pub rankDistances : Concrete → ℕ → List Float
 rankDistances c r = map (distanceOf c r) (range 0 (size (c .abs) r))
 
--- The distances xs were taken. The list stands from cell vd on, and had n values before and has m now. The classes stand from `cell` on, behind the
--- k classes that stood there before. The cells below vd are as they were.
-pub record Grown (vd cell k : ℕ) (old new : List Float) (n m : ℕ) (xs : List Float) : Type 0 where
-  pub same : take vd new ≡ take vd old
+-- The distances xs were taken. The list stands from cell `from` on, and had n values before and has m now. The classes stand from `cell` on, behind
+-- the k classes that stood there before. The cells below `from` are as they were.
+pub record Grown (from cell k : ℕ) (old new : List Float) (n m : ℕ) (xs : List Float) : Type 0 where
+  pub same : take from new ≡ take from old
   pub long : length new ≡ length old
   pub few : m ≤ n + length xs
-  pub list : take m (drop vd new) ≡ listAfter (take n (drop vd old)) xs
-  pub cells : take (k + length xs) (drop cell new) ≡ take k (drop cell old) ++ classesFrom (take n (drop vd old)) xs
+  pub list : take m (drop from new) ≡ listAfter (take n (drop from old)) xs
+  pub cells : take (k + length xs) (drop cell new) ≡ take k (drop cell old) ++ classesFrom (take n (drop from old)) xs
 
 -- Taking the distances of rank r needs that r is proper, that no more values are listed than elements were taken, and that there is room for the list
 -- and the classes.
-pub record Ready (sh : Shape) (w : List ℕ) (floats : List Float) (vd n r : ℕ) : Type 0 where
+pub record Classable (sh : Shape) (w : List ℕ) (floats : List Float) (n r : ℕ) : Type 0 where
   pub held : Held sh w
   pub low : 1 ≤ r
   pub high : r < sh .rank
-  pub vertices : vd ≡ coordinates sh w
   pub few : n ≤ before sh r
-  pub room : vd + proper sh + proper sh ≤ length floats
+  pub room : classesAt sh + proper sh ≤ length floats
 
 -- The whole solid is classed: n values are listed, and each proper element has its class.
 pub record Classed (sh : Shape) (w : List ℕ) (old new : List Float) (n : ℕ) : Type 0 where
-  pub same : take (coordinates sh w) new ≡ take (coordinates sh w) old
+  pub same : take (coordinates sh) new ≡ take (coordinates sh) old
   pub long : length new ≡ length old
   pub few : n ≤ proper sh
-  pub list : take n (drop (coordinates sh w) new) ≡ listAfter [] (distances (solidOn sh w (take (coordinates sh w) old) (sh .dimension)))
-  pub cells : take (proper sh) (drop (coordinates sh w + proper sh) new) ≡ classes (distances (solidOn sh w (take (coordinates sh w) old) (sh .dimension)))
+  pub list : take n (drop (coordinates sh) new) ≡ listAfter [] (distances (solidOn sh w old))
+  pub cells : take (proper sh) (drop (classesAt sh) new) ≡ classes (distances (solidOn sh w old))

@@ -9,7 +9,7 @@ returns c =
     let t = c .before .before in
     let s = c .before .before .before .before .before in
     let a = s .args in
-    grown-part (a .floats .now) (t .list-distance .last .0) (a .vd) (a .n) (a .cell) (a .k) (a .x) (t .list-distance .result) (t .list-distance .ensures) (search needs) (s .pre .0) (s .pre .1)
+    grown-part (a .floats .now) (t .list-distance .last .0) (a .from) (a .n) (a .cell) (a .k) (a .x) (t .list-distance .result) (t .list-distance .ensures) (search needs) (s .pre .0) (s .pre .1)
 
 pub take-class-spec : {M : Type 1} → statement M
 take-class-spec =
