@@ -53,9 +53,9 @@ module _ (w : List ℕ) (to from n : ℕ) (apart : to + n ≤ from) (room : from
 
 -- ---- a step at a rank
 
-module _ (w v : List ℕ) (low lists n base from out : ℕ) (r : Ready w low lists n base from out) (d : Numbered w v low lists n base from out) where
+module _ (w v : List ℕ) (lists n base from out : ℕ) (r : Ready w lists n base from out) (d : Numbered w v lists n base from out) where
   stepped : (x : List ℕ) → x ≡ over v from (from + n) (slice out (out + n) v)
-      → take out x ≡ over (take out w) from (from + n) (renumber eqList (keysTo w low lists base from n))
+      → take out x ≡ over (take out w) from (from + n) (renumber eqList (keysTo w lists base from out n))
   stepped x e =
       ap (take out) e
       ∙ over-front v from (from + n) (slice out (out + n) v) (ap (λ (k : ℕ). from + k) (length-slice out (out + n) v (omega (arith, r .room, d .long)) ∙ omega arith)) (omega (arith, r .own, r .room, d .long))
@@ -65,10 +65,10 @@ module _ (w v : List ℕ) (low lists n base from out : ℕ) (r : Ready w low lis
 -- In the code's terms, n, from and out are what it read of the shape.
 module _ (sh : Shape) (w : List ℕ) (r lists base : ℕ) (s : Stepping sh w r lists base) (n from out : ℕ) (en : n ≡ sizeAt sh r) (ef : from ≡ typesAt sh r)
     (eo : out ≡ scratchAt sh) where
-  pub numbers-ready : Ready w (sh .low) lists n base from out
+  pub numbers-ready : Ready w lists n base from out
   numbers-ready = rw (en, ef, eo) (s .ready)
 
-  pub stepped-at : (v : List ℕ) → Numbered w v (sh .low) lists n base from out → (x : List ℕ) → x ≡ over v from (from + n) (slice out (out + n) v)
+  pub stepped-at : (v : List ℕ) → Numbered w v lists n base from out → (x : List ℕ) → x ≡ over v from (from + n) (slice out (out + n) v)
       → take (scratchAt sh) x ≡ steppedAt sh w r lists base
   unfolding steppedAt
-  stepped-at v d x e = rw (en, ef, eo) at (stepped w v (sh .low) lists n base from out numbers-ready d x e)
+  stepped-at v d x e = rw (en, ef, eo) at (stepped w v lists n base from out numbers-ready d x e)

@@ -1,5 +1,6 @@
 pub mod Keys
 pub mod Parts
+pub mod Inserting
 pub mod Sorts
 pub mod Written
 pub mod Compared

@@ -12,12 +12,10 @@ use Rattle.spec.specs.Lists.{place, eqList, range}
 use Rattle.laws.proofs.Lists.{map-same, of-range}
 use Rattle.laws.proofs.Distinct.{Split, split, place-yes, place-no}
 use Rattle.laws.proofs.Counts.{lists}
-use Rattle.ranked.specs.Words.{listAt}
-use Rattle.element_types.specs.Runs.{keyAt, repKeys, Keyed, writtenAt}
+use Rattle.element_types.specs.Runs.{keyAt, repKeys, Keyed}
 use Rattle.element_types.specs.Numbers.{numberOf, noted, Open}
 use Rattle.element_types.proofs.Parts.{getD-kept, take-kept, run-front}
 use Rattle.element_types.proofs.Compared.{length-keys}
-use Rattle.element_types.proofs.Written.{length-written, written-low, written-count}
 
 -- ---- what is read below a, where nothing changed
 
@@ -65,7 +63,7 @@ pub noted-high : (u : List ℕ) (cell reps m q : ℕ) → m ≤ numberOf u reps 
 unfolding noted
 noted-high u cell reps m q h = rw (noted, le-ltb (numberOf u reps m q) m h)
 
-pub place-le : (x : List ℕ) (l : List (List ℕ)) → place eqList x l ≤ length l
+place-le : (x : List ℕ) (l : List (List ℕ)) → place eqList x l ≤ length l
 unfolding place
 place-le x [] = zero-le
 place-le x (y ∷ l) = go (split eqList lists y x) (place-le x l)
@@ -74,60 +72,33 @@ place-le x (y ∷ l) = go (split eqList lists y x) (place-le x l)
     go (inl (_, e)) ih = rw (place-yes eqList lists l e) zero-le
     go (inr (_, e)) ih = rw (place-no eqList lists l e) (omega arith)
 
-module _ (w : List ℕ) (low i base at cell reps m q : ℕ) (o : Open w low i base at cell reps m q) where
-  abbrev u : List ℕ
-  u = writtenAt w low i base at q
+pub number-le : (w : List ℕ) (reps m q : ℕ) → numberOf w reps m q ≤ m
+unfolding numberOf
+number-le w reps m q = omega (arith, length-keys w reps m q, place-le (keyAt w q) (repKeys w reps m))
 
-  long : length u ≡ length w
-  long = length-written w low i base at q (o .key)
-
-  fits : q + 2 + length (listAt (take low w) i) ≤ length w
-  fits = o .key .room
-
-  kept : take q u ≡ take q w
-  kept = written-low w low i base at q (o .key)
-
+module _ (w : List ℕ) (cell reps m q : ℕ) (o : Open w cell reps m q) where
   -- Finding the key asks for these bounds.
-  pub places-in : reps + m ≤ length u
-  places-in = omega (arith, long, fits, o .places)
+  pub find-asks : (reps + m ≤ length w) × (((j : ℕ) → j < m → Keyed w (getD w (reps + j) 0)) × Keyed w q)
+  find-asks = (omega (arith, o .key, o .places), (λ j h. omega (arith, o .keys j h, o .key), o .key))
 
-  pub key-in : Keyed u q
-  key-in = rw (written-count w low i base at q (o .key), long) fits
+  pub cells-in : (cell < length w) × (reps + m < length w) × (m < q)
+  cells-in = (omega (arith, o .key, o .places, o .number), omega (arith, o .key, o .places), omega (arith, o .places))
 
-  pub keys-in : (j : ℕ) → j < m → Keyed u (getD u (reps + j) 0)
-  keys-in j h =
-      let k = o .keys j h in
-      let a : getD u (reps + j) 0 ≡ getD w (reps + j) 0 = getD-kept u w q (reps + j) kept (omega (arith, o .places)) in
-      rw a (rw (getD-kept u w q (getD w (reps + j) 0) kept (omega arith)) (omega (arith, k, long, fits)))
+  -- In the code's terms, p is what finding the key gave.
+  module _ (p : ℕ) (f : p ≡ place eqList (keyAt w q) (repKeys w reps m)) where
+    number-is : p ≡ numberOf w reps m q
+    unfolding numberOf
+    number-is = f
 
-  pub number-le : numberOf u reps m q ≤ m
-  unfolding numberOf
-  number-le = omega (arith, length-keys u reps m q, place-le (keyAt u q) (repKeys u reps m))
+    pub number-small : p < q
+    number-small = omega (arith, number-is, number-le w reps m q, o .places)
 
-  -- In the code's terms, v is what writing the key left, and p is what finding it gave.
-  module _ (v : List ℕ) (e : v ≡ u) where
-    pub find-asks : (reps + m ≤ length v) × (((j : ℕ) → j < m → Keyed v (getD v (reps + j) 0)) × Keyed v q)
-    find-asks = rw e (places-in, (keys-in, key-in))
+    pub noted-old : p < m → (p ≡ numberOf w reps m q) × (set w cell p ≡ noted w cell reps m q)
+    noted-old h =
+        let n : numberOf w reps m q < m = rw number-is at h in
+        (number-is, ap (set w cell) number-is ∙ sym (noted-low w cell reps m q n))
 
-    pub cells-in : (cell < length v) × (reps + m < length v) × (length v ≡ length w) × (m < q)
-    cells-in =
-        let g : length v ≡ length w = ap length e ∙ long in
-        (omega (arith, fits, o .places, o .number), omega (arith, fits, o .places), g, omega (arith, o .places))
-
-    module _ (p : ℕ) (f : p ≡ place eqList (keyAt v q) (repKeys v reps m)) where
-      number-is : p ≡ numberOf u reps m q
-      unfolding numberOf
-      number-is = f ∙ ap (λ (x : List ℕ). place eqList (keyAt x q) (repKeys x reps m)) e
-
-      pub number-small : p < q
-      number-small = omega (arith, number-is, number-le, o .places)
-
-      pub noted-old : p < m → (p ≡ numberOf u reps m q) × (set v cell p ≡ noted u cell reps m q)
-      noted-old h =
-          let n : numberOf u reps m q < m = rw number-is at h in
-          (number-is, ap₂ (λ (x : List ℕ) (k : ℕ). set x cell k) e number-is ∙ sym (noted-low u cell reps m q n))
-
-      pub noted-new : m ≤ p → (p ≡ numberOf u reps m q) × (set (set v cell p) (reps + m) q ≡ noted u cell reps m q)
-      noted-new h =
-          let n : m ≤ numberOf u reps m q = rw number-is at h in
-          (number-is, ap₂ (λ (x : List ℕ) (k : ℕ). set (set x cell k) (reps + m) q) e number-is ∙ sym (noted-high u cell reps m q n))
+    pub noted-new : m ≤ p → (p ≡ numberOf w reps m q) × (set (set w cell p) (reps + m) q ≡ noted w cell reps m q)
+    noted-new h =
+        let n : m ≤ numberOf w reps m q = rw number-is at h in
+        (number-is, ap (λ (k : ℕ). set (set w cell k) (reps + m) q) number-is ∙ sym (noted-high w cell reps m q n))

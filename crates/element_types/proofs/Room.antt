@@ -9,7 +9,7 @@ use native.Mathlib.Nat.{add-zero, mul-le-mul-left}
 use native.Mathlib.Decide.{ℕ-discrete}
 use native.Mathlib.Omega.{arith}
 use lib.Dec.{eqb}
-use lib.ListN.{length, getD, take}
+use lib.ListN.{length, getD}
 use Rattle.spec.specs.Limits.{maxRank, maxCount}
 use Rattle.spec.specs.Lists.{In, holds, range, keep, sum}
 use Rattle.spec.specs.Types.{Solid, top, size, subs, sups, properRanks, elements, Step, up, down, at}

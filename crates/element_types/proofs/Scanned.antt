@@ -17,7 +17,7 @@ use Rattle.ranked.specs.Words.{listAt}
 use Rattle.ranked.specs.Reading.{Lies}
 use Rattle.element_types.specs.Runs.{keyOf, keyAt, repKeys, under, Writable, writtenAt}
 use Rattle.element_types.specs.Numbers.{numberOf, noted, Open, keyIn, keysTo, spaceTo, Ready, Numbered}
-use Rattle.element_types.proofs.Parts.{getD-kept, take-kept}
+use Rattle.element_types.proofs.Parts.{getD-kept, take-kept, list-kept}
 use Rattle.element_types.proofs.Compared.{length-keys}
 use Rattle.element_types.proofs.Written.{under-kept, length-written, written-low, written-count, written-key}
 use Rattle.element_types.proofs.Noted.{keys-kept, key-set, keys-set, noted-low, noted-high, number-le}
@@ -74,27 +74,24 @@ space-in l lists e n h = omega (arith, space-le l lists (n - suc e) (suc e) n (o
 
 -- ---- the loop
 
-pub record Scan (w : List ℕ) (low lists n base from out : ℕ) (v : List ℕ) (m q e : ℕ) : Type 0 where
+pub record Scan (w : List ℕ) (lists n base from out : ℕ) (v : List ℕ) (m q e : ℕ) : Type 0 where
   pub bound : e ≤ n
   pub long : length v ≡ length w
   pub kept : take out v ≡ take out w
-  pub numbers : slice out (out + e) v ≡ renumber eqList (keysTo w low lists base from e)
-  pub keys : repKeys v (out + n) m ≡ distinct eqList (keysTo w low lists base from e)
+  pub numbers : slice out (out + e) v ≡ renumber eqList (keysTo w lists base from out e)
+  pub keys : repKeys v (out + n) m ≡ distinct eqList (keysTo w lists base from out e)
   pub few : m ≤ e
   pub slots : Slots v (out + n) m (out + n + n) q
   pub past : out + n + n ≤ q
-  pub high : q ≤ out + n + n + spaceTo (take low w) lists e
+  pub high : q ≤ out + n + n + spaceTo (take out w) lists e
 
 -- What the words are counted by, in a turn, is below their number.
-abbrev pub Sums : List ℕ → ℕ → ℕ → ℕ → ℕ → ℕ → ℕ → Type 0
-Sums w low lists from out q e = (q + 2 + length (listAt (take low w) (lists + 4 * e)) ≤ length w) × (lists + 4 * e < length w) × (from + e < length w) × (out + e < length w)
+abbrev pub Sums : List ℕ → ℕ → ℕ → ℕ → ℕ → ℕ → Type 0
+Sums w lists from out q e =
+    (q + 2 + length (listAt (take out w) (lists + 4 * e)) ≤ length w) × (lists + 4 * e < length w) × (from + e < length w) × (out + e < length w)
 
--- The element's list can be read again.
-abbrev pub Back : List ℕ → ℕ → ℕ → ℕ → List ℕ → Type 0
-Back w low lists e x = (low ≤ length x) × (take low x ≡ take low w) × Lies (take low x) (lists + 4 * e)
-
-module _ (w : List ℕ) (low lists n base from out : ℕ) (r : Ready w low lists n base from out) where
-  pub scan-first : Scan w low lists n base from out w 0 (out + n + n) 0
+module _ (w : List ℕ) (lists n base from out : ℕ) (r : Ready w lists n base from out) where
+  pub scan-first : Scan w lists n base from out w 0 (out + n + n) 0
   unfolding keysTo repKeys spaceTo renumber distinct range
   scan-first = record {
     bound = omega arith;
@@ -108,68 +105,75 @@ module _ (w : List ℕ) (low lists n base from out : ℕ) (r : Ready w low lists
     high = omega arith;
   }
 
-  pub scan-end : (v : List ℕ) (m q e : ℕ) → Scan w low lists n base from out v m q e → n ≤ e → Numbered w v low lists n base from out
+  pub scan-end : (v : List ℕ) (m q e : ℕ) → Scan w lists n base from out v m q e → n ≤ e → Numbered w v lists n base from out
   scan-end v m q e s h =
       let g : e ≡ n = omega (arith, s .bound) in
       record { long = s .long; kept = s .kept; numbers = rw g at (s .numbers) }
 
-  module _ (v : List ℕ) (m q e : ℕ) (s : Scan w low lists n base from out v m q e) (h : e < n) where
+  module _ (v : List ℕ) (m q e : ℕ) (s : Scan w lists n base from out v m q e) (h : e < n) where
     abbrev i : ℕ
     i = lists + 4 * e
 
-    pub lists-kept : take low v ≡ take low w
-    lists-kept = take-kept v w out low (s .kept) (r .lists-low)
+    abbrev l : List ℕ
+    l = listAt (take out w) i
 
-    tall : q + 2 + length (listAt (take low w) i) ≤ out + n + n + spaceTo (take low w) lists n
-    tall = omega (arith, s .high, space-in (take low w) lists e n h)
+    tall : q + 2 + length l ≤ out + n + n + spaceTo (take out w) lists n
+    tall = omega (arith, s .high, space-in (take out w) lists e n h)
 
-    writable : Writable v low i base (from + e) q
+    -- The element's list stands where it stood.
+    list-same : Lies (take q v) i × (listAt (take q v) i ≡ l)
+    list-same = list-kept v w out q i (s .kept) (omega (arith, s .past)) (omega (arith, s .long, tall, r .room)) (r .lie e h)
+
+    pub writable : Writable v i base (from + e) q
     writable = record {
-      lies = rw lists-kept (r .lie e h);
-      lists = omega (arith, r .lists-low, s .past);
-      members = rw lists-kept (λ y k. omega (arith, r .members e y h k, s .past));
-      own = omega (arith, r .own, s .past);
-      room = rw (lists-kept, s .long) (omega (arith, tall, r .room));
+      lies = list-same .0;
+      members = rw (list-same .1) (λ y k. omega (arith, r .members e y h k, s .past));
+      typed = omega (arith, r .own, s .past);
+      room = rw (list-same .1, s .long) (omega (arith, tall, r .room));
     }
 
-    pub opened : Open v low i base (from + e) (out + e) (out + n) m q
-    opened = record {
-      key = writable;
-      number = omega arith;
-      places = omega (arith, s .few, s .past);
-      keys = λ j k. s .slots j k .1;
-      small = omega (arith, tall, r .small);
-    }
-
-    key-same : keyOf v low i base (from + e) ≡ keyIn w low lists base from e
+    key-same : keyOf v base (from + e) (listAt (take q v) i) ≡ keyIn w lists base from out e
     unfolding keyIn keyOf
     key-same =
-        ap₂ (λ (t : ℕ) (l : List ℕ). t ∷ Rattle.spec.specs.Search.sorted l) (getD-kept v w out (from + e) (s .kept) (omega (arith, r .own)))
-        (ap (λ (l : List ℕ). under v base (listAt l i)) lists-kept ∙ under-kept v w out base (listAt (take low w) i) (s .kept) (λ y k. r .members e y h k))
+        ap₂ (λ (t : ℕ) (x : List ℕ). t ∷ Rattle.spec.specs.Search.sorted x) (getD-kept v w out (from + e) (s .kept) (omega (arith, r .own)))
+        (ap (under v base) (list-same .1) ∙ under-kept v w out base l (s .kept) (λ y k. r .members e y h k))
 
     abbrev u : List ℕ
-    u = writtenAt v low i base (from + e) q
+    u = writtenAt v i base (from + e) q
 
     abbrev key : List ℕ
-    key = keyIn w low lists base from e
+    key = keyIn w lists base from out e
 
     abbrev done : List (List ℕ)
-    done = keysTo w low lists base from e
+    done = keysTo w lists base from out e
 
     u-low : take q u ≡ take q v
-    u-low = written-low v low i base (from + e) q writable
+    u-low = written-low v i base (from + e) q writable
 
     u-long : length u ≡ length v
-    u-long = length-written v low i base (from + e) q writable
+    u-long = length-written v i base (from + e) q writable
 
     u-key : keyAt u q ≡ key
-    u-key = written-key v low i base (from + e) q writable ∙ key-same
+    u-key = written-key v i base (from + e) q writable ∙ key-same
+
+    u-count : getD u q 0 ≡ length l
+    u-count = written-count v i base (from + e) q writable ∙ ap length (list-same .1)
 
     u-keys : repKeys u (out + n) m ≡ distinct eqList done
     u-keys = keys-kept u v q u-low u-long (omega (arith, s .long, tall, r .room)) (out + n) m (omega (arith, s .few, s .past)) (λ j k. s .slots j k .1) ∙ s .keys
 
     u-slots : Slots u (out + n) m (out + n + n) q
     u-slots = slots-kept u v (out + n) m (out + n + n) q u-low (omega (arith, s .few, s .past)) (s .slots)
+
+    -- So the key can be found, and its number stored.
+    pub opened : Open u (out + e) (out + n) m q
+    opened = record {
+      key = rw (u-count, u-long, s .long) (omega (arith, tall, r .room));
+      number = omega arith;
+      places = omega (arith, s .few, s .past);
+      keys = λ j k. u-slots j k .1;
+      small = omega (arith, tall, r .small);
+    }
 
     p : ℕ
     p = numberOf u (out + n) m q
@@ -193,7 +197,7 @@ module _ (w : List ℕ) (low lists n base from out : ℕ) (r : Ready w low lists
           ∙ take-append-le out (take (out + e) v) (p ∷ []) (rw (length-take-le (out + e) v inside) (omega arith))
           ∙ take-take out (out + e) v (omega arith) ∙ s .kept
 
-      next-numbers : slice out (out + (e + 1)) x ≡ renumber eqList (keysTo w low lists base from (e + 1))
+      next-numbers : slice out (out + (e + 1)) x ≡ renumber eqList (keysTo w lists base from out (e + 1))
       unfolding keysTo
       next-numbers =
           ap (λ (a : ℕ). slice out (out + a) x) (add-one e) ∙ ap (λ (a : ℕ). slice out a x) (add-suc out e)
@@ -201,7 +205,7 @@ module _ (w : List ℕ) (low lists n base from out : ℕ) (r : Ready w low lists
           ∙ drop-append-le out (take (out + e) v) (p ∷ []) (rw (length-take-le (out + e) v inside) (omega arith))
           ∙ ap₂ (λ (l : List ℕ) (a : ℕ). l ++ a ∷ []) (s .numbers) p-is
           ∙ sym (renumber-snoc eqList test done key)
-          ∙ ap (λ (a : ℕ). renumber eqList (keysTo w low lists base from a)) (sym (add-one e))
+          ∙ ap (λ (a : ℕ). renumber eqList (keysTo w lists base from out a)) (sym (add-one e))
 
     stored : take (suc (out + e)) (set u (out + e) p) ≡ take (out + e) v ++ p ∷ []
     stored =
@@ -230,11 +234,11 @@ module _ (w : List ℕ) (low lists n base from out : ℕ) (r : Ready w low lists
         go (yes a) = of-distinct eqList test key done a
         go (no a) = absurd (omega (arith, p-is, many, place-out eqList test (distinct eqList done) key a))
 
-    keys-old : p < m → distinct eqList done ≡ distinct eqList (keysTo w low lists base from (e + 1))
+    keys-old : p < m → distinct eqList done ≡ distinct eqList (keysTo w lists base from out (e + 1))
     unfolding keysTo
     keys-old k = rw (add-one e) (sym (distinct-old eqList test done key (met k)))
 
-    scan-low : p < m → Scan w low lists n base from out u₁ m q (e + 1)
+    scan-low : p < m → Scan w lists n base from out u₁ m q (e + 1)
     scan-low k = record {
       bound = omega arith;
       long = long₁;
@@ -244,7 +248,7 @@ module _ (w : List ℕ) (low lists n base from out : ℕ) (r : Ready w low lists
       few = omega (arith, s .few);
       slots = slots₁;
       past = s .past;
-      high = rw (add-one e) (omega (arith, s .high, space-le (take low w) lists 1 e (suc e) (omega arith)));
+      high = rw (add-one e) (omega (arith, s .high, space-le (take out w) lists 1 e (suc e) (omega arith)));
     }
 
     -- ---- a key that is new
@@ -265,11 +269,11 @@ module _ (w : List ℕ) (low lists n base from out : ℕ) (r : Ready w low lists
     u₂-key =
         key-set u₁ (out + n + m) q q (omega (arith, s .few, s .past)) ∙ key-set u (out + e) p q (omega (arith, s .past)) ∙ u-key
 
-    u₂-count : getD u₂ q 0 ≡ length (listAt (take low w) i)
+    u₂-count : getD u₂ q 0 ≡ length l
     u₂-count =
         getD-set-other u₁ (out + n + m) q q 0 (λ c. omega (arith, s .few, s .past))
         ∙ getD-set-other u (out + e) q p 0 (λ c. omega (arith, s .past))
-        ∙ written-count v low i base (from + e) q writable ∙ ap (λ (l : List ℕ). length (listAt l i)) lists-kept
+        ∙ u-count
 
     keys₂ : repKeys u₂ (out + n) m ≡ distinct eqList done
     keys₂ = keys-set u₁ (out + n + m) q (out + n) m (λ j k c. omega arith) (λ j k. omega (arith, slots₁ j k .0, s .few)) ∙ keys₁
@@ -277,18 +281,18 @@ module _ (w : List ℕ) (low lists n base from out : ℕ) (r : Ready w low lists
     slots₂ : Slots u₂ (out + n) m (out + n + n) q
     slots₂ = slots-set u₁ (out + n + m) q (out + n) m (out + n + n) q (omega (arith, s .few)) (λ j k c. omega arith) slots₁
 
-    keys-new : m ≤ p → repKeys u₂ (out + n) (m + 1) ≡ distinct eqList (keysTo w low lists base from (e + 1))
+    keys-new : m ≤ p → repKeys u₂ (out + n) (m + 1) ≡ distinct eqList (keysTo w lists base from out (e + 1))
     unfolding keysTo
     keys-new k =
         ap (repKeys u₂ (out + n)) (add-one m) ∙ keys-snoc u₂ (out + n) m
         ∙ ap₂ (λ (l : List (List ℕ)) (x : List ℕ). l ++ x ∷ []) keys₂ (ap (keyAt u₂) u₂-place ∙ u₂-key)
         ∙ sym (distinct-new eqList test done key (unmet k))
-        ∙ ap (λ (a : ℕ). distinct eqList (keysTo w low lists base from a)) (sym (add-one e))
+        ∙ ap (λ (a : ℕ). distinct eqList (keysTo w lists base from out a)) (sym (add-one e))
 
     stored₂ : take (suc (out + e)) u₂ ≡ take (out + e) v ++ p ∷ []
     stored₂ = take-set-le (suc (out + e)) u₁ (out + n + m) q (omega arith) ∙ stored
 
-    scan-high : m ≤ p → Scan w low lists n base from out u₂ (m + 1) (q + 2 + length (listAt (take low w) i)) (e + 1)
+    scan-high : m ≤ p → Scan w lists n base from out u₂ (m + 1) (q + 2 + length l) (e + 1)
     scan-high k = record {
       bound = omega arith;
       long = length-set u₁ (out + n + m) q ∙ long₁;
@@ -296,35 +300,33 @@ module _ (w : List ℕ) (low lists n base from out : ℕ) (r : Ready w low lists
       numbers = next-numbers u₂ stored₂;
       keys = keys-new k;
       few = omega (arith, s .few);
-      slots = slots-snoc u₂ (out + n) m (out + n + n) q (q + 2 + length (listAt (take low w) i)) slots₂ u₂-place (s .past) (omega (arith, u₂-count));
+      slots = slots-snoc u₂ (out + n) m (out + n + n) q (q + 2 + length l) slots₂ u₂-place (s .past) (omega (arith, u₂-count));
       past = omega (arith, s .past);
-      high = rw (add-one e) (omega (arith, s .high, space-in (take low w) lists e (suc e) (omega arith)));
+      high = rw (add-one e) (omega (arith, s .high, space-in (take out w) lists e (suc e) (omega arith)));
     }
 
-    -- ---- as the code has it: x is what was left, and z the number
+    -- ---- as the code has it: x is what writing the key left, k says how many neighbours the element has, y is what numbering left, and z the number
 
-    module _ (x : List ℕ) (z : ℕ) (f : z ≡ numberOf u (out + n) m q) (g : x ≡ noted u (out + e) (out + n) m q) where
-      pub scan-old : z ≢ m → Scan w low lists n base from out x m q (e + 1)
-      unfolding p
-      scan-old k =
-          let a : p < m = omega (arith, f, number-le v low i base (from + e) (out + e) (out + n) m q opened, k) in
-          rw (g ∙ noted-low u (out + e) (out + n) m q a) (scan-low a)
+    module _ (x : List ℕ) (c : x ≡ u) where
+      pub asked : Open x (out + e) (out + n) m q
+      asked = rw c opened
 
-      pub scan-new : z ≡ m → (k : ℕ) → k ≡ length (listAt (take low w) i) → Scan w low lists n base from out x (m + 1) (q + 2 + k) (e + 1)
-      unfolding p
-      scan-new d k c =
-          let a : m ≤ p = omega (arith, f, d) in
-          rw (g ∙ noted-high u (out + e) (out + n) m q a, c) (scan-high a)
+      module _ (y : List ℕ) (z : ℕ) (f : z ≡ numberOf x (out + n) m q) (g : y ≡ noted x (out + e) (out + n) m q) where
+        pub scan-old : z ≢ m → Scan w lists n base from out y m q (e + 1)
+        unfolding p
+        scan-old k =
+            let a : p < m = omega (arith, rw c at f, number-le u (out + n) m q, k) in
+            rw (g, c, noted-low u (out + e) (out + n) m q a) (scan-low a)
 
-      pub list-back : z ≡ m → Back w low lists e x
-      list-back d =
-          let t = scan-new d (length (listAt (take low w) i)) refl in
-          let k : take low x ≡ take low w = take-kept x w out low (t .kept) (r .lists-low) in
-          (omega (arith, t .long, r .room, r .lists-low), k, rw k (r .lie e h))
+        pub scan-new : z ≡ m → (k : ℕ) → k ≡ length (listAt (take q v) i) → Scan w lists n base from out y (m + 1) (q + 2 + k) (e + 1)
+        unfolding p
+        scan-new d k b =
+            let a : m ≤ p = omega (arith, rw c at f, d) in
+            rw (g, c, noted-high u (out + e) (out + n) m q a, b, list-same .1) (scan-high a)
 
-    pub sums-fit : Sums w low lists from out q e
+    pub sums-fit : Sums w lists from out q e
     sums-fit =
         let a = r .lie e h in
-        let b : low ≤ length w = omega (arith, r .room, r .lists-low) in
-        let c : lists + 4 * e + 1 < low = rw (length-take-le low w b) at (a .head) in
+        let b : out ≤ length w = omega (arith, r .room) in
+        let c : lists + 4 * e + 1 < out = rw (length-take-le out w b) at (a .head) in
         (omega (arith, tall, r .room), omega arith, omega (arith, r .own, r .room), omega (arith, r .room))

@@ -27,7 +27,7 @@ use Rattle.element_types.specs.Runs.{over, under, keyOf}
 use Rattle.element_types.specs.Numbers.{keyIn, keysTo, spaceTo, Ready}
 use Rattle.element_types.specs.State.{typesIn, stateIn, entries, needed, Steppable, Stepping, steppedAt}
 use Rattle.element_types.proofs.Keys.{Typed, key-same}
-use Rattle.element_types.proofs.Parts.{run-take, length-over, take-over, drop-here, drop-past}
+use Rattle.element_types.proofs.Parts.{run-take, list-kept, length-over, take-over, drop-here, drop-past}
 use Rattle.element_types.proofs.Scanned.{table-snoc}
 
 -- ---- lists
@@ -49,12 +49,12 @@ space-is l base (suc n) =
       sum-snoc (map (λ e. length (listAt l (base + 4 * e))) (range 0 n)) (length (listAt l (base + 4 * n))),
     )
 
-keys-table : (w : List ℕ) (low base lists from n : ℕ) → keysTo w low lists base from n ≡ map (keyIn w low lists base from) (range 0 n)
+keys-table : (w : List ℕ) (lists base from out n : ℕ) → keysTo w lists base from out n ≡ map (keyIn w lists base from out) (range 0 n)
 unfolding keysTo range
-keys-table w low base lists from zero = refl
-keys-table w low base lists from (suc n) =
-    ap (λ (l : List (List ℕ)). l ++ keyIn w low lists base from n ∷ []) (keys-table w low base lists from n)
-    ∙ sym (table-snoc (keyIn w low lists base from) 0 n n (omega arith))
+keys-table w lists base from out zero = refl
+keys-table w lists base from out (suc n) =
+    ap (λ (l : List (List ℕ)). l ++ keyIn w lists base from out n ∷ []) (keys-table w lists base from out n)
+    ∙ sym (table-snoc (keyIn w lists base from out) 0 n n (omega arith))
 
 carry : (a b c d : List ℕ) → eqList a b ≡ eqList c d → a ≡ b → c ≡ d
 carry a b c d e p = counts.lists .sound c d (sym e ∙ subst (λ (z : List ℕ). eqList a z ≡ true) p (counts.lists .pass a))
@@ -112,29 +112,35 @@ module _ (sh : Shape) (w : List ℕ) (x : Step) (t : Steppable sh w x) (listing 
 
   -- ---- there is room
 
-  count-is : entries s x ≡ sum (map (λ e. length (listAt (listsOf sh w) (listing + 4 * e))) (range 0 n))
-  unfolding entries
-  count-is =
-      ap (λ (m : ℕ). sum (map (λ e. length (neighbours s x e)) (range 0 m))) (size-is sh (listsOf sh w) (at x) (omega (arith, t .under)))
-      ∙ ap sum
-      (map-same (λ e. length (neighbours s x e)) (λ e. length (listAt (listsOf sh w) (listing + 4 * e))) (range 0 n)
-      (λ e m. ap length (sym (o .listed e (omega (arith, of-range 0 n e m))))))
-
-  need-is : needed sh w x ≡ out + n + n + spaceTo (listsOf sh w) listing n
-  unfolding needed
-  need-is = omega (arith, count-is, space-is (listsOf sh w) listing n)
-
   rank-in : (q : ℕ) → q ≤ sh .rank → firstAt sh q + sizeAt sh q ≤ total sh
   rank-in q h = omega (arith, t .held .some q h, first-le sh (listsOf sh w) (t .held) (sh .rank - q) (suc q) (suc (sh .rank)) (omega arith) (omega arith))
 
   out-in : out ≤ length w
-  out-in = omega (arith, need-is, t .room)
+  unfolding needed
+  out-in = omega (arith, t .room)
 
-  pub ready : Ready w (sh .low) listing n base from out
+  -- An element's list is among the words below the free ones.
+  list-here : (e : ℕ) → e < n → Lies (take out w) (listing + 4 * e) × (listAt (take out w) (listing + 4 * e) ≡ neighbours s x e)
+  list-here e h =
+      let k = list-kept w w (sh .low) out (listing + 4 * e) refl (omega arith) out-in (o .lie e h) in
+      (k .0, k .1 ∙ o .listed e h)
+
+  count-is : entries s x ≡ sum (map (λ e. length (listAt (take out w) (listing + 4 * e))) (range 0 n))
+  unfolding entries
+  count-is =
+      ap (λ (m : ℕ). sum (map (λ e. length (neighbours s x e)) (range 0 m))) (size-is sh (listsOf sh w) (at x) (omega (arith, t .under)))
+      ∙ ap sum
+      (map-same (λ e. length (neighbours s x e)) (λ e. length (listAt (take out w) (listing + 4 * e))) (range 0 n)
+      (λ e m. ap length (sym (list-here e (omega (arith, of-range 0 n e m)) .1))))
+
+  need-is : needed sh w x ≡ out + n + n + spaceTo (take out w) listing n
+  unfolding needed
+  need-is = omega (arith, count-is, space-is (take out w) listing n)
+
+  ready : Ready w listing n base from out
   ready = record {
-    lists-low = omega arith;
-    lie = o .lie;
-    members = λ e y h m. omega (arith, number-in sh (listsOf sh w) (t .held) (next x) y (o .next-in) (o .inside e y h (rw (o .listed e h) at m)));
+    lie = λ e h. list-here e h .0;
+    members = λ e y h m. omega (arith, number-in sh (listsOf sh w) (t .held) (next x) y (o .next-in) (o .inside e y h (rw (list-here e h .1) at m)));
     own = omega (arith, rank-in (at x) (omega (arith, t .under)));
     room = rw need-is at (t .room);
     small = rw need-is at (t .small);
@@ -170,18 +176,18 @@ module _ (sh : Shape) (w : List ℕ) (x : Step) (t : Steppable sh w x) (listing 
   same-test e f h k =
       sym (key-same (typesAt S (next x)) (typeOf S (at x) e) (typeOf S (at x) f) (neighbours s x e) (neighbours s x f) (typed e h) (typed f k))
 
-  held-is : (e : ℕ) → e < n → keyIn w (sh .low) listing base from e ≡ held e
+  held-is : (e : ℕ) → e < n → keyIn w listing base from out e ≡ held e
   unfolding held keyIn keyOf under
   held-is e h =
       ap₂ {C = List ℕ} (λ a l. a ∷ sorted l) (sym (type-read (at x) e (omega (arith, t .under)) h))
-      (ap (map (λ y. getD w (base + y) 0)) (o .listed e h)
+      (ap (map (λ y. getD w (base + y) 0)) (list-here e h .1)
       ∙ map-same (λ y. getD w (base + y) 0) (λ y. getD (typesAt S (next x)) y 0) (neighbours s x e) (λ y m. sym (type-read (next x) y (o .next-in) (o .inside e y h m))))
 
-  numbers-are : renumber eqList (keysTo w (sh .low) listing base from n) ≡ renumber eqList (keys s S x)
+  numbers-are : renumber eqList (keysTo w listing base from out n) ≡ renumber eqList (keys s S x)
   unfolding keys paper
   numbers-are =
       ap (renumber eqList)
-      (keys-table w (sh .low) base listing from n ∙ map-same (keyIn w (sh .low) listing base from) held (range 0 n) (λ e m. held-is e (omega (arith, of-range 0 n e m))))
+      (keys-table w listing base from out n ∙ map-same (keyIn w listing base from out) held (range 0 n) (λ e m. held-is e (omega (arith, of-range 0 n e m))))
       ∙ renumber-tables held paper n same-test
       ∙ ap (λ (m : ℕ). renumber eqList (map paper (range 0 m))) (sym (size-is sh (listsOf sh w) (at x) (omega (arith, t .under))))
 
@@ -280,13 +286,13 @@ module _ (sh : Shape) (w : List ℕ) (x : Step) (t : Steppable sh w x) (listing 
     stepped v e = (lists-kept v R many (rw (el, eb) at e), state-new v R many (rw (el, eb) at e) ∙ ap (set S (at x)) numbers-are)
       where
         R : List ℕ
-        R = renumber eqList (keysTo w (sh .low) listing (layout.typesAt sh (next x)) from n)
+        R = renumber eqList (keysTo w listing (layout.typesAt sh (next x)) from out n)
 
         many : length R ≡ n
         many =
-            length-renumber eqList counts.lists (keysTo w (sh .low) listing (layout.typesAt sh (next x)) from n)
-            ∙ ap length (keys-table w (sh .low) (layout.typesAt sh (next x)) listing from n)
-            ∙ length-table (keyIn w (sh .low) listing (layout.typesAt sh (next x)) from) n
+            length-renumber eqList counts.lists (keysTo w listing (layout.typesAt sh (next x)) from out n)
+            ∙ ap length (keys-table w listing (layout.typesAt sh (next x)) from out n)
+            ∙ length-table (keyIn w listing (layout.typesAt sh (next x)) from out) n
 
   -- The words that the code works out are below the number of all words.
   pub starts-in : (4 * (firstAt sh (at x) + 0) + 2 ≤ length w) × (layout.typesAt sh (next x) ≤ length w)

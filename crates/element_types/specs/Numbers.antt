@@ -10,7 +10,7 @@ use lib.Dec.{ltb}
 use Rattle.spec.specs.Lists.{In, place, renumber, eqList}
 use Rattle.ranked.specs.Words.{listAt}
 use Rattle.ranked.specs.Reading.{Lies}
-use Rattle.element_types.specs.Runs.{keyOf, keyAt, repKeys, Writable}
+use Rattle.element_types.specs.Runs.{keyOf, keyAt, repKeys, Keyed}
 
 -- ---- one element
 
@@ -24,9 +24,9 @@ noted v cell reps m q =
     let p = numberOf v reps m q in
     elim (ltb p m) [ true ↦ set v cell p | false ↦ set (set v cell p) (reps + m) q ]
 
--- The keys that are there lie below q, and there is room for the new key, its number and its place.
-pub record Open (w : List ℕ) (low i base at cell reps m q : ℕ) : Type 0 where
-  pub key : Writable w low i base at q
+-- The keys that are there lie below the one at word q, and there is room for its number and its place.
+pub record Open (w : List ℕ) (cell reps m q : ℕ) : Type 0 where
+  pub key : Keyed w q
   pub number : cell < reps
   pub places : reps + m < q
   pub keys : (j : ℕ) → j < m → getD w (reps + j) 0 + 2 + getD w (getD w (reps + j) 0) 0 ≤ q
@@ -34,32 +34,31 @@ pub record Open (w : List ℕ) (low i base at cell reps m q : ℕ) : Type 0 wher
 
 -- ---- a rank
 
--- Gives the key of element e, whose list is at word lists + 4 * e and whose type is at word from + e.
+-- Gives the key of element e, whose list is at word lists + 4 * e and whose type is at word from + e. All this stands below word `out`.
 unfoldable pub keyIn : List ℕ → ℕ → ℕ → ℕ → ℕ → ℕ → List ℕ
-keyIn w low lists base from e = keyOf w low (lists + 4 * e) base (from + e)
+keyIn w lists base from out e = keyOf w base (from + e) (listAt (take out w) (lists + 4 * e))
 
 -- Lists the keys of the elements below e.
 unfoldable pub keysTo : List ℕ → ℕ → ℕ → ℕ → ℕ → ℕ → List (List ℕ)
-keysTo w low lists base from zero = []
-keysTo w low lists base from (suc e) = keysTo w low lists base from e ++ keyIn w low lists base from e ∷ []
+keysTo w lists base from out zero = []
+keysTo w lists base from out (suc e) = keysTo w lists base from out e ++ keyIn w lists base from out e ∷ []
 
 -- Counts the words that those keys take at most.
 unfoldable pub spaceTo : List ℕ → ℕ → ℕ → ℕ
 spaceTo l lists zero = 0
 spaceTo l lists (suc e) = spaceTo l lists e + (2 + length (listAt l (lists + 4 * e)))
 
--- The lists of the n elements are in the first `low` words, and the types of their neighbours and their own are below `out`. From there on there is
--- room for n numbers, n places and the keys.
-pub record Ready (w : List ℕ) (low lists n base from out : ℕ) : Type 0 where
-  pub lists-low : low ≤ out
-  pub lie : (e : ℕ) → e < n → Lies (take low w) (lists + 4 * e)
-  pub members : (e y : ℕ) → e < n → In y (listAt (take low w) (lists + 4 * e)) → base + y < out
+-- The lists of the n elements, the types of their neighbours and their own stand below word `out`. From there on there is room for n numbers, n places
+-- and the keys.
+pub record Ready (w : List ℕ) (lists n base from out : ℕ) : Type 0 where
+  pub lie : (e : ℕ) → e < n → Lies (take out w) (lists + 4 * e)
+  pub members : (e y : ℕ) → e < n → In y (listAt (take out w) (lists + 4 * e)) → base + y < out
   pub own : from + n ≤ out
-  pub room : out + n + n + spaceTo (take low w) lists n ≤ length w
-  pub small : out + n + n + spaceTo (take low w) lists n < 2 ^ 32
+  pub room : out + n + n + spaceTo (take out w) lists n ≤ length w
+  pub small : out + n + n + spaceTo (take out w) lists n < 2 ^ 32
 
 -- Nothing below `out` has changed, and the numbers stand from there on.
-pub record Numbered (w v : List ℕ) (low lists n base from out : ℕ) : Type 0 where
+pub record Numbered (w v : List ℕ) (lists n base from out : ℕ) : Type 0 where
   pub long : length v ≡ length w
   pub kept : take out v ≡ take out w
-  pub numbers : slice out (out + n) v ≡ renumber eqList (keysTo w low lists base from n)
+  pub numbers : slice out (out + n) v ≡ renumber eqList (keysTo w lists base from out n)

@@ -43,13 +43,13 @@ pub record Stepping (sh : Shape) (w : List ℕ) (r lists base : ℕ) : Type 0 wh
   pub tall : sh .rank ≤ maxRank
   pub within : r ≤ sh .rank
   pub some : firstAt sh r < firstAt sh (suc r)
-  pub ready : Ready w (sh .low) lists (sizeAt sh r) base (typesAt sh r) (scratchAt sh)
+  pub ready : Ready w lists (sizeAt sh r) base (typesAt sh r) (scratchAt sh)
 
 -- Gives the words below the free ones after that step: the elements of rank r have the numbers of their keys as types.
 unfoldable pub steppedAt : Shape → List ℕ → ℕ → ℕ → ℕ → List ℕ
 steppedAt sh w r lists base =
     let from = typesAt sh r in
-    over (take (scratchAt sh) w) from (from + sizeAt sh r) (renumber eqList (keysTo w (sh .low) lists base from (sizeAt sh r)))
+    over (take (scratchAt sh) w) from (from + sizeAt sh r) (renumber eqList (keysTo w lists base from (scratchAt sh) (sizeAt sh r)))
 
 -- Any step at a proper rank can be done.
 pub record Sweepable (sh : Shape) (w : List ℕ) : Type 0 where

@@ -33,7 +33,7 @@ fn step_at(words: &mut [u32], sh: Shape, r: usize, lists: usize, base: usize)
     let n = sh.size(r);
     let from = sh.types(r);
     let out = sh.scratch();
-    number_rank(words, sh.low, lists, n, base, from, out);
+    number_rank(words, lists, n, base, from, out);
     copy_down(words, from, out, n);
 }
 

@@ -9,10 +9,10 @@ use Rattle.element_types.proofs.compare.find_key.Statement.{statement}
 use Rattle.element_types.proofs.compare.find_key.Tie as tie
 
 abbrev Inv : tie.InvT-loop
-Inv w reps m q j₀ j = (j ≤ m) × Sought (keyAt w q) (repKeys w reps m) j
+Inv words reps m q j₀ j = (j ≤ m) × Sought (keyAt words q) (repKeys words reps m) j
 
 abbrev μ : tie.MeasureT-loop
-μ w reps m q j₀ j = m - j
+μ words reps m q j₀ j = m - j
 
 pub find-key-spec : {M : Type 1} → statement M
 find-key-spec =
