@@ -2,7 +2,7 @@
 -- Assumes nothing.
 use mathlib.Core.Path.{_≡_, sym, _∙_, ap}
 use mathlib.Core.Logic.{_≢_}
-use Prim.Native.Nat.{ℕ, suc, _+_, _-_, _*_, _/_, _^_, _≤_, _<_}
+use Prim.Native.Nat.{ℕ, suc, _+_, _-_, _*_, _^_, _≤_, _<_}
 use mathlib.Core.Bool.{true}
 use mathlib.Core.List.{List, []}
 use native.Mathlib.Numerals.{add-one}
@@ -12,6 +12,7 @@ use lib.ListN.{length, getD, take, drop, replicate, length-set}
 use lib.Seq.{ext-getD, drop-drop}
 use lib.Ieee.{Float}
 use borrow.Author.Tests.{eq-eqb, ne-eqb}
+use Rattle.spec.specs.Limits.{maxRank}
 use Rattle.spec.specs.Float.{zeroF}
 use Rattle.spec.specs.Types.{Solid, top, size, subs, elements}
 use Rattle.spec.specs.Solid.{entries, bound, diamond}
@@ -21,10 +22,11 @@ use Rattle.laws.specs.SolidLaws.{swap}
 use Rattle.laws.specs.Passed.{Kept}
 use Rattle.laws.proofs.Exchange.{swap-low, size-same, subs-n, subs-other, elements-same, entries-same, bound-same, every-exchange}
 use Rattle.ranked.specs.declared.Shape.{Shape}
-use Rattle.ranked.specs.Words.{firstAt, sizeAt, total, listAt, subsIn, absIn, Held}
+use Rattle.ranked.specs.Words.{firstAt, sizeAt, total, listsOf, listAt, subsIn, absIn, Held}
+use Rattle.ranked.specs.Layout.{supEntriesAt}
 use Rattle.ranked.specs.Derive.{pairs, Stored}
 use Rattle.ranked.specs.Store.{subEntries, lowOf, baseOf}
-use Rattle.ranked.specs.Bench.{solidAt, Bench, Laid}
+use Rattle.ranked.specs.Bench.{solidIn, Bench, Laid}
 use Rattle.ranked.proofs.Solids.{top-is, size-is, subs-is}
 use Rattle.ranked.proofs.store.Places.{first-le}
 use Rattle.ranked.proofs.Entries.{pairs-are}
@@ -214,12 +216,12 @@ module _ (sh : Shape) (w : List ℕ) (st : Stored sh w) (d : diamond (absIn sh w
 
 -- ---- the whole bench
 
-module _ (sh : Shape) (low : ℕ) (ws : List ℕ) (l : Laid sh low ws) (f : ℕ) (asked : (2 ≤ sh .rank) × (f < sizeAt sh (sh .rank - 1))) where
-  b : Bench sh low ws (replicate (8 * (elements (absIn sh (take low ws)) + 8)) zeroF)
-  b = some-bench sh low ws l
+module _ (sh : Shape) (ws : List ℕ) (l : Laid sh ws) (f : ℕ) (asked : (2 ≤ sh .rank) × (f < sizeAt sh (sh .rank - 1))) where
+  b : Bench sh ws (replicate (8 * (elements (absIn sh (listsOf sh ws)) + 8)) zeroF)
+  b = some-bench sh ws l
 
   abbrev whole : Solid
-  whole = absIn sh (take low ws)
+  whole = absIn sh (listsOf sh ws)
 
   abbrev base : ℕ
   base = baseOf sh (entries whole)
@@ -235,11 +237,8 @@ module _ (sh : Shape) (low : ℕ) (ws : List ℕ) (l : Laid sh low ws) (f : ℕ)
 
   -- ---- the steps' numbers
 
-  pub facets-fit : sh .rank - 1 < 7
-  facets-fit = omega (arith, b .held .tall)
-
-  pub past-fits : sh .rank + 1 < 7
-  past-fits = omega (arith, b .held .tall)
+  pub tall : sh .rank ≤ maxRank
+  tall = b .held .tall
 
   base-fits : base ≤ length ws
   base-fits = omega (arith, base-in b, b .words-in)
@@ -247,6 +246,13 @@ module _ (sh : Shape) (low : ℕ) (ws : List ℕ) (l : Laid sh low ws) (f : ℕ)
   heads-fit : 4 * total sh ≤ base
   unfolding baseOf
   heads-fit = omega arith
+
+  entries-at : supEntriesAt sh ≡ base
+  unfolding baseOf lowOf
+  entries-at = omega (arith, b .low-is)
+
+  pub entries-small : supEntriesAt sh < 2 ^ 32
+  entries-small = omega (arith, entries-at, base-in b, low-small b)
 
   module _ (a : ℕ) (ea : a ≡ firstAt sh (sh .rank - 1)) where
     facet-low : a + f < total sh
@@ -258,16 +264,9 @@ module _ (sh : Shape) (low : ℕ) (ws : List ℕ) (l : Laid sh low ws) (f : ℕ)
     pub lists-fit : (4 * a + 1 < length ws) × (4 * (a + f) + 1 < length ws) × (a < 2 ^ 32) × (a + f < 2 ^ 32)
     lists-fit = (omega (arith, facet-low, heads-fit, base-fits), omega (arith, facet-low, heads-fit, base-fits), omega (arith, facet-fits), facet-fits)
 
-    module _ (n : ℕ) (en : n ≡ firstAt sh (sh .rank + 1)) (ws₁ : List ℕ) (e₁ : ws₁ ≡ swappedLists ws a (a + f)) where
-      total-is : n ≡ total sh
-      total-is = en ∙ ap (firstAt sh) (add-one (sh .rank))
-
-      pub base-is : 2 * n + low / 2 ≡ base
-      unfolding baseOf lowOf
-      base-is = omega (arith, total-is, b .low-is)
-
-      pub base-small : 2 * n + low / 2 < 2 ^ 32
-      base-small = omega (arith, base-is, base-in b, low-small b)
+    module _ (ws₁ : List ℕ) (e₁ : ws₁ ≡ swappedLists ws a (a + f)) (x : ℕ) (ex : x ≡ supEntriesAt sh) where
+      base-is : x ≡ base
+      base-is = ex ∙ entries-at
 
       len₁ : length ws₁ ≡ length ws
       len₁ = rw e₁ (lists-length ws a (a + f))
@@ -282,25 +281,25 @@ module _ (sh : Shape) (low : ℕ) (ws : List ℕ) (l : Laid sh low ws) (f : ℕ)
       solid₁ : absIn sh (take base ws₁) ≡ exchangedIn whole f
       solid₁ = rw low₁ (solid-is sh v (b .stored) diamonds (asked .0) f (asked .1) ∙ ap (λ (t : Solid). exchangedIn t f) alone)
 
-      low-is : base + length (pairs sh (absIn sh (take base ws₁))) ≡ low
+      low-is : base + length (pairs sh (absIn sh (take base ws₁))) ≡ sh .low
       low-is =
           let p : length (pairs sh (absIn sh (take base ws₁))) ≡ length (pairs sh whole) = rw low₁ (pairs-same sh v (b .stored) diamonds (asked .0) f (asked .1) ∙ ap (λ (t : Solid). length (pairs sh t)) alone) in
           omega (arith, base-pairs b)
 
-      pub derive-call : Stored sh (take (2 * n + low / 2) ws₁) × ((2 * n + low / 2 + length (pairs sh (absIn sh (take (2 * n + low / 2) ws₁))) ≤ length ws₁)
-          × (2 * n + low / 2 + length (pairs sh (absIn sh (take (2 * n + low / 2) ws₁))) < 2 ^ 32))
+      pub derive-call : Stored sh (take x ws₁) × ((x + length (pairs sh (absIn sh (take x ws₁))) ≤ length ws₁)
+          × (x + length (pairs sh (absIn sh (take x ws₁))) < 2 ^ 32))
       derive-call = rw base-is (stored₁, (omega (arith, low-is, b .words-in, len₁), omega (arith, low-is, low-small b)))
 
       -- The sups are derived.
       module _ (ws₂ : List ℕ) (len₂ : length ws₂ ≡ length ws₁)
-          (h′ : Held sh (take (2 * n + low / 2 + length (pairs sh (absIn sh (take (2 * n + low / 2) ws₁)))) ws₂))
-          (s′ : absIn sh (take (2 * n + low / 2 + length (pairs sh (absIn sh (take (2 * n + low / 2) ws₁)))) ws₂) ≡ absIn sh (take (2 * n + low / 2) ws₁))
-          (st′ : Stored sh (take (2 * n + low / 2) ws₂)) (a′ : absIn sh (take (2 * n + low / 2) ws₂) ≡ absIn sh (take (2 * n + low / 2) ws₁))
-          (p′ : drop (2 * n + low / 2 + length (pairs sh (absIn sh (take (2 * n + low / 2) ws₁)))) ws₂ ≡ drop (2 * n + low / 2 + length (pairs sh (absIn sh (take (2 * n + low / 2) ws₁)))) ws₁) where
-        held₂ : Held sh (take low ws₂)
+          (h′ : Held sh (take (x + length (pairs sh (absIn sh (take x ws₁)))) ws₂))
+          (s′ : absIn sh (take (x + length (pairs sh (absIn sh (take x ws₁)))) ws₂) ≡ absIn sh (take x ws₁))
+          (st′ : Stored sh (take x ws₂)) (a′ : absIn sh (take x ws₂) ≡ absIn sh (take x ws₁))
+          (p′ : drop (x + length (pairs sh (absIn sh (take x ws₁)))) ws₂ ≡ drop (x + length (pairs sh (absIn sh (take x ws₁)))) ws₁) where
+        held₂ : Held sh (listsOf sh ws₂)
         held₂ = rw (base-is, low-is) at h′
 
-        pub solid₂ : absIn sh (take low ws₂) ≡ exchangedIn whole f
+        pub solid₂ : absIn sh (listsOf sh ws₂) ≡ exchangedIn whole f
         solid₂ = (rw (base-is, low-is) at s′) ∙ solid₁
 
         stored₂ : Stored sh (take base ws₂)
@@ -309,8 +308,8 @@ module _ (sh : Shape) (low : ℕ) (ws : List ℕ) (l : Laid sh low ws) (f : ℕ)
         alone₂ : absIn sh (take base ws₂) ≡ exchangedIn whole f
         alone₂ = (rw base-is at a′) ∙ solid₁
 
-        pub past₂ : drop low ws₂ ≡ drop low ws
-        past₂ = (rw (base-is, low-is) at p′) ∙ rw e₁ (lists-drop ws a (a + f) low (omega (arith, facet-low, heads-fit, base-in b)) (omega (arith, facet-low, heads-fit, base-in b)))
+        pub past₂ : drop (sh .low) ws₂ ≡ drop (sh .low) ws
+        past₂ = (rw (base-is, low-is) at p′) ∙ rw e₁ (lists-drop ws a (a + f) (sh .low) (omega (arith, facet-low, heads-fit, base-in b)) (omega (arith, facet-low, heads-fit, base-in b)))
 
         tests : Kept whole (exchangedIn whole f)
         tests = rw alone at (kept sh v (b .stored) diamonds (asked .0) f (asked .1))
@@ -324,7 +323,7 @@ module _ (sh : Shape) (low : ℕ) (ws : List ℕ) (l : Laid sh low ws) (f : ℕ)
         bound₂ : bound (exchangedIn whole f) ≡ bound whole
         bound₂ = rw alone at (bound-is sh v (b .stored) diamonds (asked .0) f (asked .1))
 
-        pub laid₂ : Laid sh low ws₂
+        pub laid₂ : Laid sh ws₂
         laid₂ fs k = record {
           held = held₂;
           low-is = rw (solid₂, entries₂) (b .low-is);
@@ -339,14 +338,14 @@ module _ (sh : Shape) (low : ℕ) (ws : List ℕ) (l : Laid sh low ws) (f : ℕ)
 
 -- ---- for callers: what was a bench is one, of the exchanged solid, and its vertices are where they were
 
-module _ {sh : Shape} {low : ℕ} {ws : List ℕ} {fs : List Float} (o : Bench sh low ws fs) (f : ℕ) (asked : (2 ≤ sh .rank) × (f < sizeAt sh (sh .rank - 1)))
-    (vs : List ℕ) (e : absIn sh (take low vs) ≡ exchangedIn (absIn sh (take low ws)) f) where
-  pub bench-exchanged : Laid sh low vs → Bench sh low vs fs
-  bench-exchanged l = l fs (rw (e, elements-same (absIn sh (take low ws)) (tall-s sh (take low ws) (asked .0)) f (low-s sh (take low ws) (asked .0) f (asked .1))) (o .floats))
+module _ {sh : Shape} {ws : List ℕ} {fs : List Float} (o : Bench sh ws fs) (f : ℕ) (asked : (2 ≤ sh .rank) × (f < sizeAt sh (sh .rank - 1)))
+    (vs : List ℕ) (e : absIn sh (listsOf sh vs) ≡ exchangedIn (absIn sh (listsOf sh ws)) f) where
+  pub bench-exchanged : Laid sh vs → Bench sh vs fs
+  bench-exchanged l = l fs (rw (e, elements-same (absIn sh (listsOf sh ws)) (tall-s sh (listsOf sh ws) (asked .0)) f (low-s sh (listsOf sh ws) (asked .0) f (asked .1))) (o .floats))
 
-  pub solid-exchanged : solidAt sh low vs fs ≡ exchanged (solidAt sh low ws fs) f
+  pub solid-exchanged : solidIn sh vs fs ≡ exchanged (solidIn sh ws fs) f
   unfolding exchanged
   solid-exchanged =
       rw e
-      (ap (λ (n : ℕ). record { dimension = sh .dimension; points = parts n (sh .dimension) (take (n * sh .dimension) fs); abs = exchangedIn (absIn sh (take low ws)) f })
-      (size-same (absIn sh (take low ws)) (tall-s sh (take low ws) (asked .0)) f (low-s sh (take low ws) (asked .0) f (asked .1)) 1))
+      (ap (λ (n : ℕ). record { dimension = sh .dimension; points = parts n (sh .dimension) (take (n * sh .dimension) fs); abs = exchangedIn (absIn sh (listsOf sh ws)) f })
+      (size-same (absIn sh (listsOf sh ws)) (tall-s sh (listsOf sh ws) (asked .0)) f (low-s sh (listsOf sh ws) (asked .0) f (asked .1)) 1))

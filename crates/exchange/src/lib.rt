@@ -2,10 +2,10 @@
 use ranked::Shape;
 use ranked::store::derive_sups;
 ghost use mathlib.Core.Path.{_≡_};
-ghost use Prim.Native.Nat.{suc, _+_, _-_, _*_, _/_, _^_, _≤_, _<_};
-ghost use lib.ListN.{length, take, drop};
+ghost use Prim.Native.Nat.{_+_, _-_, _*_, _^_, _≤_, _<_};
+ghost use lib.ListN.{length, drop};
 ghost use Rattle.spec.specs.Search.{exchangedIn};
-ghost use Rattle.ranked.specs.Words.{firstAt, sizeAt, total, absIn};
+ghost use Rattle.ranked.specs.Words.{sizeAt, listsOf, absIn};
 ghost use Rattle.ranked.specs.Bench.{Laid};
 ghost use Rattle.exchange.specs.Swapping.{swapped, swappedLists};
 
@@ -29,25 +29,15 @@ fn swap_lists(words: &mut [u32], g: usize, h: usize)
     swap(words, 4 * g + 1, 4 * h + 1);
 }
 
-// Counts the elements that lie below rank r.
-fn first_of(sh: Shape, r: usize) -> usize
-    requires { ⌜ r < 7 ⌝ }
-    ensures { λ n. ⌜ n ≡ firstAt sh r ⌝ }
-{
-    sh.first[r]
-}
-
 // Lets facet f change places with facet 0, and derives the sups anew. There are as many as before, so the solid takes the same words.
-pub fn exchange(words: &mut [u32], low: usize, sh: Shape, f: usize)
-    requires { ⌜ Laid sh low (now words) ⌝ }
+pub fn exchange(words: &mut [u32], sh: Shape, f: usize)
+    requires { ⌜ Laid sh (now words) ⌝ }
     requires { ⌜ (2 ≤ sh .rank) × (f < sizeAt sh (sh .rank - 1)) ⌝ }
-    ensures { λ _. ⌜ absIn sh (take low (now (words .exit))) ≡ exchangedIn (absIn sh (take low (now (words .entry)))) f ⌝ }
-    ensures { λ _. ⌜ Laid sh low (now (words .exit)) ⌝ }
-    ensures { λ _. ⌜ drop low (now (words .exit)) ≡ drop low (now (words .entry)) ⌝ }
+    ensures { λ _. ⌜ absIn sh (listsOf sh (now (words .exit))) ≡ exchangedIn (absIn sh (listsOf sh (now (words .entry)))) f ⌝ }
+    ensures { λ _. ⌜ Laid sh (now (words .exit)) ⌝ }
+    ensures { λ _. ⌜ drop (sh .low) (now (words .exit)) ≡ drop (sh .low) (now (words .entry)) ⌝ }
 {
-    let g = first_of(sh, sh.rank - 1);
-    let n = first_of(sh, sh.rank + 1);
-    swap_lists(words, g, g + f);
-    // The sups' entries stand after four words for each element and after the subs' entries, of which there are as many: low = 4 n + 2 I.
-    derive_sups(words, sh, 2 * n + low / 2);
+    let first = sh.start(sh.rank - 1);
+    swap_lists(words, first, first + f);
+    derive_sups(words, sh, sh.sup_entries());
 }
