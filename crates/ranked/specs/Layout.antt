@@ -2,7 +2,7 @@
 -- what a step or a search needs for itself. The floats hold the vertices' coordinates, behind them the listed distances, of which there are at most as
 -- many as proper elements, and behind these the distance class of each proper element.
 -- Assumes nothing.
-use Prim.Native.Nat.{ℕ, _+_, _-_, _*_}
+use Prim.Native.Nat.{ℕ, _+_, _-_, _*_, _/_}
 use Rattle.ranked.specs.declared.Shape.{Shape}
 use Rattle.ranked.specs.Words.{firstAt, sizeAt, total}
 
@@ -15,6 +15,10 @@ abbrev pub before : Shape → ℕ → ℕ
 before sh r = firstAt sh r - firstAt sh 1
 
 -- ---- words
+
+-- The word from which on the sups' entries stand: low = 4 n + 2 I for n elements whose subs have I entries, and as many have their sups.
+abbrev pub supEntriesAt : Shape → ℕ
+supEntriesAt sh = 2 * total sh + sh .low / 2
 
 -- The word from which on the types of rank r's elements stand.
 abbrev pub typesAt : Shape → ℕ → ℕ

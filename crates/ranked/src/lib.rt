@@ -8,7 +8,7 @@ ghost use Prim.Native.Nat.{suc, _+_, _*_, _^_, _≤_, _<_};
 ghost use lib.ListN.{length};
 ghost use Rattle.spec.specs.Limits.{maxRank};
 ghost use Rattle.ranked.specs.Words.{firstAt, sizeAt, total, listsOf};
-ghost use Rattle.ranked.specs.Layout.{proper, before, coordinates, classesAt, classAt, typesAt, scratchAt, fingerprintsAt};
+ghost use Rattle.ranked.specs.Layout.{proper, before, coordinates, classesAt, classAt, supEntriesAt, typesAt, scratchAt, fingerprintsAt};
 
 // This many ranks have a start: those from 0 to the greatest R, and the one above, at which the top rank ends.
 pub const STARTS: usize = MAX_RANK + 2;
@@ -99,6 +99,15 @@ impl Shape {
         ensures { λ n. ⌜ n ≡ 4 * (firstAt self r + e) + 2 ⌝ }
     {
         4 * (self.first[r] + e) + 2
+    }
+
+    // Returns the word from which on the entries of the sups' lists stand, up to the end of the solid's words. They take as many words as the entries of
+    // the subs before them, and the starts and lengths before these take four for each element.
+    pub fn sup_entries(self) -> usize
+        requires { ⌜ (self .rank ≤ maxRank) × (supEntriesAt self < 2 ^ 64) ⌝ }
+        ensures { λ n. ⌜ n ≡ supEntriesAt self ⌝ }
+    {
+        2 * self.elements() + self.low / 2
     }
 
     // Returns the word from which on the types of the elements of rank r stand, one word for each.
