@@ -11,6 +11,7 @@ use native.Mathlib.Omega.{arith}
 use lib.ListN.{length, getD, length-append, List·getD-eq-default}
 use lib.Ieee.{Float, binary64, toBits}
 use borrow.Author.Tests.{lt-ltb, le-ltb, le-leb, lt-leb}
+use Rattle.spec.specs.Limits.{maxDimension}
 use Rattle.spec.specs.declared.Refusal.the-variants.{NotFull}
 use Rattle.spec.specs.Lists.{In, range, every, sum, join}
 use Rattle.spec.specs.Types.{Solid, State, typesAt, top, size, properRanks, elements, given, elementTypesAt, elementTypes}
@@ -152,7 +153,7 @@ few-bits d [] k f = omega arith
 few-bits d (v ∷ []) k f = rw (append-nil, point-length v, f v (inl refl)) (omega arith)
 few-bits d (v ∷ u ∷ vs) k f = absurd (omega arith)
 
-few-bytes : (b : List ℕ) (p : Parsed) → readSheet b ≡ passed p → p .rank < 2 → length b ≤ 33
+few-bytes : (b : List ℕ) (p : Parsed) → readSheet b ≡ passed p → p .rank < 2 → length b ≤ 8 * maxDimension + 1
 unfolding packBits vertexCount
 few-bytes b p e h =
     let s = sheet-of b p e in
