@@ -20,5 +20,5 @@ below-infinity (fin s m e) = refl
 
 -- Row i of a corner is the start of row i of the matrix.
 pub row-corner : (d : ℕ) (m : List (List Float)) (i : ℕ) → i < d → row (corner d m) i ≡ take d (getD m i [])
-unfolding corner leading
+unfolding corner
 row-corner d m i h = row-leading d d m i h

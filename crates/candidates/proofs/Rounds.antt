@@ -20,7 +20,7 @@ use Rattle.spec.specs.Classes.{pointOf}
 use Rattle.spec.specs.Search.{changes, walk, flagColumns}
 use Rattle.laws.proofs.FlagChange.{every-change}
 use Rattle.laws.proofs.Lists.{map-map}
-use Rattle.matrix.specs.Reading.{corner}
+use Rattle.matrix.specs.Reading.{leading, corner}
 use Rattle.float.proofs.Written.{Written, none, next, end}
 use Rattle.points.proofs.Parts.{part-at, part-end}
 use Rattle.ranked.specs.declared.Shape.{Shape}
@@ -126,7 +126,7 @@ module _ (sh : Shape) (w : List ℕ) (fl : List Float) (h : Held sh w) (one : 1 
         }
 
   pub walk-end : (F G : Flag) (old rows : List (List Float)) (i : ℕ) → Walking sh w fl F G old rows i → d ≤ i → corner d rows ≡ map (pointOf c) (walk (absIn sh w) d F)
-  unfolding corner rounds range
+  unfolding corner leading rounds range
   walk-end F G old rows i t p =
       go d (t .high) p
       ∙ sym (map-map (λ j. elementAt (rounds (absIn sh w) j F) 1) (pointOf c) (range 0 d))

@@ -13,7 +13,7 @@ use Rattle.spec.specs.Float.{zip, zeroF, oneF}
 use Rattle.spec.specs.Matrix.{Matrix}
 use Rattle.spec.specs.Copying.{orders, signed, axisOrder, axisOrders}
 use Rattle.float.specs.Reading.{padded}
-use Rattle.matrix.specs.Reading.{corner, paddedRows}
+use Rattle.matrix.specs.Reading.{leading, corner, paddedRows}
 use Rattle.copying.proofs.Growth.{join-append}
 
 -- ---- one matrix
@@ -29,7 +29,7 @@ three (a ∷ b ∷ []) x h = absurd (omega arith)
 three (a ∷ b ∷ c ∷ l) x h = refl
 
 pub nine : (m : Matrix) → 3 ≤ length m → ((i : ℕ) → i < 3 → 3 ≤ length (getD m i [])) → map (floatAt m) (range 0 9) ≡ join (corner 3 m)
-unfolding join range corner
+unfolding join range corner leading
 nine m h w =
     let a = three (getD m 0 []) nan (w 0 (omega arith)) in
     let b = three (getD m 1 []) nan (w 1 (omega arith)) in
@@ -95,5 +95,5 @@ whole t before h = ap (λ (x : List Float). floats t ++ x) (drop-of-length-le be
 
 -- Of the cells that the table holds, the first three of the first three rows are the matrices themselves.
 pub table-corners : map (corner 3) (map paddedRows axisOrders) ≡ axisOrders
-unfolding neg zip zeroF oneF join range orders signed axisOrder axisOrders corner padded paddedRows
+unfolding neg zip zeroF oneF join range orders signed axisOrder axisOrders corner leading padded paddedRows
 table-corners = refl

@@ -6,7 +6,7 @@ use Rattle.spec.specs.Limits.{maxDimension}
 use Rattle.points.proofs.Parts.{part-end}
 
 -- The square of a dimension is at most 16.
-pub square : (d : ℕ) → d ≤ maxDimension → d * d ≤ 16
+pub square : (d : ℕ) → d ≤ maxDimension → d * d ≤ maxDimension * maxDimension
 square d h = mul-le-mul h h
 
 pub square-pos : (d : ℕ) → 1 ≤ d → 1 ≤ d * d

@@ -20,6 +20,10 @@ abbrev pub judgementOf : Judgement → Judged (Unit {0})
 judgementOf Passed = passed tt
 judgementOf (Refused why) = refused why
 
+-- The number that fills a table where an image is not among the copies.
+abbrev pub filling : ℕ
+filling = 65535
+
 -- Adds one image more to the copies, unless the image is found among them.
 unfoldable pub withImage : List Vector → Vector → List Vector
 withImage cs q = elim (found cs q) [ true ↦ cs | false ↦ cs ++ q ∷ [] ]

@@ -6,6 +6,7 @@ ghost use lib.ListN.{length, replicate};
 ghost use Rattle.spec.specs.Limits.{maxDimension, maxCount};
 ghost use Rattle.spec.specs.Copying.{parts, matrices, copyTable, written};
 ghost use Rattle.points.specs.Cells.{Tabled};
+ghost use Rattle.copying.specs.Post.{filling};
 use points::lookup::places;
 use points::lookup::row_of;
 
@@ -36,7 +37,7 @@ pub fn write(copies: &[f64], d: usize, n: usize, turns: &[f64], out: &mut [u16])
 // Fills the first cells with NONE.
 pub fn fill(out: &mut [u16], cells: usize)
     requires { ⌜ cells ≤ length (now out) ⌝ }
-    ensures { λ _. ⌜ now (out .exit) ≡ written (replicate cells 65535) (now (out .entry)) ⌝ }
+    ensures { λ _. ⌜ now (out .exit) ≡ written (replicate cells filling) (now (out .entry)) ⌝ }
 {
     let mut i: usize = 0;
     while i < cells {

@@ -1,13 +1,16 @@
 -- In the loop of a dot product, what is left to add gives what the whole gives.
 -- Assumes nothing.
-use mathlib.Core.Path.{_≡_, refl, sym, _∙_}
+use mathlib.Core.Path.{_≡_, refl, sym, ap, ap₂, _∙_}
+use mathlib.Core.Bool.{Bool, true, false, cond}
 use mathlib.Core.List.{List, [], _∷_}
-use Prim.Native.Nat.{ℕ, _+_, _≤_, _<_}
+use Prim.Native.Nat.{ℕ, _+_, _*_, _≤_, _<_}
 use native.Mathlib.Numerals.{add-one}
+use native.Mathlib.Nat.{mul-comm}
 use native.Mathlib.Omega.{arith}
+use lib.Dec.{eqb}
 use lib.ListN.{getD, drop, length, drop-of-length-le}
 use lib.Seq.{drop-cons}
-use lib.Ieee.{Float, nan, binary64, ofBits}
+use lib.Ieee.{Float, nan, inf, fin, binary64, up, down, round, unlike, mul, ofBits}
 use Rattle.spec.specs.Float.{zeroF, plus, times, zip, addOn, total, dot}
 
 -- The float t is the sum of the first i products.
@@ -38,3 +41,34 @@ module _ (a b : List Float) (t : Float) (i : ℕ) where
   pub end : length a ≤ i → Summed a b t i → t ≡ dot a b
   unfolding addOn zip
   end h s = rw (drop-of-length-le a h) at s
+
+-- ---- the two lists in each other's place
+
+unlike-swap : (s t : Bool) → unlike s t ≡ unlike t s
+unlike-swap false false = refl
+unlike-swap false true = refl
+unlike-swap true false = refl
+unlike-swap true true = refl
+
+times-swap : (x y : Float) → times x y ≡ times y x
+unfolding mul
+times-swap nan nan = refl
+times-swap nan (inf t) = refl
+times-swap nan (fin t n d) = refl
+times-swap (inf s) nan = refl
+times-swap (inf s) (inf t) = ap inf (unlike-swap s t)
+times-swap (inf s) (fin t n d) = ap (λ (b : Bool). cond (eqb n 0) nan (inf b)) (unlike-swap s t)
+times-swap (fin s m e) nan = refl
+times-swap (fin s m e) (inf t) = ap (λ (b : Bool). cond (eqb m 0) nan (inf b)) (unlike-swap s t)
+times-swap (fin s m e) (fin t n d) = rw (unlike-swap s t, mul-comm (m * up e) (n * up d), mul-comm (down e) (down d))
+
+zip-swap : (a b : List Float) → zip times a b ≡ zip times b a
+unfolding zip
+zip-swap [] [] = refl
+zip-swap [] (y ∷ b) = refl
+zip-swap (x ∷ a) [] = refl
+zip-swap (x ∷ a) (y ∷ b) = ap₂ (λ (z : Float) (l : List Float). z ∷ l) (times-swap x y) (zip-swap a b)
+
+pub dot-swap : (a b : List Float) → dot a b ≡ dot b a
+unfolding dot
+dot-swap a b = ap total (zip-swap a b)

@@ -8,15 +8,8 @@ ghost use Rattle.spec.specs.Hull.{hullOf, distance};
 ghost use Rattle.geometry.specs.Reading.{pointAt};
 use crate::hull::Hull;
 use crate::hull::Joined;
+use points::cell;
 use points::point;
-
-// Returns the list's number i, as an index.
-fn number(list: &[u16], i: usize) -> usize
-    requires { ⌜ i < length (now list) ⌝ }
-    ensures { λ r. ⌜ r ≡ getD (now (list .entry)) i 0 ⌝ }
-{
-    list[i] as usize
-}
 
 // Returns the distance of the hull of the points with the first n numbers of the list, taken in that order. Each point is handed on as the part of
 // the slice that holds it. The rule says "Stop at D vectors", and k counts those that joined.
@@ -24,7 +17,7 @@ pub fn distance_of(points: &[f64], d: usize, list: &[u16], n: usize) -> f64
     requires { ⌜ (d ≤ maxDimension) × (0 < n) × (n ≤ length (now list)) × ((j : ℕ) → j < n → (getD (now list) j 0 + 1) * d ≤ length (now points)) ⌝ }
     ensures { λ r. ⌜ r ≡ distance d (hullOf d (map (pointAt d (now (points .entry))) (take n (now (list .entry))))) ⌝ }
 {
-    let first = number(list, 0);
+    let first = cell(list, 0);
     let mut hull = Hull::empty(point(points, d, first));
     let mut k: usize = 0;
     let mut i: usize = 1;
@@ -32,7 +25,7 @@ pub fn distance_of(points: &[f64], d: usize, list: &[u16], n: usize) -> f64
         if k == d {
             return hull.distance(d);
         }
-        let v = number(list, i);
+        let v = cell(list, i);
         let added = hull.add(point(points, d, v));
         let next = added.hull;
         hull = next;

@@ -20,20 +20,13 @@ ghost use Rattle.marks.specs.Rises.{onto, risesTo, Reached, Landed};
 ghost use Rattle.marks.specs.Rows.{permutes, classesOn, ClassesIn, Row, Images, Rank};
 use geometry::classes;
 use points::Found;
+use points::cell;
 use ranked::Shape;
 use ranked::lists;
 use spec::MAX_COUNT;
 
 // This is the mark of a confirmed row: "The mark (added) is confirmed, 1".
 const CONFIRMED: u8 = 1;
-
-// Returns the number in cell k.
-fn cell(cells: &[u16], k: usize) -> usize
-    requires { ⌜ k < length (now cells) ⌝ }
-    ensures { λ x. ⌜ x ≡ getD (now (cells .entry)) k 0 ⌝ }
-{
-    cells[k] as usize
-}
 
 // Tells whether the row holds only numbers of vertices, and none of them twice. A rank has at most 2,048 elements.
 fn is_permutation(row: &[u16]) -> bool

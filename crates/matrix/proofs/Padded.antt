@@ -15,14 +15,14 @@ use Rattle.spec.specs.Matrix.{Vector, Matrix, columns, mulVec, mulMat}
 use Rattle.laws.proofs.Lists.{map-map, in-map, of-range, length-table}
 use Rattle.laws.proofs.Shapes.{Square}
 use Rattle.float.specs.Reading.{padded}
-use Rattle.matrix.specs.Reading.{corner, paddedRows}
+use Rattle.matrix.specs.Reading.{leading, corner, paddedRows}
 use Rattle.float.proofs.Written.{Written, whole, drop-replicate}
 use Rattle.float.proofs.Padded.{take-padded}
 
 -- ---- what is read of them
 
 pub corner-padded : (d : ℕ) (m r : Matrix) → Square d m → r ≡ paddedRows m → corner d r ≡ m
-unfolding corner paddedRows
+unfolding corner leading paddedRows
 corner-padded d m r s e = ap (λ (x : Matrix). map (take d) (take d x)) e ∙ ap (map (take d)) (take-at (map padded m) _ d (length-map m padded ∙ s .0)) ∙ rows m (s .1)
   where
     rows : (m : Matrix) → ((r : Vector) → In r m → length r ≡ d) → map (take d) (map padded m) ≡ m

@@ -21,7 +21,7 @@ leading d n m = map (take n) (take d m)
 
 -- Gives the d by d matrix that an array of arrays begins with.
 unfoldable pub corner : ℕ → List (List Float) → Matrix
-corner d m = map (take d) (take d m)
+corner d m = leading d d m
 
 -- Puts a matrix into an array of arrays: its rows stand first, each padded, and rows of +0.0 after them.
 unfoldable pub paddedRows : Matrix → List (List Float)

@@ -5,7 +5,7 @@ ghost use mathlib.Core.List.{map};
 ghost use Prim.Native.Nat.{_≤_, _<_};
 ghost use lib.ListN.{take, getD};
 ghost use Rattle.spec.specs.Limits.{maxDimension};
-ghost use Rattle.spec.specs.Float.{zeroF, dot};
+ghost use Rattle.spec.specs.Float.{zeroF};
 ghost use Rattle.spec.specs.Matrix.{columns, mulVec, mulMat, inverse, determinant};
 ghost use Rattle.float.specs.Reading.{padded};
 ghost use Rattle.matrix.specs.Reading.{corner, paddedRows, ifRegular, inverseCells};
@@ -56,20 +56,6 @@ pub fn from_columns(c: [[f64; DIMENSION]; DIMENSION], d: usize) -> [[f64; DIMENS
     r
 }
 
-// Returns the dots of v with each row of m.
-fn dots(v: [f64; DIMENSION], m: [[f64; DIMENSION]; DIMENSION], d: usize) -> [f64; DIMENSION]
-    requires { ⌜ d ≤ maxDimension ⌝ }
-    ensures { λ r. ⌜ r ≡ padded (map (dot (take d v)) (corner d m)) ⌝ }
-{
-    let mut r = [0.0; DIMENSION];
-    let mut i: usize = 0;
-    while i < d {
-        r[i] = vector::dot_of(v, m[i], d);
-        i += 1;
-    }
-    r
-}
-
 // Returns the product of a and b: each entry is the dot of a row of a and a column of b.
 pub fn product(
     a: [[f64; DIMENSION]; DIMENSION],
@@ -83,7 +69,7 @@ pub fn product(
     let mut r = [[0.0; DIMENSION]; DIMENSION];
     let mut i: usize = 0;
     while i < d {
-        r[i] = dots(a[i], t, d);
+        r[i] = image(t, a[i], d);
         i += 1;
     }
     r

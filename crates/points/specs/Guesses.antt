@@ -35,6 +35,10 @@ pub record Clear (d : ℕ) (l : List Float) (k j : ℕ) : Type 0 where
 abbrev pub places : ℕ
 places = 2 * maxCount
 
+-- How many places in a row are looked at.
+abbrev pub tries : ℕ
+tries = 16
+
 -- The number that stands in a free place. No point has it.
 abbrev pub free : ℕ
 free = 65535

@@ -30,12 +30,12 @@ pub fn wide(x: u16) -> usize
     x as usize
 }
 
-// The number at place k of a row or a list of points.
-pub fn number(list: &[u16], k: usize) -> usize
-    requires { ⌜ k < length (now list) ⌝ }
-    ensures { λ r. ⌜ r ≡ getD (now (list .entry)) k 0 ⌝ }
+// The number in cell k of a row or a list.
+pub fn cell(cells: &[u16], k: usize) -> usize
+    requires { ⌜ k < length (now cells) ⌝ }
+    ensures { λ r. ⌜ r ≡ getD (now (cells .entry)) k 0 ⌝ }
 {
-    wide(list[k])
+    wide(cells[k])
 }
 
 // Tells whether a float is finite and not too large. One comparison is enough, because neither a NaN nor an infinity is at most LARGEST.

@@ -2,6 +2,7 @@
 // group. So nearly every row of a search is settled by comparing it with a product, and only the others are followed element by element.
 use marks::mark;
 use points::Found;
+use points::wide;
 use ranked::Shape;
 ghost use mathlib.Core.Path.{_≡_};
 ghost use mathlib.Core.Bool.{true};
@@ -44,12 +45,6 @@ fn row_at(rows: &[u16], v: usize, k: usize) -> &[u16]
 // The next functions keep what says where to look for the factors of a row. Some confirmed rows are generators. Beside each generator stand the
 // places of the vertices 0 to 7 in it, so that the first entries of the other factor are known, and a table finds the rows that have them. A
 // wrong guess costs only time, so nothing is promised of what the table and the generators are.
-
-fn wide(x: u16) -> usize
-    ensures { λ r. ⌜ r ≡ x ⌝ }
-{
-    x as usize
-}
 
 // Returns the entry at p, or 0 where p is past the end.
 fn entry(row: &[u16], p: usize) -> u16 {

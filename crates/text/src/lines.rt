@@ -9,6 +9,7 @@ ghost use Rattle.text.specs.Members.{membersText};
 use crate::writing::put_bytes;
 use crate::writing::put_decimal;
 use crate::writing::put_labelled;
+use points::cell;
 use spec::Refusal;
 
 // Writes a refusal's line: "A refusal prints `refused` and its number".
@@ -38,21 +39,6 @@ pub fn element_type(
     let third = put_labelled(out, second, b" ", example);
     let fourth = put_labelled(out, third, b" ", count);
     put_bytes(out, fourth, b"\n")
-}
-
-// Widens a cell to a number.
-fn wide(x: u16) -> usize
-    ensures { λ r. ⌜ r ≡ x ⌝ }
-{
-    x as usize
-}
-
-// Returns a cell of a table.
-fn cell(table: &[u16], p: usize) -> usize
-    requires { ⌜ p < length (now table) ⌝ }
-    ensures { λ r. ⌜ r ≡ getD (now (table .entry)) p 0 ⌝ }
-{
-    wide(table[p])
 }
 
 // Writes the lines of the first n types of a table.

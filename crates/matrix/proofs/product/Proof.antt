@@ -13,7 +13,7 @@ use Rattle.spec.specs.Matrix.{mulMat}
 use Rattle.float.specs.Reading.{padded}
 use Rattle.matrix.specs.Reading.{corner, paddedRows}
 use Rattle.float.proofs.Written.{Written, none, next}
-use Rattle.matrix.proofs.Corner.{length-corner, over-corner}
+use Rattle.matrix.proofs.Corner.{length-corner, over-corner, image-dots}
 use Rattle.matrix.proofs.Padded.{padded-rows-table, corner-columns}
 use Rattle.matrix.proofs.product.Statement.{statement}
 use Rattle.matrix.proofs.product.Tie as tie
@@ -25,7 +25,7 @@ abbrev μ-loop : tie.MeasureT-loop
 μ-loop d a t r₀ i₀ r i = d - i
 
 loop-again : tie.Need-loop-again Inv-loop μ-loop
-loop-again c = (search needs, next _ (omega arith) (c .dots .ensures) (c .before .before .before .loop .inv .1))
+loop-again c = (search needs, next _ (omega arith) (c .image .ensures ∙ ap padded (image-dots _ _)) (c .before .before .before .loop .inv .1))
 
 returns : tie.Need-returns Inv-loop μ-loop
 unfolding mulMat ofBits zeroF

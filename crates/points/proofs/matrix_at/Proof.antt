@@ -8,7 +8,7 @@ use lib.ListN.{take, drop}
 use lib.Seq.{drop-drop}
 use lib.Ieee.{Float}
 use borrow.Author.Needs.{needs}
-use Rattle.matrix.specs.Reading.{corner}
+use Rattle.matrix.specs.Reading.{leading, corner}
 use Rattle.float.proofs.Written.{Written, none, next, end}
 use Rattle.points.proofs.Parts.{parts-table, parts-take, row-place, row-fits, first-fits}
 use Rattle.points.proofs.matrix_at.Statement.{statement}
@@ -50,7 +50,7 @@ loop-again c =
     (search needs, next _ (omega arith) e (l .inv .1))
 
 returns : tie.Need-returns Inv-loop μ-loop
-unfolding corner
+unfolding corner leading
 returns c =
     let a = c .before .before .before .args in
     let l = c .before .loop in

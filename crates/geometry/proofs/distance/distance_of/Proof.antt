@@ -33,7 +33,7 @@ part-first : (c : tie.After-point Inv-loop μ-loop) →
     (c .point .result .now ≡ pointAt (a .d) (a .points .now) (getD (a .list .now) 0 0)) × (length (c .point .result .now) ≡ a .d)
 part-first c =
     let s = c .before .before .before .before in
-    part-is (s .args .d) (s .args .n) (s .args .points .now) (s .args .list .now) 0 (c .before .number .result) _ (s .pre .3) (s .pre .1) (c .before .number .ensures) (c .point .ensures)
+    part-is (s .args .d) (s .args .n) (s .args .points .now) (s .args .list .now) 0 (c .before .cell .result) _ (s .pre .3) (s .pre .1) (c .before .cell .ensures) (c .point .ensures)
 
 part-next : (c : tie.After-point2 Inv-loop μ-loop) →
     let l = c .before .before .before .before in
@@ -42,10 +42,10 @@ part-next : (c : tie.After-point2 Inv-loop μ-loop) →
 part-next c =
     let t = c .before .before .before in
     let s = entry (t .before) in
-    part-is (s .args .d) (s .args .n) (s .args .points .now) (s .args .list .now) (t .before .loop .i) (c .before .number2 .result) _ (s .pre .3) (t .loop-test .taken) (c .before .number2 .ensures) (c .point2 .ensures)
+    part-is (s .args .d) (s .args .n) (s .args .points .now) (s .args .list .now) (t .before .loop .i) (c .before .cell2 .result) _ (s .pre .3) (t .loop-test .taken) (c .before .cell2 .ensures) (c .point2 .ensures)
 
 point-requires : tie.Need-point-requires Inv-loop μ-loop
-point-requires c κs = rw (c .number .ensures) (omega (arith, c .before .before .before .pre .3 0 (omega arith)))
+point-requires c κs = rw (c .cell .ensures) (omega (arith, c .before .before .before .pre .3 0 (omega arith)))
 
 empty-requires : tie.Need-empty-requires Inv-loop μ-loop
 empty-requires c κs = omega (arith, part-first c .1, c .before .before .before .before .pre .0)
@@ -69,7 +69,7 @@ returns c =
 point-requires-2 : tie.Need-point-requires-2 Inv-loop μ-loop
 point-requires-2 c κs =
     let t = c .before .before in
-    rw (c .number2 .ensures) (omega (arith, entry (t .before) .pre .3 (t .before .loop .i) (t .loop-test .taken)))
+    rw (c .cell2 .ensures) (omega (arith, entry (t .before) .pre .3 (t .before .loop .i) (t .loop-test .taken)))
 
 add-requires : tie.Need-add-requires Inv-loop μ-loop
 add-requires c κs =

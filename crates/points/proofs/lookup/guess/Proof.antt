@@ -7,7 +7,7 @@ use lib.ListN.{length}
 use lib.Seq.{length-take-le}
 use borrow.Author.Needs.{needs}
 use Rattle.spec.specs.Limits.{maxDimension}
-use Rattle.points.specs.Guesses.{places}
+use Rattle.points.specs.Guesses.{places, tries}
 use Rattle.points.proofs.Parts.{length-parts, part-end}
 use Rattle.points.proofs.Finding.{at-is}
 use Rattle.points.proofs.Hits.{lone-number}
@@ -15,10 +15,10 @@ use Rattle.points.proofs.lookup.guess.Statement.{statement}
 use Rattle.points.proofs.lookup.guess.Tie as tie
 
 abbrev Inv-loop : tie.InvT-loop
-Inv-loop points d n places q at i₀ i = i ≤ 16
+Inv-loop points d n places q at i₀ i = i ≤ tries
 
 abbrev μ-loop : tie.MeasureT-loop
-μ-loop points d n places q at i₀ i = 16 - i
+μ-loop points d n places q at i₀ i = tries - i
 
 long : (c : tie.Start Inv-loop μ-loop) → length (c .args .q) ≡ maxDimension
 long c = search needs

@@ -2,14 +2,15 @@
 -- Assumes nothing.
 use Prim.Native.Nat.{_≤_, _-_}
 use borrow.Author.Needs.{needs}
+use Rattle.points.specs.Guesses.{tries}
 use Rattle.points.proofs.lookup.keep.Statement.{statement}
 use Rattle.points.proofs.lookup.keep.Tie as tie
 
 abbrev Inv : tie.InvT-loop
-Inv table₀ at k i₀ table i = i ≤ 16
+Inv table₀ at k i₀ table i = i ≤ tries
 
 abbrev μ : tie.MeasureT-loop
-μ table₀ at k i₀ table i = 16 - i
+μ table₀ at k i₀ table i = tries - i
 
 pub keep-spec : {M : Type 1} → statement M
 keep-spec =

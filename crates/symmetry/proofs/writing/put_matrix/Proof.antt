@@ -79,7 +79,7 @@ loop-again c =
     )
 
 returns : tie.Need-returns Inv μ
-unfolding leading corner
+unfolding corner
 returns c =
     let s = c .before .before .before in
     let l = c .before .loop in
