@@ -3,11 +3,12 @@
 use mathlib.Core.Path.{_≡_}
 use mathlib.Core.Option.{Option, none, some}
 use mathlib.Core.List.{List}
-use Prim.Native.Nat.{ℕ, _+_, _≤_}
-use lib.ListN.{length, take}
+use Prim.Native.Nat.{ℕ, _≤_}
+use lib.ListN.{length}
 use Rattle.spec.specs.Types.{Classes, State, start, result}
 use Rattle.ranked.specs.declared.Shape.{Shape}
-use Rattle.ranked.specs.Words.{total, absIn}
+use Rattle.ranked.specs.Words.{listsOf, absIn}
+use Rattle.ranked.specs.Layout.{scratchAt}
 use Rattle.element_types.specs.State.{stateIn, Sweepable, Countable}
 use Rattle.settling.specs.declared.settled.Ending.{Ending}
 use Rattle.settling.specs.declared.settled.Ending.the-variants.{Settled, Changing}
@@ -18,15 +19,15 @@ endOf Settled S = some S
 endOf Changing S = none
 
 -- The types in the words are the start state by some classes, and there is room for the sweeps.
-pub record Started (sh : Shape) (low : ℕ) (w : List ℕ) : Type 0 where
-  pub sweepable : Sweepable sh low w
-  pub room : low + total sh ≤ length w
+pub record Started (sh : Shape) (w : List ℕ) : Type 0 where
+  pub sweepable : Sweepable sh w
+  pub room : scratchAt sh ≤ length w
   pub classes : Classes
-  pub state : stateIn sh low w ≡ start (absIn sh (take low w)) classes
+  pub state : stateIn sh w ≡ start (absIn sh (listsOf sh w)) classes
 
 -- The lists stay as they were, and the types are section 4's result by any classes that w starts from.
-pub record Settles (sh : Shape) (low : ℕ) (w v : List ℕ) (ending : Ending) : Type 0 where
-  pub lists : take low v ≡ take low w
-  pub numbered : Countable sh low v
-  pub ends : (cls : Classes) → stateIn sh low w ≡ start (absIn sh (take low w)) cls
-      → result (absIn sh (take low w)) cls ≡ endOf ending (stateIn sh low v)
+pub record Settles (sh : Shape) (w v : List ℕ) (ending : Ending) : Type 0 where
+  pub lists : listsOf sh v ≡ listsOf sh w
+  pub numbered : Countable sh v
+  pub ends : (cls : Classes) → stateIn sh w ≡ start (absIn sh (listsOf sh w)) cls
+      → result (absIn sh (listsOf sh w)) cls ≡ endOf ending (stateIn sh v)

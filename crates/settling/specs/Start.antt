@@ -13,10 +13,10 @@ use Rattle.spec.specs.Types.{start}
 use Rattle.spec.specs.Hull.{classes}
 use Rattle.spec.specs.Classes.{distances, classTable, byTable}
 use Rattle.ranked.specs.declared.Shape.{Shape}
-use Rattle.ranked.specs.Words.{total, absIn}
-use Rattle.ranked.specs.Bench.{solidAt}
+use Rattle.ranked.specs.Words.{listsOf, absIn}
+use Rattle.ranked.specs.Layout.{proper, scratchAt}
+use Rattle.ranked.specs.Bench.{solidIn}
 use Rattle.geometry.specs.Classes.{sameClass}
-use Rattle.distances.specs.Solids.{proper}
 use Rattle.element_types.specs.State.{stateIn, Sweepable}
 
 -- ---- a rank
@@ -49,13 +49,13 @@ pub record ByClass (w v : List ℕ) (to reps n : ℕ) (cells : List Float) (from
 -- ---- all ranks
 
 -- There is room for the types and for what numbering them uses, and each proper element has its cell.
-pub record Startable (sh : Shape) (low : ℕ) (w : List ℕ) (cells : List Float) : Type 0 where
-  pub sweepable : Sweepable sh low w
-  pub room : low + total sh ≤ length w
+pub record Startable (sh : Shape) (w : List ℕ) (cells : List Float) : Type 0 where
+  pub sweepable : Sweepable sh w
+  pub room : scratchAt sh ≤ length w
   pub inside : proper sh ≤ length cells
 
 -- The lists stay as they were. Where the cells are the classes of the solid with some coordinates, the types are its start state.
-pub record Begins (sh : Shape) (low : ℕ) (w v : List ℕ) (cells : List Float) : Type 0 where
-  pub lists : take low v ≡ take low w
-  pub state : (fs : List Float) → take (proper sh) cells ≡ classes (distances (solidAt sh low w fs))
-      → stateIn sh low v ≡ start (absIn sh (take low w)) (byTable (classTable (solidAt sh low w fs)))
+pub record Begins (sh : Shape) (w v : List ℕ) (cells : List Float) : Type 0 where
+  pub lists : listsOf sh v ≡ listsOf sh w
+  pub state : (fs : List Float) → take (proper sh) cells ≡ classes (distances (solidIn sh w fs))
+      → stateIn sh v ≡ start (absIn sh (listsOf sh w)) (byTable (classTable (solidIn sh w fs)))

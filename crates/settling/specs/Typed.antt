@@ -2,38 +2,38 @@
 -- Assumes nothing.
 use mathlib.Core.Path.{_≡_}
 use mathlib.Core.List.{List}
-use Prim.Native.Nat.{ℕ, _+_}
+use Prim.Native.Nat.{ℕ}
 use lib.ListN.{length, take, drop}
 use lib.Ieee.{Float}
 use Rattle.spec.specs.Types.{start}
 use Rattle.spec.specs.Hull.{classes}
 use Rattle.spec.specs.Classes.{distances, classTable, byTable, typesOf}
 use Rattle.ranked.specs.declared.Shape.{Shape}
-use Rattle.ranked.specs.Words.{absIn}
-use Rattle.ranked.specs.Bench.{solidAt}
-use Rattle.distances.specs.Solids.{coordinates, proper}
+use Rattle.ranked.specs.Words.{listsOf, absIn}
+use Rattle.ranked.specs.Layout.{proper, coordinates, classesAt}
+use Rattle.ranked.specs.Bench.{solidIn}
 use Rattle.element_types.specs.State.{stateIn, Countable}
 use Rattle.settling.specs.declared.settled.Ending.{Ending}
 use Rattle.settling.specs.Settle.{Started, endOf}
 
 -- The start state of the solid that lies in words w and floats fs is made in the words v and floats gs.
-pub record AtStart (sh : Shape) (low : ℕ) (w v : List ℕ) (fs gs : List Float) : Type 0 where
-  pub lists : take low v ≡ take low w
-  pub points : take (coordinates sh (take low w)) gs ≡ take (coordinates sh (take low w)) fs
+pub record AtStart (sh : Shape) (w v : List ℕ) (fs gs : List Float) : Type 0 where
+  pub lists : listsOf sh v ≡ listsOf sh w
+  pub points : take (coordinates sh) gs ≡ take (coordinates sh) fs
   pub lengths : (length v ≡ length w) × (length gs ≡ length fs)
   -- The class of every proper element stands where all_classes leaves it.
-  pub cells : take (proper sh) (drop (coordinates sh (take low w) + proper sh) gs) ≡ classes (distances (solidAt sh low w fs))
-  pub state : stateIn sh low v ≡ start (absIn sh (take low w)) (byTable (classTable (solidAt sh low w fs)))
+  pub cells : take (proper sh) (drop (classesAt sh) gs) ≡ classes (distances (solidIn sh w fs))
+  pub state : stateIn sh v ≡ start (absIn sh (listsOf sh w)) (byTable (classTable (solidIn sh w fs)))
   -- Any step can be done from here, and so can the sweeps.
-  pub started : Started sh low v
+  pub started : Started sh v
 
 -- The types of the solid that lies in words w and floats fs are worked out into the words v and floats gs.
-pub record Typed (sh : Shape) (low : ℕ) (w v : List ℕ) (fs gs : List Float) (ending : Ending) : Type 0 where
-  pub lists : take low v ≡ take low w
-  pub points : take (coordinates sh (take low w)) gs ≡ take (coordinates sh (take low w)) fs
+pub record Typed (sh : Shape) (w v : List ℕ) (fs gs : List Float) (ending : Ending) : Type 0 where
+  pub lists : listsOf sh v ≡ listsOf sh w
+  pub points : take (coordinates sh) gs ≡ take (coordinates sh) fs
   pub lengths : (length v ≡ length w) × (length gs ≡ length fs)
   -- The class of every proper element stands where all_classes leaves it.
-  pub cells : take (proper sh) (drop (coordinates sh (take low w) + proper sh) gs) ≡ classes (distances (solidAt sh low w fs))
+  pub cells : take (proper sh) (drop (classesAt sh) gs) ≡ classes (distances (solidIn sh w fs))
   -- The result is the state in which the sweeps end, or there is none, which is refusal 15.
-  pub result : typesOf (solidAt sh low w fs) ≡ endOf ending (stateIn sh low v)
-  pub numbered : Countable sh low v
+  pub result : typesOf (solidIn sh w fs) ≡ endOf ending (stateIn sh v)
+  pub numbered : Countable sh v

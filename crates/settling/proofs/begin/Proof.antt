@@ -2,10 +2,10 @@
 -- Assumes nothing.
 use borrow.Author.Needs.{needs}
 use native.Mathlib.Omega.{arith}
-use mathlib.Core.Path.{sym}
 use Prim.Native.Nat.{_≤_}
 use lib.ListN.{length}
-use lib.Seq.{length-take-le}
+use Rattle.ranked.specs.Words.{listsOf}
+use Rattle.distances.specs.Listed.{Classed}
 use Rattle.distances.proofs.Room.{roomy-floats}
 use Rattle.settling.proofs.Benched.{cells-in, rest-is, startable, at-start}
 use Rattle.settling.proofs.begin.Statement.{statement}
@@ -13,28 +13,32 @@ use Rattle.settling.proofs.begin.Tie as tie
 
 -- These are the words and floats as they were lent.
 entry : (c : tie.After-all-classes) → tie.Start
-entry c = c .before .before .before .before .before
+entry c = c .before .before .before .before .before .before
+
+-- The solid of the words is classed.
+classed : (c : tie.After-all-classes)
+    → let a = entry c .args in
+    Classed (a .sh) (listsOf (a .sh) (a .words .now)) (a .floats .now) (c .all-classes .last .1 .1 .0) (c .all-classes .result)
+unfolding entry
+classed c = rw (c .before .before .lists .ensures) at (c .all-classes .ensures)
 
 -- The classes lie within the floats.
-inside : (c : tie.After-class-cells) → c .class-cells .result ≤ length (c .before .before .before .all-classes .last .1 .1 .0)
+inside : (c : tie.After-classes) → c .classes .result ≤ length (c .before .before .before .all-classes .last .1 .1 .0)
 unfolding entry
-inside c =
-    let a = c .before .before .before in
-    let s = entry a in
-    let k = cells-in _ _ _ _ (s .pre) _ _ (a .all-classes .ensures) in
-    omega (arith, c .class-cells .ensures _ (s .pre .held))
+inside c = let a = c .before .before .before in omega (arith, c .classes .ensures, cells-in _ _ _ (entry a .pre) _ _ (classed a))
 
 pub begin-spec : {M : Type 1} → statement M
 unfolding entry
 begin-spec =
     tie.close
     (tie.spec
-    -- The needs are slice-reshare-prefix-all-classes, slice-aggregate-all-classes and all-classes-requires.
-    (λ c. search needs)
-    (λ c. let s = c .before .before .before in sym (length-take-le (s .args .low) (s .args .words .now) (s .pre .words-in)))
-    (λ c κs. let s = c .before .before .before .before in (s .pre .held, roomy-floats _ _ (s .pre .held) _ (s .pre .floats)))
-    -- The needs are class-cells-requires, mul-start, sub-start, part-start-start and part-start-end.
+    -- The needs are lists-requires, all-classes-requires and classes-requires.
     (λ c κs. search needs)
+    (λ c κs. let l = c .before in
+    let s = l .before .before .before .before in
+    (rw (l .lists .ensures) (s .pre .held), roomy-floats _ _ (s .pre .held) _ (s .pre .floats)))
+    (λ c κs. let p = entry (c .before .before) .pre in (p .held .tall, omega (arith, roomy-floats _ _ (p .held) _ (p .floats))))
+    -- The needs are mul-start, sub-start, part-start-start and part-start-end.
     (λ c. let k = inside (c .before) in search needs)
     (λ c. inside (c .before))
     (λ c. inside (c .before .before))
@@ -42,13 +46,11 @@ begin-spec =
     -- The need is start-requires.
     (λ c κs. let k = c .before .before .before in
     let a = k .before .before .before in
-    let s = entry a in
-    startable _ _ _ _ (s .pre) _ _ (a .all-classes .ensures) _ (rest-is _ _ _ (k .class-cells .ensures _ (s .pre .held))))
+    startable _ _ _ (entry a .pre) _ _ (classed a) _ (rest-is _ _ _ (k .classes .ensures)))
     -- The needs are same-length, same-length-2 and returns.
     (λ c. search needs)
     (λ c. search needs)
     (λ c. let t = c .before .before in
     let k = t .before .before .before .before in
     let a = k .before .before .before in
-    let s = entry a in
-    at-start _ _ _ _ (s .pre) _ _ (a .all-classes .ensures) _ (rest-is _ _ _ (k .class-cells .ensures _ (s .pre .held))) _ (t .start .kept .0) (t .start .ensures)))
+    at-start _ _ _ (entry a .pre) _ _ (classed a) _ (rest-is _ _ _ (k .classes .ensures)) _ (t .start .kept .0) (t .start .ensures)))

@@ -16,4 +16,4 @@ types-of-spec =
     (λ c. search needs)
     (λ c. let e = c .before .before in
     let b = e .before .before .before .before .before .before in
-    typed _ _ _ _ _ _ _ _ (b .begin .ensures) (e .settle .kept .0) (e .settle .ensures)))
+    typed _ _ _ _ _ _ _ (b .begin .ensures) (e .settle .kept .0) (e .settle .ensures)))
