@@ -1,10 +1,10 @@
 -- This file says what a list of an element's vertices is, and follows the scans of a rank's vertex sets.
 -- Assumes nothing.
-use mathlib.Core.Path.{_≡_, refl, sym, ap, ap₂, _∙_}
+use mathlib.Core.Path.{_≡_, refl, sym, ap, _∙_}
 use mathlib.Core.Logic.{_≢_, inl, inr}
 use mathlib.Core.Bool.{Bool, true, false, not, _&&_}
-use mathlib.Core.List.{List, [], _∷_, _++_, map}
-use Prim.Native.Nat.{ℕ, zero, suc, _+_, _-_, _≤_, _<_}
+use mathlib.Core.List.{List, [], _∷_}
+use Prim.Native.Nat.{ℕ, suc, _+_, _-_, _≤_, _<_}
 use native.Mathlib.Numerals.{add-one}
 use native.Mathlib.Omega.{arith}
 use lib.ListN.{length, getD, take, drop, length-append, drop-of-length-le}
@@ -13,11 +13,11 @@ use lib.Dec.{eqb}
 use Rattle.spec.specs.Lists.{In, range, keep, holds, eqList}
 use Rattle.spec.specs.Types.{Solid, size}
 use Rattle.spec.specs.Mark.{noRepeats, inOrder, reach, vertices, vertexSets}
-use Rattle.laws.proofs.Lists.{in-getD, of-range, length-range, getD-table, length-table}
+use Rattle.laws.proofs.Lists.{of-range, length-range, getD-table, length-table}
 use Rattle.laws.proofs.Distinct.{Split, split}
 use Rattle.laws.proofs.Counts.{lists, in-keep}
 use Rattle.ranked.specs.Marks.{Front}
-use Rattle.vertex_sets.specs.Prints.{printOf}
+use Rattle.vertex_sets.specs.Fingerprints.{fingerprintOf}
 
 -- ---- an element's vertices
 
@@ -34,7 +34,7 @@ length-keep p (x ∷ l) = go (p x) refl (length-keep p l)
     go true e ih = rw (e, keep) (omega arith)
     go false e ih = rw (e, keep) (omega arith)
 
-pub vertices-few : (s : Solid) (r e : ℕ) → length (vertices s r e) ≤ size s 1
+vertices-few : (s : Solid) (r e : ℕ) → length (vertices s r e) ≤ size s 1
 unfolding vertices inOrder
 vertices-few s r e = omega (arith, length-keep (λ u. holds eqb u (reach s r e)) (range 0 (size s 1)), length-range 0 (size s 1))
 
@@ -52,23 +52,23 @@ module _ (s : Solid) (r e n : ℕ) (old list : List ℕ) (f : Front (vertices s 
 -- ---- a rank's sets
 
 module _ (s : Solid) (r : ℕ) where
-  pub length-sets : length (vertexSets s r) ≡ size s r
+  length-sets : length (vertexSets s r) ≡ size s r
   unfolding vertexSets
   length-sets = length-table (vertices s r) (size s r)
 
-  pub set-at : (e : ℕ) → e < size s r → getD (vertexSets s r) e [] ≡ vertices s r e
+  set-at : (e : ℕ) → e < size s r → getD (vertexSets s r) e [] ≡ vertices s r e
   unfolding vertexSets
   set-at e h = getD-table (vertices s r) [] (size s r) e h
 
-  pub sets-rest : (e : ℕ) → e < size s r → drop e (vertexSets s r) ≡ vertices s r e ∷ drop (suc e) (vertexSets s r)
+  sets-rest : (e : ℕ) → e < size s r → drop e (vertexSets s r) ≡ vertices s r e ∷ drop (suc e) (vertexSets s r)
   sets-rest e h = drop-cons (vertexSets s r) e [] (rw length-sets h) ∙ ap (λ (x : List ℕ). x ∷ drop (suc e) (vertexSets s r)) (set-at e h)
 
--- Lists with different prints differ.
-pub prints-part : (l m : List ℕ) → printOf l ≢ printOf m → false ≡ eqList l m
-prints-part l m h = go (split eqList lists l m)
+-- Lists with different fingerprints differ.
+pub fingerprints-part : (l m : List ℕ) → fingerprintOf l ≢ fingerprintOf m → false ≡ eqList l m
+fingerprints-part l m h = go (split eqList lists l m)
   where
     go : Split eqList lists l m → false ≡ eqList l m
-    go (inl (p, _)) = absurd (h (ap printOf p))
+    go (inl (p, _)) = absurd (h (ap fingerprintOf p))
     go (inr (_, e)) = sym e
 
 -- What is left from e on holds x exactly where what was left from `from` on did.
@@ -107,13 +107,3 @@ module _ (s : Solid) (r : ℕ) where
   pub alone-end : (e : ℕ) → size s r ≤ e → Alone e → true ≡ noRepeats eqList (vertexSets s r)
   unfolding noRepeats
   alone-end e h i = sym (ap (noRepeats eqList) (drop-of-length-le (vertexSets s r) {i = e} (rw length-sets h))) ∙ i
-
--- A list that is longer than every set is none of them.
-pub none-longer : (x : List ℕ) (ls : List (List ℕ)) → ((l : List ℕ) → In l ls → length l < length x) → false ≡ holds eqList x ls
-unfolding holds
-none-longer x [] h = refl
-none-longer x (l ∷ ls) h = go (split eqList lists l x) (none-longer x ls (λ m k. h m (inr k)))
-  where
-    go : Split eqList lists l x → false ≡ holds eqList x ls → false ≡ holds eqList x (l ∷ ls)
-    go (inl (p, _)) ih = absurd (omega (arith, h l (inl refl), ap length p))
-    go (inr (_, e)) ih = rw (e, holds) ih

@@ -1,40 +1,38 @@
 // This module has the first clause of the mark: "no two elements of a rank have one vertex set".
-use crate::finding::is_found;
-use crate::printing::print_of;
+use crate::finding::is_vertex_set;
 use ranked::Shape;
 use ranked::vertices::vertex_list;
 use spec::MAX_COUNT;
 ghost use mathlib.Core.Path.{_≡_};
 ghost use Prim.Native.Nat.{suc, _≤_, _<_};
-ghost use lib.ListN.{take, drop};
+ghost use lib.ListN.{drop};
 ghost use Rattle.spec.specs.Lists.{holds, eqList};
 ghost use Rattle.spec.specs.Mark.{noRepeats, vertices, vertexSets, setsApart};
-ghost use Rattle.ranked.specs.Words.{absIn};
-ghost use Rattle.vertex_sets.specs.Prints.{Element, Ready};
+ghost use Rattle.ranked.specs.Words.{listsOf, absIn};
+ghost use Rattle.vertex_sets.specs.Fingerprints.{Fingerprinted, ProperElement};
 
 // Tells whether a later element of rank r has the same vertices as element e.
-fn is_repeated(words: &[u32], low: usize, sh: Shape, at: usize, r: usize, e: usize) -> bool
-    requires { ⌜ Ready sh low (now words) at ⌝ }
-    requires { ⌜ Element sh r e ⌝ }
-    ensures { λ b. ⌜ b ≡ holds eqList (vertices (absIn sh (take low (now (words .entry)))) r e)
-        (drop (suc e) (vertexSets (absIn sh (take low (now (words .entry)))) r)) ⌝ }
+fn is_repeated(words: &[u32], sh: Shape, r: usize, e: usize) -> bool
+    requires { ⌜ Fingerprinted sh (now words) ⌝ }
+    requires { ⌜ ProperElement sh r e ⌝ }
+    ensures { λ b. ⌜ b ≡ holds eqList (vertices (absIn sh (listsOf sh (now (words .entry)))) r e)
+        (drop (suc e) (vertexSets (absIn sh (listsOf sh (now (words .entry)))) r)) ⌝ }
 {
     let mut list = [0u16; MAX_COUNT];
-    let n = vertex_list(&words[..low], sh, r, e, &mut list);
-    let p = print_of(&list, n);
-    is_found(words, low, sh, at, r, e + 1, &list, n, p)
+    let n = vertex_list(&words[..sh.low], sh, r, e, &mut list);
+    is_vertex_set(words, sh, r, e + 1, &list[..n])
 }
 
 // Tells whether no two elements of rank r have the same vertices.
-fn rank_apart(words: &[u32], low: usize, sh: Shape, at: usize, r: usize) -> bool
-    requires { ⌜ Ready sh low (now words) at ⌝ }
+fn rank_apart(words: &[u32], sh: Shape, r: usize) -> bool
+    requires { ⌜ Fingerprinted sh (now words) ⌝ }
     requires { ⌜ (1 ≤ r) × (r < sh .rank) ⌝ }
-    ensures { λ b. ⌜ b ≡ noRepeats eqList (vertexSets (absIn sh (take low (now (words .entry)))) r) ⌝ }
+    ensures { λ b. ⌜ b ≡ noRepeats eqList (vertexSets (absIn sh (listsOf sh (now (words .entry)))) r) ⌝ }
 {
-    let many = sh.first[r + 1] - sh.first[r];
+    let many = sh.size(r);
     let mut e: usize = 0;
     while e < many {
-        if is_repeated(words, low, sh, at, r, e) {
+        if is_repeated(words, sh, r, e) {
             return false;
         }
         e += 1;
@@ -43,14 +41,14 @@ fn rank_apart(words: &[u32], low: usize, sh: Shape, at: usize, r: usize) -> bool
 }
 
 // Tells whether, at each proper rank, no two elements have the same vertices.
-pub fn are_apart(words: &[u32], low: usize, sh: Shape, at: usize) -> bool
-    requires { ⌜ Ready sh low (now words) at ⌝ }
-    ensures { λ b. ⌜ b ≡ setsApart (absIn sh (take low (now (words .entry)))) ⌝ }
+pub fn are_apart(words: &[u32], sh: Shape) -> bool
+    requires { ⌜ Fingerprinted sh (now words) ⌝ }
+    ensures { λ b. ⌜ b ≡ setsApart (absIn sh (listsOf sh (now (words .entry)))) ⌝ }
 {
     let rank = sh.rank;
     let mut r: usize = 1;
     while r < rank {
-        if !rank_apart(words, low, sh, at, r) {
+        if !rank_apart(words, sh, r) {
             return false;
         }
         r += 1;

@@ -4,4 +4,4 @@
 pub mod apart;
 pub mod examples;
 pub mod finding;
-pub mod printing;
+pub mod fingerprints;

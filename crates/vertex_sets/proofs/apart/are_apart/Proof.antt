@@ -1,24 +1,24 @@
+-- The ranks below r pass.
 -- Assumes nothing.
 use borrow.Author.Needs.{needs}
 use native.Mathlib.Omega.{arith}
 use mathlib.Core.Path.{sym, _∙_}
 use Prim.Native.Nat.{_-_}
 use borrow.Author.Tests.{not-true, not-false}
-use lib.ListN.{take}
 use Rattle.spec.specs.Lists.{eqList}
 use Rattle.spec.specs.Types.{top, properRanks}
 use Rattle.spec.specs.Mark.{noRepeats, vertexSets}
-use Rattle.ranked.specs.Words.{absIn}
+use Rattle.ranked.specs.Words.{listsOf, absIn}
 use Rattle.ranked.proofs.Solids.{top-is}
 use Rattle.vertex_sets.proofs.Ranks.{Passed, passed-none, passed-yes, passed-no, passed-all}
 use Rattle.vertex_sets.proofs.apart.are_apart.Statement.{statement}
 use Rattle.vertex_sets.proofs.apart.are_apart.Tie as tie
 
 abbrev Inv : tie.InvT-loop
-Inv words low sh at rank r₀ r = Passed (λ q. noRepeats eqList (vertexSets (absIn sh (take low words)) q)) 1 (top (absIn sh (take low words)) - 1) r
+Inv words sh rank r₀ r = Passed (λ q. noRepeats eqList (vertexSets (absIn sh (listsOf sh words)) q)) 1 (top (absIn sh (listsOf sh words)) - 1) r
 
 abbrev μ : tie.MeasureT-loop
-μ words low sh at rank r₀ r = rank - r
+μ words sh rank r₀ r = rank - r
 
 pub are-apart-spec : {M : Type 1} → statement M
 unfolding properRanks
@@ -30,9 +30,9 @@ are-apart-spec =
     (λ c κs. let s = c .before .before .before in (s .pre, (c .before .loop .inv .low, c .loop-test .taken)))
     -- The needs are returns, add-r, loop-less, loop-again and returns-2.
     (λ c. let a = c .before in let i = a .before in let l = i .before in let s = l .before .before in
-    passed-no (l .loop .inv) (omega (arith, i .loop-test .taken, (top-is (s .args .sh) (take (s .args .low) (s .args .words .now))), l .loop .inv .low)) (sym (a .rank-apart .ensures) ∙ not-true _ (c .if1 .taken)))
+    passed-no (l .loop .inv) (omega (arith, i .loop-test .taken, (top-is (s .args .sh) (listsOf (s .args .sh) (s .args .words .now))), l .loop .inv .low)) (sym (a .rank-apart .ensures) ∙ not-true _ (c .if1 .taken)))
     (λ c. let a = c .before in let i = a .before in let l = i .before in let s = l .before .before in omega (arith, i .loop-test .taken, s .pre .held .tall))
     (λ c. search needs)
     (λ c. let a = c .before in let i = a .before in let l = i .before in let s = l .before .before in
-    passed-yes (l .loop .inv) (omega (arith, i .loop-test .taken, (top-is (s .args .sh) (take (s .args .low) (s .args .words .now))), l .loop .inv .low)) (sym (a .rank-apart .ensures) ∙ not-false _ (c .if1 .left)))
-    (λ c. let l = c .before in let s = l .before .before in passed-all (l .loop .inv) (omega (arith, c .loop-test .left, (top-is (s .args .sh) (take (s .args .low) (s .args .words .now))), l .loop .inv .low))))
+    passed-yes (l .loop .inv) (omega (arith, i .loop-test .taken, (top-is (s .args .sh) (listsOf (s .args .sh) (s .args .words .now))), l .loop .inv .low)) (sym (a .rank-apart .ensures) ∙ not-false _ (c .if1 .left)))
+    (λ c. let l = c .before in let s = l .before .before in passed-all (l .loop .inv) (omega (arith, c .loop-test .left, (top-is (s .args .sh) (listsOf (s .args .sh) (s .args .words .now))), l .loop .inv .low))))

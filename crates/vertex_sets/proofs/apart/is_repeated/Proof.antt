@@ -1,17 +1,16 @@
+-- The element's vertices are listed and looked for among the later elements' sets.
 -- Assumes nothing.
 use borrow.Author.Needs.{needs}
 use native.Mathlib.Omega.{arith}
+use native.Mathlib.Numerals.{add-one}
 use mathlib.Core.Path.{ap₂, _∙_}
 use mathlib.Core.List.{List}
 use Prim.Native.Nat.{ℕ}
-use native.Mathlib.Nat.{le-trans}
-use native.Mathlib.Numerals.{add-one}
-use lib.ListN.{take, drop}
+use lib.ListN.{drop}
 use Rattle.spec.specs.Lists.{holds, eqList}
 use Rattle.spec.specs.Mark.{vertexSets}
-use Rattle.ranked.specs.Words.{absIn}
-use Rattle.vertex_sets.proofs.Sets.{listed, list-long, list-few}
-use Rattle.vertex_sets.proofs.Looks.{front-long, can-list}
+use Rattle.ranked.specs.Words.{listsOf, absIn}
+use Rattle.vertex_sets.proofs.Looks.{can-list, list-is, list-room, list-part, list-short, front-is}
 use Rattle.vertex_sets.proofs.apart.is_repeated.Statement.{statement}
 use Rattle.vertex_sets.proofs.apart.is_repeated.Tie as tie
 
@@ -20,18 +19,16 @@ is-repeated-spec =
     tie.close
     (tie.spec
     -- The needs are slice-aggregate-vertex-list, slice-aggregate-vertex-list-2 and vertex-list-requires.
-    (λ c. front-long (c .before .before .pre .0))
+    (λ c. let s = c .before .before in front-is (s .args .sh) (s .args .words .now) (s .pre .0 .held) (s .pre .0 .room))
     (λ c. search needs)
     (λ c κs. let s = c .before .before .before in (s .pre .0 .held, can-list (s .pre .0 .held) _ _ (s .pre .1)))
-    -- The needs are slice-aggregate-print-of and print-of-requires.
-    (λ c. search needs)
-    (λ c κs. let v = c .before .before in let s = v .before .before .before .before in let a = s .args in
-    (list-long (absIn (a .sh) (take (a .low) (a .words .now))) (a .r) (a .e) _ _ _ (v .vertex-list .ensures), le-trans (list-few (absIn (a .sh) (take (a .low) (a .words .now))) (a .r) (a .e) _ _ _ (v .vertex-list .ensures)) (can-list (s .pre .0 .held) _ _ (s .pre .1) .1)))
-    -- The needs are add-is-found, slice-aggregate-is-found, is-found-requires and returns.
-    (λ c. let s = c .before .before .before .before .before .before .before in omega (arith, s .pre .1 .inside, s .pre .0 .held .few (s .args .r) (omega (arith, s .pre .1 .high))))
-    (λ c. search needs)
-    (λ c κs. let v = c .before .before .before .before in let s = v .before .before .before .before in let a = s .args in
-    (s .pre .0, ((s .pre .1 .low, s .pre .1 .high, omega (arith, s .pre .1 .inside)), (list-long (absIn (a .sh) (take (a .low) (a .words .now))) (a .r) (a .e) _ _ _ (v .vertex-list .ensures), c .before .print-of .ensures))))
-    (λ c. let v = c .before .before .before .before .before in let s = v .before .before .before .before in let a = s .args in
-    c .is-found .ensures
-    ∙ ap₂ (λ (l : List ℕ) (i : ℕ). holds eqList l (drop i (vertexSets (absIn (a .sh) (take (a .low) (a .words .now))) (a .r)))) (listed (absIn (a .sh) (take (a .low) (a .words .now))) (a .r) (a .e) _ _ _ (v .vertex-list .ensures)) (add-one (a .e))))
+    -- The needs are add-is-vertex-set and array-share-prefix-list.
+    (λ c. let s = c .before .before .before .before .before in omega (arith, s .pre .1 .inside, s .pre .0 .held .few (s .args .r) (omega (arith, s .pre .1 .under))))
+    (λ c. let v = c .before in let s = v .before .before .before .before in list-room (s .pre .0 .held) (s .pre .1) (v .vertex-list .ensures))
+    -- The needs are slice-aggregate-is-vertex-set, is-vertex-set-requires and returns.
+    (λ c. let v = c .before .before in let s = v .before .before .before .before in list-part (s .pre .0 .held) (s .pre .1) (v .vertex-list .ensures))
+    (λ c κs. let v = c .before .before in let s = v .before .before .before .before in
+    (s .pre .0, ((s .pre .1 .above, s .pre .1 .under, omega (arith, s .pre .1 .inside)), list-short (s .pre .0 .held) (s .pre .1) (v .vertex-list .ensures))))
+    (λ c. let v = c .before .before .before in let s = v .before .before .before .before in let a = s .args in
+    c .is-vertex-set .ensures
+    ∙ ap₂ (λ (l : List ℕ) (i : ℕ). holds eqList l (drop i (vertexSets (absIn (a .sh) (listsOf (a .sh) (a .words .now))) (a .r)))) (list-is (s .pre .0 .held) (s .pre .1) (v .vertex-list .ensures)) (add-one (a .e))))

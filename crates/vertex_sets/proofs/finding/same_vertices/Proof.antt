@@ -1,10 +1,11 @@
--- Lists of different lengths are not the same.
+-- The element's vertices are listed and compared.
 -- Assumes nothing.
 use borrow.Author.Needs.{needs}
-use native.Mathlib.Omega.{arith}
-use Rattle.ranked.specs.Words.{absIn}
-use Rattle.vertex_sets.proofs.Sets.{list-long}
-use Rattle.vertex_sets.proofs.Looks.{can-list, lengths-part, compared}
+use mathlib.Core.Path.{ap, _∙_}
+use mathlib.Core.List.{List}
+use Prim.Native.Nat.{ℕ}
+use Rattle.spec.specs.Lists.{eqList}
+use Rattle.vertex_sets.proofs.Looks.{can-list, list-is, list-room, list-part}
 use Rattle.vertex_sets.proofs.finding.same_vertices.Statement.{statement}
 use Rattle.vertex_sets.proofs.finding.same_vertices.Tie as tie
 
@@ -14,13 +15,10 @@ same-vertices-spec =
     (tie.spec
     -- The needs are slice-aggregate-vertex-list and vertex-list-requires.
     (λ c. search needs)
-    (λ c κs. let s = c .before .before .before in (s .pre .0, can-list (s .pre .0) _ _ (s .pre .1 .0)))
-    -- The need is returns.
-    (λ c. let v = c .before .before in let s = v .before .before .before .before in let a = s .args in
-    lengths-part (absIn (a .sh) (a .w .now)) (a .r) (a .e) _ _ _ (v .vertex-list .ensures) _ _ (s .pre .1 .1) (c .if1 .taken))
-    -- The needs are slice-aggregate-same-list, same-list-requires and returns-2.
-    (λ c. search needs)
-    (λ c κs. let v = c .before .before .before in let s = v .before .before .before .before in let a = s .args in
-    (rw (c .before .if1 .left) at (list-long (absIn (a .sh) (a .w .now)) (a .r) (a .e) _ _ _ (v .vertex-list .ensures)), s .pre .1 .1))
-    (λ c. let v = c .before .before .before .before in let s = v .before .before .before .before in let a = s .args in
-    compared (absIn (a .sh) (a .w .now)) (a .r) (a .e) _ _ _ (v .vertex-list .ensures) _ _ (s .pre .1 .1) (c .before .before .if1 .left) _ (c .same-list .ensures)))
+    (λ c κs. let s = c .before .before .before in (s .pre .0, can-list (s .pre .0) _ _ (s .pre .1)))
+    -- The needs are array-share-prefix-own, slice-aggregate-same-list, same-list-requires and returns.
+    (λ c. let v = c .before in let s = v .before .before .before .before in list-room (s .pre .0) (s .pre .1) (v .vertex-list .ensures))
+    (λ c. let v = c .before .before in let s = v .before .before .before .before in list-part (s .pre .0) (s .pre .1) (v .vertex-list .ensures))
+    (λ c κs. search needs)
+    (λ c. let v = c .before .before .before in let s = v .before .before .before .before in
+    c .same-list .ensures ∙ ap (λ (l : List ℕ). eqList l (s .args .list .now)) (list-is (s .pre .0) (s .pre .1) (v .vertex-list .ensures))))
