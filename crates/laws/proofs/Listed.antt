@@ -12,7 +12,7 @@ use lib.Dec.{ltb}
 use Rattle.spec.specs.declared.Refusal.the-variants.{NotFull, DoubleCorner, Centred, Flat, ShortSheet, Unsettled}
 use Rattle.spec.specs.declared.Answer.the-variants.{Done, Refused}
 use Rattle.spec.specs.Lists.{In, range, every}
-use Rattle.spec.specs.Types.{top, size}
+use Rattle.spec.specs.Types.{Solid, top, size, Classes}
 use Rattle.spec.specs.Mark.{noRepeats, marked}
 use Rattle.spec.specs.Matrix.{Matrix, inverse}
 use Rattle.spec.specs.Copying.{near}
@@ -62,14 +62,14 @@ rotation-in (y ∷ l) x h = go (isRotation y) h (λ k. rotation-in l x k)
 -- ---- a member's mark is that of its row
 
 abbrev pub Marked : Setting → Member → Type 0
-Marked w x = x .mark ≡ markOf w (x .row)
+Marked w x = x .mark ≡ markOf (w .read .abs) (byTable (w .classes)) (x .row)
 
 tested-mark : (w : Setting) (m : Matrix) (x : Member) → tested w m ≡ some x → Marked w x
 unfolding tested
 tested-mark w m x = go (every (λ v. ltb v (length (w .searched .points))) (rowOf (w .searched .points) m) && examplesGo (w .searched .abs) (w .types) (rowOf (w .searched .points) m))
   where
-    go : (b : Bool) → elim b as (λ z. Option Member) [ true ↦ some (record { matrix = m; row = rowOf (w .searched .points) m; mark = markOf w (rowOf (w .searched .points) m) }) | false ↦ none ] ≡ some x → x .mark ≡ markOf w (x .row)
-    go true e = subst (λ (y : Member). y .mark ≡ markOf w (y .row)) (Option·some-injective _ x e) refl
+    go : (b : Bool) → elim b as (λ z. Option Member) [ true ↦ some (record { matrix = m; row = rowOf (w .searched .points) m; mark = markOf (w .read .abs) (byTable (w .classes)) (rowOf (w .searched .points) m) }) | false ↦ none ] ≡ some x → x .mark ≡ markOf (w .read .abs) (byTable (w .classes)) (x .row)
+    go true e = subst (λ (y : Member). y .mark ≡ markOf (w .read .abs) (byTable (w .classes)) (y .row)) (Option·some-injective _ x e) refl
     go false e = absurd (Option·none-ne-some x e)
 
 pub member-mark : (w : Setting) (l : List Flag) (x : Member) → In x (membersOf w l) → Marked w x
@@ -84,9 +84,9 @@ member-mark w (F ∷ l) x h = go (sameTypes w F) (tested w (candidate w F)) refl
     go true (some m) e (inl q) f = rw q (tested-mark w (candidate w F) m e)
     go true (some m) e (inr k) f = f k
 
-one-means : (w : Setting) (row : List ℕ) → markOf w row ≡ 1 → marked (w .read .abs) (byTable (w .classes)) row ≡ true
+pub one-means : (s : Solid) (cls : Classes) (row : List ℕ) → markOf s cls row ≡ 1 → marked s cls row ≡ true
 unfolding markOf
-one-means w row = go (marked (w .read .abs) (byTable (w .classes)) row)
+one-means s cls row = go (marked s cls row)
   where
     go : (b : Bool) → _≡_ {A = ℕ} (elim b as (λ z. ℕ) [ true ↦ 1 | false ↦ 0 ]) 1 → b ≡ true
     go true e = refl
@@ -113,7 +113,7 @@ search-mark c ms e x h k =
     let s = bound-to (setting c) _ ms e in
     let w = s .0 in
     let q = set-by c w (s .1) in
-    let m : marked (w .read .abs) (byTable (w .classes)) (x .row) ≡ true = one-means w (x .row) (sym (member-mark w (flags (w .searched .abs)) x (rw (← same _ ms (s .2)) at h)) ∙ k) in
+    let m : marked (w .read .abs) (byTable (w .classes)) (x .row) ≡ true = one-means _ _ (x .row) (sym (member-mark w (flags (w .searched .abs)) x (rw (← same _ ms (s .2)) at h)) ∙ k) in
     rw (q .0, q .1) at m
 
 -- ---- the calls

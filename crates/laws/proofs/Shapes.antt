@@ -24,7 +24,7 @@ use Rattle.spec.specs.Judged as Judging
 use Rattle.spec.specs.Judged.{Judged, refused, passed}
 use Rattle.spec.specs.Solid.{Concrete, preflight}
 use Rattle.spec.specs.Flags.{Flag, firstFlag, flags}
-use Rattle.spec.specs.Classes.{pointOf, typesOf}
+use Rattle.spec.specs.Classes.{pointOf, byTable, typesOf}
 use Rattle.spec.specs.Search.{Setting, Member, firstFar, exchanged, walk, flagColumns, candidate, sameTypes, rowOf, examplesGo, markOf, tested, membersOf, full, allFinite, setting, search}
 use Rattle.spec.specs.Calls.{typeCells, Room, Outcome, haveRoom, fitting, keptOf, outcome, membersIn, rotationsIn}
 use Rattle.laws.proofs.Lists.{length-range, in-map}
@@ -145,8 +145,8 @@ unfolding tested rowOf
 tested-shape d v w h m k x = go (every (λ u. ltb u (length (w .searched .points))) (rowOf (w .searched .points) m) && examplesGo (w .searched .abs) (w .types) (rowOf (w .searched .points) m))
     (record { matrix = k; row = length-map (w .searched .points) _ ∙ h .many })
   where
-    go : (b : Bool) → Shape d v (record { matrix = m; row = rowOf (w .searched .points) m; mark = markOf w (rowOf (w .searched .points) m) })
-        → elim b as (λ z. Option Member) [ true ↦ some (record { matrix = m; row = rowOf (w .searched .points) m; mark = markOf w (rowOf (w .searched .points) m) }) | false ↦ none ] ≡ some x → Shape d v x
+    go : (b : Bool) → Shape d v (record { matrix = m; row = rowOf (w .searched .points) m; mark = markOf (w .read .abs) (byTable (w .classes)) (rowOf (w .searched .points) m) })
+        → elim b as (λ z. Option Member) [ true ↦ some (record { matrix = m; row = rowOf (w .searched .points) m; mark = markOf (w .read .abs) (byTable (w .classes)) (rowOf (w .searched .points) m) }) | false ↦ none ] ≡ some x → Shape d v x
     go true s e = subst (λ (y : Member). Shape d v y) (Option·some-injective _ x e) s
     go false s e = absurd (Option·none-ne-some x e)
 

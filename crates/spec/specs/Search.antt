@@ -9,7 +9,7 @@ use lib.Dec.{leb, ltb, eqb}
 use lib.Ieee.{Float, lt}
 use Rattle.spec.specs.declared.Refusal.the-variants.{NotFull, DoubleCorner, Centred, Flat, Unsettled}
 use Rattle.spec.specs.Lists.{holds, eqList, range, every}
-use Rattle.spec.specs.Types.{Solid, top, size, properRanks, State, typeOf, elementTypesAt}
+use Rattle.spec.specs.Types.{Solid, top, size, properRanks, State, Classes, typeOf, elementTypesAt}
 use Rattle.spec.specs.Mark.{noRepeats, vertices, vertexSets, marked}
 use Rattle.spec.specs.Float.{eps, zeroF, finite}
 use Rattle.spec.specs.Matrix.{Matrix, columns, mulVec, mulMat, inverse, determinant}
@@ -98,16 +98,16 @@ pub record Member : Type 0 where
   pub row : List ℕ
   pub mark : ℕ
 
--- The mark is "confirmed, 1, exactly when" the rule holds "in the solid as read", and "Otherwise 0".
-unfoldable pub markOf : Setting → List ℕ → ℕ
-markOf w row = elim (marked (w .read .abs) (byTable (w .classes)) row) [ true ↦ 1 | false ↦ 0 ]
+-- The mark is "confirmed, 1, exactly when" the rule holds, and "Otherwise 0".
+unfoldable pub markOf : Solid → Classes → List ℕ → ℕ
+markOf s cls row = elim (marked s cls row) [ true ↦ 1 | false ↦ 0 ]
 
--- This is the member that a candidate gives, where it passes.
+-- This is the member that a candidate gives, where it passes. Its mark is that of its row "in the solid as read".
 unfoldable pub tested : Setting → Matrix → Option Member
 tested w m =
     let row = rowOf (w .searched .points) m in
     elim (every (λ v. ltb v (length (w .searched .points))) row && examplesGo (w .searched .abs) (w .types) row)
-    [ true ↦ some (record { matrix = m; row = row; mark = markOf w row }) | false ↦ none ]
+    [ true ↦ some (record { matrix = m; row = row; mark = markOf (w .read .abs) (byTable (w .classes)) row }) | false ↦ none ]
 
 -- These are the members of a list of flags: "Members come in flag order with matrix and row".
 unfoldable pub membersOf : Setting → List Flag → List Member
