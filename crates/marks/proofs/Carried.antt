@@ -3,14 +3,14 @@
 use mathlib.Core.Path.{_≡_, refl, sym, _∙_, ap, ap₂}
 use mathlib.Core.Bool.{Bool, true, false}
 use mathlib.Core.List.{List}
-use Prim.Native.Nat.{ℕ, zero, suc, _+_, _-_, _*_, _≤_, _<_}
-use native.Mathlib.Numerals.{add-one}
+use Prim.Native.Nat.{ℕ, zero, suc, _+_, _-_, _≤_, _<_}
 use native.Mathlib.Omega.{arith}
 use native.Mathlib.Decide.{ℕ-discrete}
 use lib.ListN.{length, getD, set, drop, length-set}
 use lib.Seq.{getD-take, getD-drop, getD-set-same, getD-set-other}
 use lib.Dec.{eqb}
 use lib.Ieee.{Float, nan}
+use Rattle.spec.specs.Limits.{maxRank, maxCount}
 use Rattle.spec.specs.Lists.{eqList, range, every}
 use Rattle.spec.specs.Types.{size, properRanks, Classes}
 use Rattle.spec.specs.Demand.{Proper}
@@ -25,14 +25,15 @@ use Rattle.points.specs.declared.Found.{Found}
 use Rattle.points.specs.declared.Found.the-variants.{At, Nothing}
 use Rattle.ranked.specs.declared.Shape.{Shape}
 use Rattle.ranked.specs.Words.{firstAt, sizeAt, total, absIn, Held}
-use Rattle.ranked.proofs.Solids.{top-is, size-is, size-past, number-in}
+use Rattle.ranked.specs.Layout.{proper, before, classesAt, classAt}
+use Rattle.ranked.specs.Bench.{solidOn}
+use Rattle.ranked.proofs.Solids.{top-is, size-is, sizes-are, in-order, number-in}
 use Rattle.ranked.proofs.Turns.{Every, range-yes, range-no, range-end}
 use Rattle.geometry.specs.Classes.{sameClass}
-use Rattle.distances.specs.Solids.{coordinates, proper, before, beforeIn}
-use Rattle.distances.proofs.Ranks.{in-order}
+use Rattle.distances.specs.Solids.{beforeIn}
 use Rattle.distances.proofs.ClassCells.{same-class-at, before-is}
 use Rattle.marks.specs.Rises.{risesTo, Reached, Landed}
-use Rattle.marks.specs.Rows.{concrete, classesOn, ClassesIn, Row, Images, Rank}
+use Rattle.marks.specs.Rows.{classesOn, ClassesIn, Row, Images, Rank}
 use Rattle.marks.proofs.Rises.{vertex-reached, reached}
 use Rattle.marks.proofs.Rows.{permuted}
 
@@ -40,7 +41,10 @@ use Rattle.marks.proofs.Rows.{permuted}
 
 module _ {sh : Shape} {w row : List ℕ} (a : Row sh w row) where
   rows : Permutes (absIn sh w) row
-  rows = let p = permuted row (a .permuted) in record { full = a .full; low = λ v m. rw (a .full) at (p .low v m); once = p .once }
+  rows =
+      let p = permuted row (a .permuted) in
+      let full : length row ≡ size (absIn sh w) 1 = a .full ∙ sym (sizes-are sh w (a .held) 1) in
+      record { full = full; low = λ v m. rw full at (p .low v m); once = p .once }
 
   sets : (r : ℕ) → Proper (absIn sh w) r → Once (vertexSets (absIn sh w) r)
   sets r p =
@@ -52,10 +56,10 @@ module _ {sh : Shape} {w row : List ℕ} (a : Row sh w row) where
 
   module _ {cells : List ℕ} {r : ℕ} (b : Rank sh w row cells r) (e : ℕ) (h : e < sizeAt sh r) where
     in-solid : e < size (absIn sh w) r
-    in-solid = rw (size-is sh w r (omega (arith, b .high))) h
+    in-solid = rw (sizes-are sh w (a .held) r) h
 
     pub row-cell : r ≡ 1 → e < length row
-    row-cell q = let k : e < size (absIn sh w) 1 = rw q at in-solid in omega (arith, a .full)
+    row-cell q = let k : e < sizeAt sh 1 = rw q at h in omega (arith, a .full)
 
     pub vertex-lands : r ≡ 1 → (x : ℕ) → x ≡ getD row e 0 → (cls : Classes) → Reached (absIn sh w) cls row r e (At x)
     vertex-lands q x z cls =
@@ -77,7 +81,7 @@ module _ {sh : Shape} {w row : List ℕ} (a : Row sh w row) where
       let p = is-proper (suc q) (omega arith) (omega (arith, b .high)) in
       let p′ = is-proper (suc (suc q)) (omega arith) (b .high) in
       let i : Images sh w row cells (suc q) = rw z at (b .below two) in
-      let n₁ : size s (suc q) ≡ sizeAt sh (suc q) = size-is sh w (suc q) (omega (arith, b .high)) in
+      let n₁ : size s (suc q) ≡ sizeAt sh (suc q) = sizes-are sh w (a .held) (suc q) in
       rw z (reached s (a .held .sound) (a .held .filled) cls row rows q p (λ f k. rw n₁ (i f (rw n₁ at k) .1)) p′ (sets (suc q) p) (sets (suc (suc q)) p′)
       (λ f. getD cells (firstAt sh (suc q) + f) 0) (λ f k. i f (rw n₁ at k) .0) e (in-solid b e h))
 
@@ -87,37 +91,31 @@ module _ {sh : Shape} {w row : List ℕ} (a : Row sh w row) where
 
 -- ---- classes
 
--- The cells say who shares a class.
-pub class-cells : (sh : Shape) (w : List ℕ) (fs : List Float) → Held sh w → ClassesIn sh w fs → (r e g : ℕ) → 1 ≤ r → r < sh .rank → e < sizeAt sh r → g < sizeAt sh r
-    → eqb (classesOn sh w fs r g) (classesOn sh w fs r e)
-    ≡ sameClass (getD fs (coordinates sh w + proper sh + (before sh r + g)) nan) (getD fs (coordinates sh w + proper sh + (before sh r + e)) nan)
-class-cells sh w fs h c r e g low high he hg =
-    let n = size-is sh w r (omega arith) in
-    same-class-at (concrete sh w fs) r g e low (omega (arith, top-is sh w)) (rw n hg) (rw n he) ∙ ap₂ sameClass (cell g hg) (cell e he)
-  where
-    cell : (k : ℕ) → k < sizeAt sh r
-        → getD (classes (distances (concrete sh w fs))) (beforeIn (absIn sh w) r + k) nan ≡ getD fs (coordinates sh w + proper sh + (before sh r + k)) nan
-    cell k hk =
-        let b = before-is sh w h r low (omega arith) in
-        let o₁ = in-order sh w h 1 r low (omega arith) in
-        let o₂ = in-order sh w h (suc r) (sh .rank) high (omega arith) in
-        let o₃ = h .some r (omega arith) in
-        let i : before sh r + k < proper sh = omega arith in
-        rw (b, ← c .cells) (getD-take (proper sh) (drop (coordinates sh w + proper sh) fs) (before sh r + k) nan i ∙ getD-drop (coordinates sh w + proper sh) fs (before sh r + k) nan)
+module _ (sh : Shape) (w : List ℕ) (fs : List Float) (h : Held sh w) (c : ClassesIn sh w fs) (r : ℕ) (low : 1 ≤ r) (high : r < sh .rank) where
+  start-below : firstAt sh 1 ≤ firstAt sh r
+  start-below = in-order sh w h 1 r low (omega arith)
 
--- The cell of a class lies in the floats.
-pub ranks-lie : (sh : Shape) (w : List ℕ) → Held sh w → (r : ℕ) → 1 ≤ r → r < sh .rank
-    → (r < 7) × (sh .rank < 7) × (firstAt sh 1 ≤ firstAt sh (sh .rank)) × (firstAt sh 1 ≤ firstAt sh r)
-ranks-lie sh w h r low high =
-    (omega (arith, h .tall), omega (arith, h .tall), in-order sh w h 1 (sh .rank) (omega arith) (omega arith), in-order sh w h 1 r low (omega arith))
+  place-in : (e : ℕ) → e < sizeAt sh r → before sh r + e < proper sh
+  place-in e k = omega (arith, start-below, in-order sh w h (suc r) (sh .rank) high (omega arith), h .some r (omega arith))
 
-pub class-in : (sh : Shape) (w : List ℕ) (fs : List Float) → Held sh w → ClassesIn sh w fs → (v : ℕ) → v ≡ size (absIn sh w) 1
-    → (r e : ℕ) → 1 ≤ r → r < sh .rank → e < sizeAt sh r → v * sh .dimension + proper sh + (before sh r + e) < length fs
-class-in sh w fs h c v v-is r e low high he =
-    let o₁ = in-order sh w h 1 r low (omega arith) in
-    let o₂ = in-order sh w h (suc r) (sh .rank) high (omega arith) in
-    let o₃ = h .some r (omega arith) in
-    rw v-is (omega (arith, c .room))
+  -- The rank's classes have their places, and the class of each element lies in the floats.
+  pub ranks-lie : (sh .rank ≤ maxRank) × (r ≤ suc maxRank) × (firstAt sh 1 ≤ firstAt sh r)
+  ranks-lie = (h .tall, omega (arith, h .tall), start-below)
+
+  pub class-in : (e : ℕ) → e < sizeAt sh r → classAt sh r e < length fs
+  class-in e k = omega (arith, place-in e k, c .room)
+
+  cell : (k : ℕ) → k < sizeAt sh r → getD (classes (distances (solidOn sh w fs))) (beforeIn (absIn sh w) r + k) nan ≡ getD fs (classAt sh r k) nan
+  cell k hk =
+      rw (before-is sh w h r low (omega arith), ← c .cells)
+      (getD-take (proper sh) (drop (classesAt sh) fs) (before sh r + k) nan (place-in k hk) ∙ getD-drop (classesAt sh) fs (before sh r + k) nan)
+
+  -- The cells say who shares a class.
+  pub class-cells : (e g : ℕ) → e < sizeAt sh r → g < sizeAt sh r
+      → eqb (classesOn sh w fs r g) (classesOn sh w fs r e) ≡ sameClass (getD fs (classAt sh r g) nan) (getD fs (classAt sh r e) nan)
+  class-cells e g he hg =
+      let n = sizes-are sh w h r in
+      same-class-at (solidOn sh w fs) r g e low (omega (arith, top-is sh w)) (rw n hg) (rw n he) ∙ ap₂ sameClass (cell g hg) (cell e he)
 
 -- ---- an element that goes to x, and whether it shares x's class
 
@@ -144,9 +142,10 @@ pub record Turn (sh : Shape) (w row : List ℕ) (cls : Classes) (cells₀ : List
   pub done : (f : ℕ) → f < e → (getD cells (firstAt sh r + f) 0 ≡ goes (absIn sh w) row r f) × (goes (absIn sh w) row r f < sizeAt sh r)
   pub rest : Every (carriesElement (absIn sh w) cls row r) (range 0 (size (absIn sh w) r)) e
 
-pub first-turn : (sh : Shape) (w row : List ℕ) (cls : Classes) (cells : List ℕ) (r n : ℕ) → Rank sh w row cells r → n ≡ sizeAt sh r → Turn sh w row cls cells r n (firstAt sh r) cells 0
-first-turn sh w row cls cells r n b m = record {
-  base-is = refl;
+pub first-turn : (sh : Shape) (w row : List ℕ) (cls : Classes) (cells : List ℕ) (r n base : ℕ) → Rank sh w row cells r → base ≡ firstAt sh r → n ≡ sizeAt sh r
+    → Turn sh w row cls cells r n base cells 0
+first-turn sh w row cls cells r n base b q m = record {
+  base-is = q;
   bound = omega arith;
   long = refl;
   rank = b;
@@ -158,7 +157,7 @@ first-turn sh w row cls cells r n b m = record {
 module _ {sh : Shape} {w row : List ℕ} {cls : Classes} {cells₀ : List ℕ} {r n base : ℕ} {cells : List ℕ} {e : ℕ}
     (t : Turn sh w row cls cells₀ r n base cells e) (h : Held sh w) where
   many-in : n ≡ size (absIn sh w) r
-  many-in = t .many ∙ sym (size-is sh w r (omega (arith, t .rank .high)))
+  many-in = t .many ∙ sym (sizes-are sh w h r)
 
   -- An element of the rank is below the code's number of them.
   pub turn-in : {x : ℕ} → x < size (absIn sh w) r → x < n
@@ -222,8 +221,8 @@ first-round sh w row cls cells h = record { low = omega arith; long = refl; room
 
 module _ {sh : Shape} {w row : List ℕ} {cls : Classes} {cells₀ cells : List ℕ} {r : ℕ} (t : Round sh w row cls cells₀ cells r) where
   module _ (more : r < sh .rank) where
-    pub rank-now : (n : ℕ) → n ≡ firstAt sh (r + 1) - firstAt sh r → Rank sh w row cells r × (n ≡ sizeAt sh r)
-    rank-now n e = (record { low = t .low; high = more; room = t .room; below = t .below }, rw (add-one r) at e)
+    pub rank-now : Rank sh w row cells r
+    rank-now = record { low = t .low; high = more; room = t .room; below = t .below }
 
     pub round-stop : false ≡ every (carriesElement (absIn sh w) cls row r) (range 0 (size (absIn sh w) r))
         → false ≡ every (λ q. every (carriesElement (absIn sh w) cls row q) (range 0 (size (absIn sh w) q))) (properRanks (absIn sh w))
@@ -248,9 +247,9 @@ module _ {sh : Shape} {w row : List ℕ} {cls : Classes} {cells₀ cells : List 
 
 -- ---- the vertices
 
-pub few-vertices : (sh : Shape) (w : List ℕ) → Held sh w → size (absIn sh w) 1 ≤ 2048
+pub few-vertices : (sh : Shape) (w : List ℕ) → Held sh w → sizeAt sh 1 ≤ maxCount
 few-vertices sh w h = go (sh .rank) refl
   where
-    go : (k : ℕ) → sh .rank ≡ k → size (absIn sh w) 1 ≤ 2048
-    go zero e = omega (arith, size-past sh w 1 (omega arith))
-    go (suc k) e = omega (arith, size-is sh w 1 (omega arith), h .few 1 (omega arith))
+    go : (k : ℕ) → sh .rank ≡ k → sizeAt sh 1 ≤ maxCount
+    go zero e = omega (arith, h .rest 2 (omega arith))
+    go (suc k) e = h .few 1 (omega arith)

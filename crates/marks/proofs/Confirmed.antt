@@ -10,6 +10,7 @@ use borrow.Author.Tests.{eq-eqb}
 use Rattle.spec.specs.Lists.{range, every}
 use Rattle.spec.specs.Types.{Solid, size, properRanks, Classes}
 use Rattle.spec.specs.Mark.{noRepeats, setsApart, carriesElement, marked}
+use Rattle.spec.specs.Search.{markOf}
 use Rattle.marks.specs.Rows.{permutes}
 
 regroup : (a c d e : Bool) → (a && true && c && d && e) ≡ (a && (c && d) && e)
@@ -23,16 +24,17 @@ module _ (s : Solid) (cls : Classes) (row : List ℕ) (full : length row ≡ siz
       rw (eq-eqb (length row) (size s 1) full, ← full)
       (regroup (setsApart s) (every (λ v. ltb v (length row)) row) (noRepeats eqb row) (every (λ r. every (carriesElement s cls row r) (range 0 (size s r))) (properRanks s)))
 
-  -- A test that passes counts as 1, and one that fails as 0.
-  abbrev bit : Bool → ℕ
-  bit b = elim b [ true ↦ 1 | false ↦ 0 ]
-
-  pub no-sets : setsApart s ≡ false → 0 ≡ bit (marked s cls row)
-  no-sets e = rw (marked-is, e)
+  pub no-sets : setsApart s ≡ false → 0 ≡ markOf s cls row
+  unfolding markOf
+  no-sets e = rw (markOf, marked-is, e)
 
   module _ (apart : setsApart s ≡ true) where
-    pub no-row : permutes row ≡ false → 0 ≡ bit (marked s cls row)
-    no-row e = rw (marked-is, apart, e)
+    pub no-row : permutes row ≡ false → 0 ≡ markOf s cls row
+    unfolding markOf
+    no-row e = rw (markOf, marked-is, apart, e)
 
-    pub all-else : permutes row ≡ true → (b : Bool) → b ≡ every (λ r. every (carriesElement s cls row r) (range 0 (size s r))) (properRanks s) → bit b ≡ bit (marked s cls row)
-    all-else e b q = rw (marked-is, apart, e, q)
+    -- A test that passes counts as 1, and one that fails as 0.
+    pub all-else : permutes row ≡ true → (b : Bool) → b ≡ every (λ r. every (carriesElement s cls row r) (range 0 (size s r))) (properRanks s)
+        → elim b [ true ↦ 1 | false ↦ 0 ] ≡ markOf s cls row
+    unfolding markOf
+    all-else e b q = rw (markOf, marked-is, apart, e, q)

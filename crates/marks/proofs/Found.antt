@@ -90,21 +90,21 @@ module _ (sh : Shape) (w : List ℕ) (h : Held sh w) (cells : List ℕ) (r e : �
     over-low : (g : ℕ) → In g (listAt w (supsWord (firstAt sh r) y)) → g < sizeAt sh (suc r)
     over-low g m = sup-in sh w h r y g high (rw over-is at m)
 
-    pub each-lie : Each w (supsWord (firstAt sh r) y) (4 * firstAt sh (suc r))
+    pub each-lie : Each w (supsWord (firstAt sh r) y) (subsWord (firstAt sh (suc r)) 0)
     each-lie g m =
-        let q : 4 * firstAt sh (suc r) + 4 * g ≡ subsWord (firstAt sh (suc r)) g = omega arith in
+        let q : subsWord (firstAt sh (suc r)) 0 + 4 * g ≡ subsWord (firstAt sh (suc r)) g = omega arith in
         rw q (subs-lie sh w h (suc r) g high (over-low g m))
 
-    pub rises : (x : Found) → x ≡ firstOf (keep (λ g. onto (λ k. getD cells (firstAt sh r + k) 0) (listAt w (subsWord (firstAt sh (suc r)) e)) (listAt w (4 * firstAt sh (suc r) + 4 * g)))
+    pub rises : (x : Found) → x ≡ firstOf (keep (λ g. onto (λ k. getD cells (firstAt sh r + k) 0) (listAt w (subsWord (firstAt sh (suc r)) e)) (listAt w (subsWord (firstAt sh (suc r)) 0 + 4 * g)))
         (listAt w (supsWord (firstAt sh r) y))) → x ≡ risesTo (absIn sh w) (λ k. getD cells (firstAt sh r + k) 0) r e
     unfolding risesTo
     rises x q =
         let s = absIn sh w in
         let to : ℕ → ℕ = λ k. getD cells (firstAt sh r + k) 0 in
         let es = subs s (suc r) e in
-        let tests = keep-same (λ g. onto to (listAt w (subsWord (firstAt sh (suc r)) e)) (listAt w (4 * firstAt sh (suc r) + 4 * g))) (λ g. onto to es (subs s (suc r) g))
+        let tests = keep-same (λ g. onto to (listAt w (subsWord (firstAt sh (suc r)) e)) (listAt w (subsWord (firstAt sh (suc r)) 0 + 4 * g))) (λ g. onto to es (subs s (suc r) g))
         (listAt w (supsWord (firstAt sh r) y)) (λ g m.
-        let z : 4 * firstAt sh (suc r) + 4 * g ≡ subsWord (firstAt sh (suc r)) g = omega arith in
+        let z : subsWord (firstAt sh (suc r)) 0 + 4 * g ≡ subsWord (firstAt sh (suc r)) g = omega arith in
         rw (list-is, z, subs-listed sh w h (suc r) g high (over-low g m))) in
         let first : y ≡ to (getD es 0 0) = y-is ∙ ap to (f-is ∙ ap (λ (l : List ℕ). getD l 0 0) list-is) in
         q ∙ ap firstOf (tests ∙ ap (keep (λ g. onto to es (subs s (suc r) g))) (over-is ∙ ap (sups s r) first))

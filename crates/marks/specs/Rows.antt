@@ -1,4 +1,4 @@
--- The row of a member stands beside the solid that lies in lent words, and cells say where each element goes.
+-- The row of a member stands beside the solid that lent lists hold, and cells say where each element goes.
 -- Assumes nothing.
 use mathlib.Core.Path.{_≡_}
 use Prim.Native.Nat.{ℕ, _+_, _-_, _≤_, _<_}
@@ -7,38 +7,43 @@ use mathlib.Core.List.{List}
 use lib.ListN.{length, getD, take, drop}
 use lib.Dec.{eqb, ltb}
 use lib.Ieee.{Float}
-use Rattle.spec.specs.Lists.{every}
+use Rattle.spec.specs.Lists.{range, every}
 use Rattle.spec.specs.Types.{size, Classes}
-use Rattle.spec.specs.Mark.{noRepeats, setsApart, goes}
+use Rattle.spec.specs.Mark.{noRepeats, setsApart, goes, carriesElement}
 use Rattle.spec.specs.Hull.{classes}
-use Rattle.spec.specs.Solid.{Concrete}
 use Rattle.spec.specs.Classes.{distances, classTable, byTable}
+use Rattle.spec.specs.Search.{markOf}
 use Rattle.ranked.specs.declared.Shape.{Shape}
 use Rattle.ranked.specs.Words.{firstAt, sizeAt, total, absIn, Held}
-use Rattle.distances.specs.Solids.{solidOn, coordinates, proper}
+use Rattle.ranked.specs.Layout.{proper, classesAt}
+use Rattle.ranked.specs.Bench.{solidOn}
 
 -- Tells whether the row's entries are all vertices, of which there are as many as entries, and none is there twice.
 unfoldable pub permutes : List ℕ → Bool
 permutes row = every (λ v. ltb v (length row)) row && noRepeats eqb row
 
--- Gives the solid in the words w, with the coordinates that the floats start with.
-abbrev pub concrete : Shape → List ℕ → List Float → Concrete
-concrete sh w fs = solidOn sh w (take (coordinates sh w) fs) (sh .dimension)
-
--- Gives the distance classes of that solid.
+-- Gives the distance classes of the solid that the lists w hold, with the coordinates that the floats start with.
 abbrev pub classesOn : Shape → List ℕ → List Float → Classes
-classesOn sh w fs = byTable (classTable (concrete sh w fs))
+classesOn sh w fs = byTable (classTable (solidOn sh w fs))
+
+-- Tells whether the row carries every element of rank r of that solid.
+abbrev pub carriesRank : Shape → List ℕ → List Float → List ℕ → ℕ → Bool
+carriesRank sh w fs row r = every (carriesElement (absIn sh w) (classesOn sh w fs) row r) (range 0 (size (absIn sh w) r))
+
+-- Gives the mark of a row in that solid.
+abbrev pub markOn : Shape → List ℕ → List Float → List ℕ → ℕ
+markOn sh w fs = markOf (absIn sh w) (classesOn sh w fs)
 
 -- The class of each proper element stands in the floats, behind the coordinates and the list of distances.
 pub record ClassesIn (sh : Shape) (w : List ℕ) (fs : List Float) : Type 0 where
-  pub room : coordinates sh w + proper sh + proper sh ≤ length fs
-  pub cells : take (proper sh) (drop (coordinates sh w + proper sh) fs) ≡ classes (distances (concrete sh w fs))
+  pub room : classesAt sh + proper sh ≤ length fs
+  pub cells : take (proper sh) (drop (classesAt sh) fs) ≡ classes (distances (solidOn sh w fs))
 
 -- The row permutes the vertices of a solid that has no vertex set twice in a rank.
 pub record Row (sh : Shape) (w row : List ℕ) : Type 0 where
   pub held : Held sh w
   pub apart : setsApart (absIn sh w) ≡ true
-  pub full : length row ≡ size (absIn sh w) 1
+  pub full : length row ≡ sizeAt sh 1
   pub permuted : permutes row ≡ true
 
 -- Cell firstAt sh r + e says where element e of rank r goes, and that is an element of the rank.

@@ -20,17 +20,17 @@ abbrev p : List ℕ → List ℕ → ℕ → ℕ → ℕ → ℕ → Bool
 p w goes base i up g = onto (λ f. getD goes (base + f) 0) (listAt w i) (listAt w (up + 4 * g))
 
 abbrev Inv : tie.InvT-loop
-Inv w goes base i j up n k₀ k = (k ≤ n) × (n ≡ length (listAt w j)) × First (p w goes base i up) (listAt w j) k
+Inv lists goes base i j up n k₀ k = (k ≤ n) × (n ≡ length (listAt lists j)) × First (p lists goes base i up) (listAt lists j) k
 
 abbrev μ : tie.MeasureT-loop
-μ w goes base i j up n k₀ k = n - k
+μ lists goes base i j up n k₀ k = n - k
 
 -- The entry's list lies within the words.
-lies : (c : tie.After-entry-at Inv μ) → let a = c .before .before .before .before .before .before .args in Lies (a .w .now) (a .up + 4 * c .entry-at .result)
+lies : (c : tie.After-entry-at Inv μ) → let a = c .before .before .before .before .before .before .args in Lies (a .lists .now) (a .up + 4 * c .entry-at .result)
 lies c =
     let l = c .before .before in
     let s = l .before .before .before .before in
-    s .pre .0 .2 (c .entry-at .result) (entry-in (listAt (s .args .w .now) (s .args .j)) (l .loop .k) _ (omega (arith, c .before .loop-test .taken, l .loop .inv .1)) (c .entry-at .ensures))
+    s .pre .0 .2 (c .entry-at .result) (entry-in (listAt (s .args .lists .now) (s .args .j)) (l .loop .k) _ (omega (arith, c .before .loop-test .taken, l .loop .inv .1)) (c .entry-at .ensures))
 
 pub first-onto-spec : {M : Type 1} → statement M
 first-onto-spec =
@@ -48,7 +48,7 @@ first-onto-spec =
     (λ c. let e = c .before .before in
     let l = e .before .before in
     let a = l .before .before .before .before .args in
-    ap (λ (g : ℕ). At g) (e .entry-at .ensures) ∙ first-yes (p (a .w .now) (a .goes .now) (a .base) (a .i) (a .up)) _ (l .loop .k) (omega (arith, e .before .loop-test .taken, l .loop .inv .1)) (l .loop .inv .2)
+    ap (λ (g : ℕ). At g) (e .entry-at .ensures) ∙ first-yes (p (a .lists .now) (a .goes .now) (a .base) (a .i) (a .up)) _ (l .loop .k) (omega (arith, e .before .loop-test .taken, l .loop .inv .1)) (l .loop .inv .2)
     (rw (e .entry-at .ensures) at (sym (c .before .is-onto .ensures) ∙ c .if1 .taken)))
     (λ c. search needs)
     (λ c. search needs)
@@ -57,7 +57,7 @@ first-onto-spec =
     let a = l .before .before .before .before .args in (
       search needs,
       l .loop .inv .1,
-      first-no (p (a .w .now) (a .goes .now) (a .base) (a .i) (a .up)) _ (l .loop .k) (omega (arith, e .before .loop-test .taken, l .loop .inv .1)) (l .loop .inv .2)
+      first-no (p (a .lists .now) (a .goes .now) (a .base) (a .i) (a .up)) _ (l .loop .k) (omega (arith, e .before .loop-test .taken, l .loop .inv .1)) (l .loop .inv .2)
           (rw (e .entry-at .ensures) at (sym (c .before .is-onto .ensures) ∙ c .if1 .left)),
     ))
     (λ c. let l = c .before in

@@ -3,6 +3,7 @@
 use borrow.Author.Needs.{needs}
 use native.Mathlib.Omega.{arith}
 use Prim.Native.Nat.{_-_}
+use Rattle.spec.specs.Limits.{maxCount}
 use Rattle.marks.proofs.Rows.{Seen, seen-none, seen-next, seen-high, seen-twice, seen-all}
 use Rattle.marks.proofs.is_permutation.Statement.{statement}
 use Rattle.marks.proofs.is_permutation.Tie as tie
@@ -18,7 +19,7 @@ is-permutation-spec =
     tie.close
     (tie.spec Inv μ
     -- The needs are loop-holds and cell-requires.
-    (λ c. seen-none (c .before .args .row .now) 2048 (c .before .pre))
+    (λ c. seen-none (c .before .args .row .now) maxCount (c .before .pre))
     (λ c κs. omega (arith, c .loop-test .taken, c .before .loop .inv .n-is))
     -- The needs are returns, array-read-if2 and returns-2.
     (λ c. let l = c .before .before in seen-high (l .before .loop .inv) _ (c .before .cell .ensures) (l .loop-test .taken) (c .if1 .taken))

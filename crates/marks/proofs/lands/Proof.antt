@@ -19,17 +19,17 @@ abbrev p : List ℕ → List ℕ → ℕ → ℕ → ℕ → Bool
 p w goes base j f = holds eqb (getD goes (base + f) 0) (listAt w j)
 
 abbrev Inv : tie.InvT-loop
-Inv w goes base i j n k₀ k = (k ≤ n) × (n ≡ length (listAt w i)) × Every (p w goes base j) (listAt w i) k
+Inv lists goes base i j n k₀ k = (k ≤ n) × (n ≡ length (listAt lists i)) × Every (p lists goes base j) (listAt lists i) k
 
 abbrev μ : tie.MeasureT-loop
-μ w goes base i j n k₀ k = n - k
+μ lists goes base i j n k₀ k = n - k
 
 -- The entry has a cell.
 lies : (c : tie.After-entry-at Inv μ) → let a = c .before .before .before .before .before .before .args in a .base + c .entry-at .result < length (a .goes .now)
 lies c =
     let l = c .before .before in
     let s = l .before .before .before .before in
-    s .pre .1 (c .entry-at .result) (entry-in (listAt (s .args .w .now) (s .args .i)) (l .loop .k) _ (omega (arith, c .before .loop-test .taken, l .loop .inv .1)) (c .entry-at .ensures))
+    s .pre .1 (c .entry-at .result) (entry-in (listAt (s .args .lists .now) (s .args .i)) (l .loop .k) _ (omega (arith, c .before .loop-test .taken, l .loop .inv .1)) (c .entry-at .ensures))
 
 pub lands-spec : {M : Type 1} → statement M
 lands-spec =
@@ -47,7 +47,7 @@ lands-spec =
     (λ c. let e = c .before .before .before in
     let l = e .before .before in
     let a = l .before .before .before .before .args in
-    every-no (p (a .w .now) (a .goes .now) (a .base) (a .j)) 0 _ (l .loop .k) (omega (arith, e .before .loop-test .taken, l .loop .inv .1)) (l .loop .inv .2)
+    every-no (p (a .lists .now) (a .goes .now) (a .base) (a .j)) 0 _ (l .loop .k) (omega (arith, e .before .loop-test .taken, l .loop .inv .1)) (l .loop .inv .2)
     (sym (rw (c .before .before .cell .ensures, e .entry-at .ensures) at (c .before .holds-at .ensures)) ∙ not-true _ (c .if1 .taken)))
     (λ c. search needs)
     (λ c. search needs)
@@ -56,7 +56,7 @@ lands-spec =
     let a = l .before .before .before .before .args in (
       search needs,
       l .loop .inv .1,
-      every-yes (p (a .w .now) (a .goes .now) (a .base) (a .j)) 0 _ (l .loop .k) (omega (arith, e .before .loop-test .taken, l .loop .inv .1)) (l .loop .inv .2)
+      every-yes (p (a .lists .now) (a .goes .now) (a .base) (a .j)) 0 _ (l .loop .k) (omega (arith, e .before .loop-test .taken, l .loop .inv .1)) (l .loop .inv .2)
           (sym (rw (c .before .before .cell .ensures, e .entry-at .ensures) at (c .before .holds-at .ensures)) ∙ not-false _ (c .if1 .left)),
     ))
     (λ c. let l = c .before in
