@@ -8,7 +8,7 @@ use Prim.Native.Nat.{ℕ, _+_, _*_, _≤_, _<_}
 use native.Mathlib.Omega.{arith}
 use borrow.Author.Tests.{le-leb, lt-leb}
 use lib.Dec.{eqb, leb}
-use lib.ListN.{length, take, length-append, length-map}
+use lib.ListN.{length, length-append, length-map}
 use Rattle.spec.specs.declared.Refusal.{Refusal}
 use Rattle.spec.specs.declared.Refusal.the-variants.{ShortSheet, Unsettled}
 use Rattle.spec.specs.declared.Answer.{Answer}
@@ -24,8 +24,8 @@ use Rattle.spec.specs.Calls.{Given, typeCells, TypesOut, typesGiven, typesWritt
 use Rattle.laws.proofs.Lists.{map-same}
 use Rattle.laws.proofs.Counts.{sum-le}
 use Rattle.ranked.specs.declared.Shape.{Shape}
-use Rattle.ranked.specs.Words.{absIn}
-use Rattle.distances.specs.Solids.{proper}
+use Rattle.ranked.specs.Words.{listsOf, absIn}
+use Rattle.ranked.specs.Layout.{proper}
 use Rattle.distances.proofs.Room.{proper-is}
 use Rattle.element_types.specs.State.{stateIn, Countable}
 use Rattle.types.specs.Call.{handedOut, answered}
@@ -89,12 +89,12 @@ types-counted s z =
     length-join (elementTypesAt z) (properRanks s)
     ∙ ap sum (map-same (λ r. length (elementTypesAt z r)) (λ r. length (distinct eqb (typesAt z r))) (properRanks s) (λ r m. length-map (distinct eqb (typesAt z r)) _))
 
-module _ (sh : Shape) (low : ℕ) (w : List ℕ) (a : Countable sh low w) (old : TypesOut) where
+module _ (sh : Shape) (w : List ℕ) (a : Countable sh w) (old : TypesOut) where
   abbrev s : Solid
-  s = absIn sh (take low w)
+  s = absIn sh (listsOf sh w)
 
   abbrev z : State
-  z = stateIn sh low w
+  z = stateIn sh w
 
   -- There are no more types than elements.
   pub types-few : typeCount s z ≤ length w
@@ -103,13 +103,13 @@ module _ (sh : Shape) (low : ℕ) (w : List ℕ) (a : Countable sh low w) (old :
       omega (
         arith,
         sum-le (λ r. length (distinct eqb (typesAt z r))) (λ r. size s r) (properRanks s)
-            (λ r m. let b = proper-low sh low w a r m in omega (arith, many-few (typesAt z r), a .numbered r (b .0) (b .1) .each)),
-        proper-is sh (take low w) (a .held),
-        types-in sh low w a,
+            (λ r m. let b = proper-low sh w a r m in omega (arith, many-few (typesAt z r), a .numbered r (b .0) (b .1) .each)),
+        proper-is sh (listsOf sh w) (a .held),
+        types-in sh w a,
       )
 
   elements-counted : length (given s z) ≡ proper sh
-  elements-counted = given-long sh low w a
+  elements-counted = given-long sh w a
 
   pub short-elements : length (old .elements) < proper sh → (Refused ShortSheet 0, old) ≡ handedOut s z old
   unfolding handedOut

@@ -23,22 +23,22 @@ use Rattle.element_types.proofs.Room.{sum-under}
 use Rattle.types.proofs.Rows.{many-few}
 use Rattle.types.proofs.Call.{types-counted}
 
--- There are at most 2,048 at each of four ranks.
-types-at-most : (b : List ℕ) (words floats : ℕ) (c : Concrete) (z : State) → preflight b words floats ≡ passed c → typesOf c ≡ some z → length (elementTypes (c .abs) z) ≤ 4 * maxCount
+-- A proper rank has no more types than elements.
+types-at-most : (b : List ℕ) (words floats : ℕ) (c : Concrete) (z : State) → preflight b words floats ≡ passed c → typesOf c ≡ some z → length (elementTypes (c .abs) z) ≤ (maxRank - 1) * maxCount
 unfolding typeCount properRanks
 types-at-most b words floats c z p e =
     let s = c .abs in
     let h = every-passed b words floats c p in
     let u = sum-under (λ r. length (distinct eqb (typesAt z r))) maxCount (range 1 (top s - 1))
     (λ r m. omega (arith, many-few (typesAt z r), type-laws .ranks c z e r .numbered .each, of-range 1 (top s - 1) r m, h .sizes r (omega (arith, of-range 1 (top s - 1) r m)) .1)) in
-    let k : top s - 1 ≤ 4 = omega (arith, h .tall) in
+    let k : top s - 1 ≤ maxRank - 1 = omega (arith, h .tall) in
     omega (arith, types-counted s z, rw (length-range 1 (top s - 1)) at u)
 
-pub call-count : (b : List ℕ) (words floats : ℕ) (old : TypesOut) → answerCount (typesCall b words floats old .0) ≤ 4 * maxCount
+pub call-count : (b : List ℕ) (words floats : ℕ) (old : TypesOut) → answerCount (typesCall b words floats old .0) ≤ (maxRank - 1) * maxCount
 unfolding typesCall typesWritten
 call-count b words floats old = go (typesGiven b words floats (length (old .elements)) (length (old .types))) refl
   where
-    go : (j : Judged Given) → typesGiven b words floats (length (old .elements)) (length (old .types)) ≡ j → answerCount (typesWritten j old .0) ≤ 4 * maxCount
+    go : (j : Judged Given) → typesGiven b words floats (length (old .elements)) (length (old .types)) ≡ j → answerCount (typesWritten j old .0) ≤ (maxRank - 1) * maxCount
     go (refused why) q = omega arith
     go (passed g) q =
         let h = behind b words floats (length (old .elements)) (length (old .types)) g q in

@@ -4,7 +4,6 @@ use mathlib.Core.Path.{_≡_, refl, sym, ap, _∙_}
 use mathlib.Core.List.{List}
 use Prim.Native.Nat.{ℕ}
 use native.Mathlib.Omega.{arith}
-use lib.ListN.{take}
 use lib.Ieee.{Float}
 use Rattle.spec.specs.declared.Refusal.{Refusal}
 use Rattle.spec.specs.declared.Refusal.the-variants.{Unsettled}
@@ -16,8 +15,8 @@ use Rattle.spec.specs.Calls.{TypesOut, typesCall}
 use Rattle.sheet.specs.declared.Verdict.the-variants as verdict
 use Rattle.ranked.specs.declared.Shape.{Shape}
 use Rattle.ranked.specs.declared.preflight.Ready.{Ready}
-use Rattle.ranked.specs.Words.{absIn}
-use Rattle.ranked.specs.Bench.{solidAt, Bench}
+use Rattle.ranked.specs.Words.{listsOf, absIn}
+use Rattle.ranked.specs.Bench.{solidIn, Bench}
 use Rattle.ranked.specs.Preflight.{verdictOf, Preflighted}
 use Rattle.element_types.specs.State.{stateIn}
 use Rattle.settling.specs.declared.settled.Ending.the-variants.{Settled, Changing}
@@ -28,15 +27,15 @@ use Rattle.types.proofs.Call.{call-refused, call-passed, unsettled, set
 
 -- ---- 15, 13
 
-module _ (sh : Shape) (low : ℕ) (w v : List ℕ) (fs gs : List Float) (old : TypesOut) where
-  pub unsettled-given : Typed sh low w v fs gs Changing → (Refused Unsettled 0, old) ≡ answered (solidAt sh low w fs) old
+module _ (sh : Shape) (w v : List ℕ) (fs gs : List Float) (old : TypesOut) where
+  pub unsettled-given : Typed sh w v fs gs Changing → (Refused Unsettled 0, old) ≡ answered (solidIn sh w fs) old
   unfolding endOf
-  unsettled-given t = sym (unsettled (solidAt sh low w fs) old (t .result))
+  unsettled-given t = sym (unsettled (solidIn sh w fs) old (t .result))
 
-  pub settled-given : Typed sh low w v fs gs Settled → (x : Answer × TypesOut) → x ≡ handedOut (absIn sh (take low v)) (stateIn sh low v) old → x ≡ answered (solidAt sh low w fs) old
+  pub settled-given : Typed sh w v fs gs Settled → (x : Answer × TypesOut) → x ≡ handedOut (absIn sh (listsOf sh v)) (stateIn sh v) old → x ≡ answered (solidIn sh w fs) old
   unfolding endOf
   settled-given t x e =
-      e ∙ ap (λ (l : List ℕ). handedOut (absIn sh l) (stateIn sh low v) old) (t .lists) ∙ sym (settled (solidAt sh low w fs) old (stateIn sh low v) (t .result))
+      e ∙ ap (λ (l : List ℕ). handedOut (absIn sh l) (stateIn sh v) old) (t .lists) ∙ sym (settled (solidIn sh w fs) old (stateIn sh v) (t .result))
 
 -- ---- 1 to 7
 
@@ -55,10 +54,10 @@ module _ (b : List ℕ) (n m : ℕ) (r : Ready) (ws : List ℕ) (fs : List Float
   refused-call why e old = sym (call-refused b n m old why (verdict-refused (preflight b n m) why (sym e ∙ p .verdict)))
 
   module _ (e : r .verdict ≡ verdict.Accepted) where
-    pub benched : Bench (r .shape) (r .low) ws fs
+    pub benched : Bench (r .shape) ws fs
     benched = let c = verdict-accepted (preflight b n m) (sym e ∙ p .verdict) in p .placed (c .0) (c .1) .bench
 
-    pub passed-call : (old : TypesOut) (x : Answer × TypesOut) → x ≡ answered (solidAt (r .shape) (r .low) ws fs) old → x ≡ typesCall b n m old
+    pub passed-call : (old : TypesOut) (x : Answer × TypesOut) → x ≡ answered (solidIn (r .shape) ws fs) old → x ≡ typesCall b n m old
     passed-call old x q =
         let c = verdict-accepted (preflight b n m) (sym e ∙ p .verdict) in
         q ∙ ap (λ (d : Concrete). answered d old) (p .placed (c .0) (c .1) .is) ∙ sym (call-passed b n m old (c .0) (c .1))

@@ -11,6 +11,7 @@ use native.Mathlib.Decide.{ℕ-discrete}
 use lib.Dec.{eqb}
 use lib.ListN.{length, getD, take, drop, set, length-append, length-take, length-drop, length-set, take-append-drop, List·getD-append}
 use lib.Seq.{sets, length-sets, take-suc, take-all, getD-take, getD-drop, getD-set-same, getD-set-other, ext-getD, append-snoc, getD-append-seam, length-take-le}
+use Rattle.spec.specs.Limits.{maxCount}
 use Rattle.spec.specs.Lists.{In, distinct, place, count, range, join}
 use Rattle.spec.specs.Types.{ElementType}
 use Rattle.spec.specs.Calls.{typeCells}
@@ -272,7 +273,7 @@ module _ (w : List ℕ) (from n r m : ℕ) (old : List ℕ) (a : Listable w from
     few : k ≤ many l
     few = omega (arith, i .met, front-few p (t ∷ []) order, few-more)
 
-    pub type-small : t < 2048
+    pub type-small : t < maxCount
     type-small = omega (arith, order-low l (a .order) t (rw here at (in-getD 0 l e (omega (arith, l-long)))), l-long, a .few)
 
     pub record-in : 4 * (m + k) ≤ length old
@@ -324,7 +325,7 @@ module _ (w : List ℕ) (from n r m : ℕ) (old : List ℕ) (a : Listable w from
           ∙ getD-sets old (4 * m) (cellsTo r l p k) (4 * t + 3) 0 (cell-low r l p k t low) (omega (arith, length-cells r l p k, few, a .room))
           ∙ count-read r l p k t low
 
-      pub count-small : getD table (4 * (m + t) + 3) 0 < 2048
+      pub count-small : getD table (4 * (m + t) + 3) 0 < maxCount
       count-small = omega (arith, counted, count-few t p, p-long, a .few)
 
       pub rows-old : Rows w from n r m old (set table (4 * (m + t) + 3) (getD table (4 * (m + t) + 3) 0 + 1)) k (e + 1)

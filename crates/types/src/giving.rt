@@ -14,51 +14,35 @@ ghost use Rattle.spec.specs.Lists.{distinct, join};
 ghost use Rattle.spec.specs.Types.{elements, typeCount, given, elementTypes};
 ghost use Rattle.spec.specs.Copying.{written};
 ghost use Rattle.spec.specs.Calls.{typeCells};
-ghost use Rattle.ranked.specs.Words.{absIn};
-ghost use Rattle.distances.specs.Solids.{proper};
+ghost use Rattle.ranked.specs.Words.{listsOf, absIn};
 ghost use Rattle.element_types.specs.State.{stateIn, Countable};
 ghost use Rattle.types.specs.Cells.{cellsOf, Listable};
 ghost use Rattle.types.specs.Call.{handedOut};
 
-// Returns the number E of proper elements, which are those from the first vertex on and below the top: "E counts proper elements". Where R = 0 the
-// top stands first, and there are none.
-fn proper_count(sh: Shape) -> usize
-    requires { ⌜ sh .rank < 7 ⌝ }
-    ensures { λ n. ⌜ n ≡ proper sh ⌝ }
-{
-    let rank = sh.rank;
-    let first = sh.first[1];
-    let end = sh.first[rank];
-    if end < first {
-        return 0;
-    }
-    end - first
-}
-
 // Writes the type of each proper element, one cell for each.
-fn write_types(words: &[u32], low: usize, sh: Shape, of: &mut [u16])
-    requires { ⌜ Countable sh low (now words) ⌝ }
-    requires { ⌜ elements (absIn sh (take low (now words))) ≤ length (now of) ⌝ }
-    ensures { λ _. ⌜ now (of .exit) ≡ written (given (absIn sh (take low (now (words .entry)))) (stateIn sh low (now (words .entry)))) (now (of .entry)) ⌝ }
+fn write_types(words: &[u32], sh: Shape, of: &mut [u16])
+    requires { ⌜ Countable sh (now words) ⌝ }
+    requires { ⌜ elements (absIn sh (listsOf sh (now words))) ≤ length (now of) ⌝ }
+    ensures { λ _. ⌜ now (of .exit) ≡ written (given (absIn sh (listsOf sh (now (words .entry)))) (stateIn sh (now (words .entry)))) (now (of .entry)) ⌝ }
 {
-    let n = proper_count(sh);
-    let first = sh.first[1];
+    let n = sh.proper();
+    let from = sh.types(1);
     let mut k: usize = 0;
     while k < n {
-        of[k] = get(words, low + first + k) as u16;
+        of[k] = get(words, from + k) as u16;
         k += 1;
     }
 }
 
-// Writes the record of a type that appears for the first time, from cell `at` on. The first element that has the type is e.
-fn open_type(table: &mut [u16], at: usize, r: u16, t: u16, e: u16)
-    requires { ⌜ at + 4 ≤ length (now table) ⌝ }
-    ensures { λ _. ⌜ now (table .exit) ≡ sets (now (table .entry)) at (r ∷ t ∷ e ∷ 1 ∷ []) ⌝ }
+// Writes the record of a type that appears for the first time, from cell `cell` on. The first element that has the type is e.
+fn open_type(table: &mut [u16], cell: usize, r: u16, t: u16, e: u16)
+    requires { ⌜ cell + 4 ≤ length (now table) ⌝ }
+    ensures { λ _. ⌜ now (table .exit) ≡ sets (now (table .entry)) cell (r ∷ t ∷ e ∷ 1 ∷ []) ⌝ }
 {
-    table[at] = r;
-    table[at + 1] = t;
-    table[at + 2] = e;
-    table[at + 3] = 1;
+    table[cell] = r;
+    table[cell + 1] = t;
+    table[cell + 2] = e;
+    table[cell + 3] = 1;
 }
 
 // Writes four cells for each type of rank r, behind those of m types, and answers how many types there are. The types of the rank's n elements
@@ -87,40 +71,39 @@ fn write_rank(words: &[u32], from: usize, n: usize, r: usize, table: &mut [u16],
 }
 
 // Writes four cells for each type: its rank, its number, its example and its count.
-fn write_table(words: &[u32], low: usize, sh: Shape, table: &mut [u16])
-    requires { ⌜ Countable sh low (now words) ⌝ }
-    requires { ⌜ 4 * typeCount (absIn sh (take low (now words))) (stateIn sh low (now words)) ≤ length (now table) ⌝ }
+fn write_table(words: &[u32], sh: Shape, table: &mut [u16])
+    requires { ⌜ Countable sh (now words) ⌝ }
+    requires { ⌜ 4 * typeCount (absIn sh (listsOf sh (now words))) (stateIn sh (now words)) ≤ length (now table) ⌝ }
     ensures { λ _. ⌜ now (table .exit)
-        ≡ written (join (map typeCells (elementTypes (absIn sh (take low (now (words .entry)))) (stateIn sh low (now (words .entry))))))
+        ≡ written (join (map typeCells (elementTypes (absIn sh (listsOf sh (now (words .entry)))) (stateIn sh (now (words .entry))))))
         (now (table .entry)) ⌝ }
 {
     let rank = sh.rank;
     let mut m: usize = 0;
     let mut r: usize = 1;
     while r < rank {
-        let first = sh.first[r];
-        let next = sh.first[r + 1];
-        let k = write_rank(words, low + first, next - first, r, table, m);
-        m += k;
+        let from = sh.types(r);
+        let n = sh.size(r);
+        m += write_rank(words, from, n, r, table, m);
         r += 1;
     }
 }
 
 // Gives out the types of the elements and the table, and answers how many types there are. Where an output is too short, the answer is refusal 13.
-pub fn give_out(words: &[u32], low: usize, sh: Shape, of: &mut [u16], table: &mut [u16]) -> Answer
-    requires { ⌜ Countable sh low (now words) ⌝ }
+pub fn give_out(words: &[u32], sh: Shape, of: &mut [u16], table: &mut [u16]) -> Answer
+    requires { ⌜ Countable sh (now words) ⌝ }
     ensures { λ r. ⌜ (r, record { elements = now (of .exit); types = now (table .exit) })
-        ≡ handedOut (absIn sh (take low (now (words .entry)))) (stateIn sh low (now (words .entry)))
+        ≡ handedOut (absIn sh (listsOf sh (now (words .entry)))) (stateIn sh (now (words .entry)))
         (record { elements = now (of .entry); types = now (table .entry) }) ⌝ }
 {
-    let n = type_count(words, low, sh);
-    if of.len() < proper_count(sh) {
+    let n = type_count(words, sh);
+    if of.len() < sh.proper() {
         return Answer::Refused(Refusal::ShortSheet, 0);
     }
     if table.len() < 4 * n {
         return Answer::Refused(Refusal::ShortSheet, 0);
     }
-    write_types(words, low, sh, of);
-    write_table(words, low, sh, table);
+    write_types(words, sh, of);
+    write_table(words, sh, table);
     Answer::Done(n)
 }

@@ -12,29 +12,28 @@ ghost use lib.ListN.{length};
 ghost use Rattle.spec.specs.declared.Answer.the-variants.{Done};
 ghost use Rattle.spec.specs.Calls.{typesCall};
 ghost use Rattle.spec.specs.Workspace.{Free};
-ghost use Rattle.ranked.specs.Bench.{solidAt, Bench};
+ghost use Rattle.ranked.specs.Bench.{solidIn, Bench};
 ghost use Rattle.types.specs.Call.{answered};
 ghost use Rattle.types.specs.Demand3.{Demand3Cells};
 
-mod giving;
+pub mod giving;
 
 use crate::giving::give_out;
 
 // Gives out the types of the solid that lies in the workspace, or judges a refusal: "the types call goes on with 15, 13".
 fn types_given(
     words: &mut [u32],
-    low: usize,
     sh: Shape,
     floats: &mut [f64],
     of: &mut [u16],
     table: &mut [u16],
 ) -> Answer
-    requires { ⌜ Bench sh low (now words) (now floats) ⌝ }
+    requires { ⌜ Bench sh (now words) (now floats) ⌝ }
     ensures { λ r. ⌜ (r, record { elements = now (of .exit); types = now (table .exit) })
-        ≡ answered (solidAt sh low (now (words .entry)) (now (floats .entry))) (record { elements = now (of .entry); types = now (table .entry) }) ⌝ }
+        ≡ answered (solidIn sh (now (words .entry)) (now (floats .entry))) (record { elements = now (of .entry); types = now (table .entry) }) ⌝ }
 {
-    match types_of(words, low, sh, floats) {
-        Ending::Settled => give_out(words, low, sh, of, table),
+    match types_of(words, sh, floats) {
+        Ending::Settled => give_out(words, sh, of, table),
         Ending::Changing => Answer::Refused(Refusal::Unsettled, 0),
     }
 }
@@ -59,9 +58,8 @@ pub fn element_types(
     let ready = preflight(sheet, words, floats);
     let verdict = ready.verdict;
     let sh = ready.shape;
-    let low = ready.low;
     match verdict {
         Verdict::Refused(why) => Answer::Refused(why, 0),
-        Verdict::Accepted => types_given(words, low, sh, floats, of, table),
+        Verdict::Accepted => types_given(words, sh, floats, of, table),
     }
 }

@@ -29,11 +29,11 @@ types-given-spec =
     let i = g .before .before .before .before in
     let t = i .before .before .before .before .before .before in
     let s = t .before .before .before .before .before .before .before in
-    settled-given _ _ _ _ _ _ (old s) (rw (i .enum-told .given .1) at (t .types-of .ensures)) _ (g .give-out .ensures))
+    settled-given _ _ _ _ _ (old s) (rw (i .enum-told .given .1) at (t .types-of .ensures)) _ (g .give-out .ensures))
     -- The needs are same-length for the workspace.
     (λ c. search needs)
     (λ c. search needs)
     -- The need is returns-2.
     (λ c. let t = c .before .before .before .before .before .before in
     let s = t .before .before .before .before .before .before .before in
-    unsettled-given _ _ _ _ _ _ (old s) (rw (c .enum-told2 .given .1) at (t .types-of .ensures))))
+    unsettled-given _ _ _ _ _ (old s) (rw (c .enum-told2 .given .1) at (t .types-of .ensures))))

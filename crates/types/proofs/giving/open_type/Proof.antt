@@ -11,21 +11,21 @@ pub open-type-spec : {M : Type 1} → statement M
 open-type-spec =
     tie.close
     (tie.spec
-    -- The needs of `table[at]` are mul-table and slice-write-table.
+    -- The needs of `table[cell]` are mul-table and slice-write-table.
     (λ c. search needs)
     (λ c. search needs)
-    -- The needs of `table[at + 1]` are add-table, mul-table and slice-write-table.
-    (λ c. search needs)
-    (λ c. search needs)
-    (λ c. simp length-set (omega arith))
-    -- The needs of `table[at + 2]` are the same.
+    -- The needs of `table[cell + 1]` are add-table, mul-table and slice-write-table.
     (λ c. search needs)
     (λ c. search needs)
     (λ c. simp length-set (omega arith))
-    -- The needs of `table[at + 3]` are the same.
+    -- The needs of `table[cell + 2]` are the same.
+    (λ c. search needs)
+    (λ c. search needs)
+    (λ c. simp length-set (omega arith))
+    -- The needs of `table[cell + 3]` are the same.
     (λ c. search needs)
     (λ c. search needs)
     (λ c. simp length-set (omega arith))
     -- The needs are same-length and returns.
     (λ c. simp length-set)
-    (λ c. let a = c .args in sets-four (a .table .now) (a .at) (a .r) (a .t) (a .e) 1))
+    (λ c. let a = c .args in sets-four (a .table .now) (a .cell) (a .r) (a .t) (a .e) 1))

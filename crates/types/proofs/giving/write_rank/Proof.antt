@@ -5,6 +5,7 @@ use native.Mathlib.Omega.{arith}
 use mathlib.Core.Path.{_≡_}
 use Prim.Native.Nat.{_+_, _-_, _*_, _≤_, _<_}
 use lib.ListN.{length}
+use Rattle.spec.specs.Limits.{maxRank, maxCount}
 use Rattle.types.proofs.Rows.{Rows, rows-first, rows-end, rows-long, type-small, record-in, record-fits, rows-new, cell-in, count-small, rows-old}
 use Rattle.types.proofs.giving.write_rank.Statement.{statement}
 use Rattle.types.proofs.giving.write_rank.Tie as tie
@@ -19,7 +20,7 @@ abbrev μ : tie.MeasureT-loop
 fits : (c : tie.After-get Inv μ)
     → let l = c .before .before in
     let a = l .before .before .before .args in
-    (c .get .result < 2048) × (4 * (a .m + l .loop .k) ≤ length (a .table .now)) × (a .r ≤ 5) × (a .n ≤ 2048)
+    (c .get .result < maxCount) × (4 * (a .m + l .loop .k) ≤ length (a .table .now)) × (a .r ≤ maxRank) × (a .n ≤ maxCount)
 fits c =
     let l = c .before .before in
     let s = l .before .before .before in (
