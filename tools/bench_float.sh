@@ -3,7 +3,7 @@
 # root beside them. It needs `rt`, gcc and python3.
 set -e
 cd "$(dirname "$0")/.."
-rt check float_bench > /dev/null
+rt check bench > /dev/null
 work=$(mktemp -d)
 cat > "$work/sqrt.c" <<'END'
 #include <math.h>
@@ -26,7 +26,7 @@ def seconds(command):
         best = min(best, resource.getrusage(resource.RUSAGE_CHILDREN).ru_utime - t)
     return best
 for name, kind in (("root", "r"), ("inverse 4x4", "i"), ("determinant 4x4", "d"), ("product 4x4", "p")):
-    t = seconds(["target/bin/float_bench", kind, "7"]) - seconds(["target/bin/float_bench", kind, "0"])
+    t = seconds(["target/bin/bench", kind, "7"]) - seconds(["target/bin/bench", kind, "0"])
     print(f"{name}: {t / 8 ** 7 * 1e9:.0f} ns")
 print(f"the machine's square root: {seconds([sys.argv[1]]) / 16777216 * 1e9:.0f} ns")
 END

@@ -1,5 +1,5 @@
 #!/usr/bin/env python3
-"""Makes the stored copyings that program copy_replay answers to: crates/copy_replay/stdin and stdout, in the form that its source says.
+"""Makes the stored copyings that `replay copies` answers to: crates/replay/data/copies.in and copies.out, in the form that the program's source says.
 It is run once, and the files are kept.
 
     python3 tools/make_copies.py ORACLE         ORACLE is the built oracle's program (oracle/bin/oracle)
@@ -317,9 +317,9 @@ def pattern(x):
 def main():
     check_clean()
     rust = oracle(sys.argv[1])
-    crate = f"{TOP}/crates/copy_replay"
+    stored = f"{TOP}/crates/replay/data/copies"
     numbers = []
-    with open(f"{crate}/stdin", "wb") as given, open(f"{crate}/stdout", "wb") as answers:
+    with open(f"{stored}.in", "wb") as given, open(f"{stored}.out", "wb") as answers:
         for d, points, turns, floats, cells in cases():
             if floats is None:
                 copies, rows = copying(parted(points, d), [parted(m, d) for m in parted(turns, d * d)])

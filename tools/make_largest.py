@@ -1,7 +1,7 @@
 #!/usr/bin/env python3
-"""Makes the sheets that crate sheet_bench is timed on: large ones with R = 5 and D = 4.
+"""Makes the sheets that `bench s` is timed on: large ones with R = 5 and D = 4.
 
-    python3 tools/make_largest.py            writes crates/sheet_bench/stdin (the sheet `full`)
+    python3 tools/make_largest.py            writes crates/bench/stdin (the sheet `full`)
     python3 tools/make_largest.py FOLDER     writes all of them there, as NAME.sheet
 
 These are accepted. A face (rank 3) lies in exactly two facets, so that there are at most 4,096 list entries at rank 2, 8,192 at rank 3 and
@@ -132,7 +132,7 @@ def main():
                 file.write(pack(5, 4, points, lists))
             print(name, "elements", *counts, "entries", *entries)
         elif name == "full":
-            with open(f"{TOP}/crates/sheet_bench/stdin", "wb") as file:
+            with open(f"{TOP}/crates/bench/stdin", "wb") as file:
                 file.write(pack(5, 4, points, lists))
 
 

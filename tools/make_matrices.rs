@@ -1,5 +1,5 @@
-//! Makes the stored matrices that program float_replay answers to, with the arithmetic of the oracle's stand-in for nalgebra (document
-//! 01, section 1). tools/make_float_replay.sh builds and runs it once; the files are kept.
+//! Makes the stored matrices that `replay floats` answers to, with the arithmetic of the oracle's stand-in for nalgebra (document
+//! 01, section 1). tools/make_floats.sh builds and runs it once; the files are kept.
 //!
 //! All numbers have eight bytes, highest byte first. For each matrix, the dimension and the entries' bit patterns, row by row, go to standard
 //! output. The answers go to standard error: 1 and the inverse's patterns, or 0 where it is singular; the determinant; the product of the

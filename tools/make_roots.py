@@ -1,7 +1,7 @@
 #!/usr/bin/env python3
-"""Makes the stored roots that program float_replay answers to, at the start of crates/float_replay/stdin and stdout. For each argument
-stdin has a 0 and its bit pattern, and stdout has the root's pattern, as numbers of eight bytes with the highest byte first. The answers are
-the machine's own square roots. tools/make_float_replay.sh runs it.
+"""Makes the stored roots that `replay floats` answers to, at the start of crates/replay/data/floats.in and floats.out. For each argument
+floats.in has a 0 and its bit pattern, and floats.out has the root's pattern, as numbers of eight bytes with the highest byte first. The answers
+are the machine's own square roots. tools/make_floats.sh runs it.
 
 The arguments are zeros, infinities, NaN and negatives; the smallest and largest subnormals and normals; every power of two; squares of whole
 numbers and of random 26-bit and 53-bit values with their two neighbours; and 1,000 random patterns with the sign clear and 100 random
@@ -53,8 +53,8 @@ def arguments():
 
 
 def main():
-    folder = f"{TOP}/crates/float_replay"
-    with open(f"{folder}/stdin", "wb") as given, open(f"{folder}/stdout", "wb") as answers:
+    stored = f"{TOP}/crates/replay/data/floats"
+    with open(f"{stored}.in", "wb") as given, open(f"{stored}.out", "wb") as answers:
         for n in arguments():
             given.write(struct.pack(">QQ", 0, n))
             answers.write(struct.pack(">Q", root(n)))

@@ -1,5 +1,5 @@
 #!/usr/bin/env python3
-"""Makes the stored searches that program search_replay answers to: crates/search_replay/stdin and stdout, in the form that its source says.
+"""Makes the stored searches that `replay searches` answers to: crates/replay/data/searches.in and searches.out, in the form that the program's source says.
 Run once; the files are kept.
 
     python3 tools/make_searches.py ORACLE         ORACLE is the built oracle's program (oracle/bin/oracle)
@@ -685,9 +685,9 @@ def main():
     check_clean()
     rust = Oracle(sys.argv[1])
     slipping = {slip: functools.cache(lambda sheet, solid, slip=slip: Searched(solid, slip)) for slip in SLIPS}
-    crate = f"{TOP}/crates/search_replay"
+    stored = f"{TOP}/crates/replay/data/searches"
     numbers, solids, whole, told = [], set(), set(), dict.fromkeys(SLIPS, 0)
-    with open(f"{crate}/stdin", "wb") as given, open(f"{crate}/stdout", "w") as answers:
+    with open(f"{stored}.in", "wb") as given, open(f"{stored}.out", "w") as answers:
         for call, sheet, words, floats, lengths in records(rust, random.Random(20261115)):
             assert all(n <= limit for n, limit in zip((len(sheet), words, floats, *lengths), LIMITS)), (len(sheet), words, floats, lengths)
             given.write(struct.pack(">7Q", call, len(sheet), words, floats, *lengths) + sheet)

@@ -1,6 +1,6 @@
 #!/usr/bin/env python3
-"""Makes the stored sheets that program sheet_replay answers to. For each sheet crates/sheet_replay/stdin has its length in four bytes,
-highest first, and its bytes; and stdout has a line with the number of its refusal among 1 to 7, or 0. The answers come from the judge in
+"""Makes the stored sheets that `replay sheets` answers to. For each sheet crates/replay/data/sheets.in has its length in four bytes,
+highest first, and its bytes; and sheets.out has a line with the number of its refusal among 1 to 7, or 0. The answers come from the judge in
 this file, which was written from document 01's section 2 and table alone, in another language and another shape than the program. It is run
 once, and the files are kept.
 
@@ -201,10 +201,9 @@ def main():
     samples = [open(f"{folder}/{f}", "rb").read() for f in sorted(os.listdir(folder)) if f.endswith(".sheet")]
     samples = [s for s in samples if len(s) <= 1000]
     sheets = list(dict.fromkeys(samples + list(made()) + list(damaged(samples))))
-    crate = f"{TOP}/crates/sheet_replay"
-    os.makedirs(crate, exist_ok=True)
+    stored = f"{TOP}/crates/replay/data/sheets"
     numbers = [judge(s) for s in sheets]
-    with open(f"{crate}/stdin", "wb") as given, open(f"{crate}/stdout", "w") as answers:
+    with open(f"{stored}.in", "wb") as given, open(f"{stored}.out", "w") as answers:
         for sheet, number in zip(sheets, numbers):
             given.write(struct.pack(">I", len(sheet)) + sheet)
             answers.write(f"{number}\n")

@@ -1,5 +1,5 @@
 #!/usr/bin/env python3
-"""Makes the stored sheets that program types_replay answers to: crates/types_replay/stdin and stdout, in the form that its source says.
+"""Makes the stored sheets that `replay types` answers to: crates/replay/data/types.in and types.out, in the form that the program's source says.
 It is run once, and the files are kept.
 
     python3 tools/make_types.py ORACLE         ORACLE is the built oracle's program (oracle/bin/oracle)
@@ -406,12 +406,12 @@ def wandering(rng, solids):
 def main():
     rust = oracle(sys.argv[1])
     rng = random.Random(20261116)
-    crate = f"{TOP}/crates/types_replay"
+    stored = f"{TOP}/crates/replay/data/types"
     made = list(plain())
     small = [s for s in made if 2 < s.rank and s.size()[0] < 90]
     solids = made + list(wandering(rng, rng.sample(small, 90))) + list(unclean()) + list(improper())
     numbers, clean = [], 0
-    with open(f"{crate}/stdin", "wb") as asked, open(f"{crate}/stdout", "w") as answers:
+    with open(f"{stored}.in", "wb") as asked, open(f"{stored}.out", "w") as answers:
         for k, s in enumerate(solids):
             of, table, fair = given(s, rust)
             clean += fair

@@ -1,0 +1,59 @@
+// Does one thing again and again, and prints its last result. The first argument names it: r is the root of crate `float`, i its inverse, d its
+// determinant and p its product, each on what the time before gave; s judges the sheet from standard input, by refusals 1 to 6 and storing its solid
+// (`ranked::preflight`). The second is a digit n and says how often it is done, which is 8^n times. tools/bench_float.sh and tools/bench_sheets.sh
+// time it. With no argument, as in the gate, it does each of them a few times, the sheet being the one that has every count at its limit.
+mod arithmetic;
+mod sheets;
+
+ghost use Prim.Native.Nat.{_<_};
+use float::bits;
+use wire::Run;
+use wire::writing;
+
+fn power(n: u8) -> u64
+    ensures { λ r. ⌜ 0 < r ⌝ }
+{
+    match n {
+        b'1' => 8,
+        b'2' => 64,
+        b'3' => 512,
+        b'4' => 4096,
+        b'5' => 32768,
+        b'6' => 262144,
+        b'7' => 2097152,
+        b'8' => 16777216,
+        _ => 1,
+    }
+}
+
+fn argument(i: usize) -> u8 {
+    let mut b = [0u8; 1];
+    let n = os::arg(i, &mut b);
+    if n == 1 { b[0] } else { 0 }
+}
+
+fn print(run: Run, x: f64) -> Run {
+    writing::bytes(writing::pattern(run, bits::pattern(x)), b"\n")
+}
+
+fn each(run: Run) -> Run {
+    let a = print(run, arithmetic::repeat_root(64));
+    let b = print(a, arithmetic::repeat_inverse(64));
+    let c = print(b, arithmetic::repeat_determinant(64));
+    let d = print(c, arithmetic::repeat_product(64));
+    sheets::judge(d, 1)
+}
+
+fn main() {
+    let run = wire::start(0, 1);
+    let times = power(argument(2));
+    match argument(1) {
+        b'r' => print(run, arithmetic::repeat_root(times)),
+        b'i' => print(run, arithmetic::repeat_inverse(times)),
+        b'd' => print(run, arithmetic::repeat_determinant(times)),
+        b'p' => print(run, arithmetic::repeat_product(times)),
+        b's' => sheets::judge(run, times),
+        _ => each(run),
+    }
+    ;
+}

@@ -1,0 +1,43 @@
+// Large sheets, judged again and again.
+ghost use Prim.Native.Nat.{_<_};
+use wire::Run;
+use wire::writing;
+
+// There is room for the longest sheet there is, and for the workspace of the largest solid: 16 * (8,192 + 24,576 + 4) words and 8 * (8,192 + 8)
+// floats.
+const BYTES: usize = 131072;
+
+const WORDS: usize = 524352;
+
+const FLOATS: usize = 65600;
+
+// Prints the number of the refusal, or 0, and how many words the solid takes.
+fn print(run: Run, sheet: &[u8], words: &mut [u32], floats: &mut [f64]) -> Run {
+    let ready = ranked::preflight::preflight(sheet, words, floats);
+    let verdict = ready.verdict;
+    let a = writing::bytes(writing::verdict(run, verdict), b" ");
+    writing::bytes(writing::decimal(a, ready.low as u64), b"\n")
+}
+
+fn repeat(sheet: &[u8], words: &mut [u32], floats: &mut [f64], times: u64) -> usize {
+    let mut last: usize = 0;
+    let mut left = times;
+    while left > 0 {
+        let ready = ranked::preflight::preflight(sheet, words, floats);
+        last = ready.low;
+        left -= 1;
+    }
+    last
+}
+
+// Judges the sheet of standard input that many times, and prints what the last time gives.
+pub fn judge(run: Run, times: u64) -> Run
+    requires { ⌜ 0 < times ⌝ }
+{
+    let mut bytes = [0u8; BYTES];
+    let mut words = [0u32; WORDS];
+    let mut floats = [0.0; FLOATS];
+    let n = io::read_full(run.from, &mut bytes);
+    repeat(&bytes[..n], &mut words, &mut floats, times - 1);
+    print(run, &bytes[..n], &mut words, &mut floats)
+}

@@ -1,0 +1,31 @@
+-- Ends, and stays within its matrix. Assumes nothing.
+use mathlib.Core.Path.{sym}
+use Prim.Native.Nat.{_≤_, _-_}
+use native.Mathlib.Omega.{arith}
+use lib.Seq.{length-take-le}
+use borrow.Author.Needs.{needs}
+use Rattle.replay.proofs.floats.read_matrix.Statement.{statement}
+use Rattle.replay.proofs.floats.read_matrix.Tie as tie
+
+abbrev Inv-loop : tie.InvT-loop
+Inv-loop from d m₀ i₀ m i = i ≤ d
+
+abbrev μ-loop : tie.MeasureT-loop
+μ-loop from d m₀ i₀ m i = d - i
+
+pub read-matrix-spec : {M : Type 1} → statement M
+read-matrix-spec =
+    tie.close
+    (tie.spec
+    Inv-loop
+    μ-loop
+    (λ c. search needs)
+    (λ c. search needs)
+    (λ c. sym (length-take-le _ _ (omega arith)))
+    (λ c κs. search needs)
+    (λ c. search needs)
+    (λ c. search needs)
+    (λ c. search needs)
+    (λ c. search needs)
+    (λ c. search needs)
+    (λ c. search needs))

@@ -1,0 +1,28 @@
+-- `copy_replay::main` ends: each turn takes one from the count. Assumes nothing.
+use borrow.Author.Needs.{needs}
+use Rattle.replay.proofs.floats.replay.Statement.{statement}
+use Rattle.replay.proofs.floats.replay.Tie as tie
+
+abbrev Inv-loop : tie.InvT-loop
+Inv-loop from to run₀ left₀ run left = Unit {0}
+
+abbrev μ-loop : tie.MeasureT-loop
+μ-loop from to run₀ left₀ run left = left
+
+pub replay-spec : {M : Type 1} → statement M
+replay-spec =
+    tie.close
+    (tie.spec
+    Inv-loop
+    μ-loop
+    (λ c κs. search needs)
+    (λ c. search needs)
+    (λ c κs. search needs)
+    (λ c κs. search needs)
+    (λ c. search needs)
+    (λ c κs. search needs)
+    (λ c. search needs)
+    (λ c. search needs)
+    (λ c. search needs)
+    (λ c κs. search needs)
+    (λ c. search needs))
