@@ -1,4 +1,4 @@
-// Large sheets, judged again and again.
+// This module judges large sheets again and again.
 ghost use Prim.Native.Nat.{_<_};
 use wire::Run;
 use wire::writing;
@@ -15,8 +15,9 @@ const FLOATS: usize = 65600;
 fn print(run: Run, sheet: &[u8], words: &mut [u32], floats: &mut [f64]) -> Run {
     let ready = ranked::preflight::preflight(sheet, words, floats);
     let verdict = ready.verdict;
+    let sh = ready.shape;
     let a = writing::bytes(writing::verdict(run, verdict), b" ");
-    writing::bytes(writing::decimal(a, ready.low as u64), b"\n")
+    writing::bytes(writing::decimal(a, sh.low as u64), b"\n")
 }
 
 fn repeat(sheet: &[u8], words: &mut [u32], floats: &mut [f64], times: u64) -> usize {
@@ -24,7 +25,8 @@ fn repeat(sheet: &[u8], words: &mut [u32], floats: &mut [f64], times: u64) -> us
     let mut left = times;
     while left > 0 {
         let ready = ranked::preflight::preflight(sheet, words, floats);
-        last = ready.low;
+        let sh = ready.shape;
+        last = sh.low;
         left -= 1;
     }
     last
