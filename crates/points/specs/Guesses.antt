@@ -1,10 +1,11 @@
 -- Points that are lone, so that one of them is found at once by being near; and the table of guesses that only such points have.
 -- Assumes nothing.
 use mathlib.Core.Path.{_≡_}
+use mathlib.Core.Logic.{_⊎_}
 use mathlib.Core.Bool.{Bool, true, false}
 use mathlib.Core.List.{List, [], _∷_}
 use Prim.Native.Nat.{ℕ, _*_, _<_}
-use lib.ListN.{length, getD, take, drop}
+use lib.ListN.{length, getD, set, take, drop}
 use lib.Ieee.{Float, binary64, ofBits, le}
 use Rattle.spec.specs.Limits.{maxCount}
 use Rattle.spec.specs.Float.{absF, minus}
@@ -42,6 +43,10 @@ tries = 16
 -- The number that stands in a free place. No point has it.
 abbrev pub free : ℕ
 free = 65535
+
+-- One place at most has changed, and it has the number k.
+abbrev pub Stored : ℕ → List ℕ → List ℕ → Type 0
+Stored k before after = (after ≡ before) ⊎ ((p : ℕ) × (after ≡ set before p k))
 
 -- Where a place of the table has the number of a point, the points are lone.
 pub record Guesses (ps : List Vector) (table : List ℕ) : Type 0 where

@@ -11,7 +11,7 @@ ghost use Rattle.spec.specs.Float.{absF};
 ghost use Rattle.spec.specs.Copying.{find, parts, copyRow};
 ghost use Rattle.matrix.specs.Reading.{corner};
 ghost use Rattle.points.specs.Finding.{foundAt};
-ghost use Rattle.points.specs.Guesses.{places, wideF, within, Lone, Clear, Guesses, Guessed};
+ghost use Rattle.points.specs.Guesses.{places, free, wideF, within, Lone, Clear, Stored, Guesses, Guessed};
 ghost use Rattle.points.specs.Cells.{Tabled};
 use crate::Found;
 use crate::find;
@@ -27,8 +27,8 @@ use spec::MAX_COUNT;
 pub const PLACES: usize = 2 * MAX_COUNT;
 // This many places in a row are looked at, from the first one on.
 const TRIES: usize = 16;
-// This is the number that stands in a free place.
-const FREE: u16 = 65535;
+// The number that stands in a free place of a table.
+pub const FREE: u16 = 65535;
 // Fewer points than this are compared one by one, without a guess.
 const FEW: usize = 32;
 // This is more than twice EPS, so that two points further apart than this on an axis are never both near a third.
@@ -53,13 +53,16 @@ fn place(q: [f64; DIMENSION], d: usize) -> usize
     (h % PLACES as u64) as usize
 }
 
-// Writes number k to the first free place, if one of the places that are looked at is free.
-fn keep(table: &mut [u16; PLACES], at: usize, k: usize)
-    requires { ⌜ (at < places) × (k < maxCount) ⌝ }
+// Writes number k to the first free place of a table, if one of the places that are looked at is free: `tries` of them in a row, from place `at`
+// on and past the last one from the first on. No other place changes.
+pub fn store(table: &mut [u16], at: usize, tries: usize, k: usize)
+    requires { ⌜ (at < length (now table)) × (tries ≤ places) × (k < free) ⌝ }
+    ensures { λ _. ⌜ Stored k (now (table .entry)) (now (table .exit)) ⌝ }
 {
+    let size = table.len();
     let mut i: usize = 0;
-    while i < TRIES {
-        let p = (at + i) % PLACES;
+    while i < tries {
+        let p = (at + i) % size;
         if table[p] == FREE {
             table[p] = k as u16;
             return;
@@ -140,7 +143,7 @@ pub fn places(points: &[f64], d: usize, n: usize) -> [u16; PLACES]
     let mut k: usize = 0;
     while k < n {
         let at = place(loaded(points, d, k), d);
-        keep(&mut table, at, k);
+        store(&mut table, at, TRIES, k);
         k += 1;
     }
     table
