@@ -1,4 +1,4 @@
--- The exchange of facets keeps a solid sound, its numbers of elements, entries and sups, and its diamonds; done twice it changes nothing.
+-- The exchange of facets keeps a solid sound, its numbers of elements, entries and sups, and its diamonds; done twice, or of facet 0, it changes nothing.
 -- Assumes nothing.
 use mathlib.Core.Path.{_≡_, refl, sym, _∙_, ap, fun-ext}
 use mathlib.Core.Logic.{_≢_, inl, inr}
@@ -161,6 +161,14 @@ exchange-twice (a ∷ s₀) f low =
     ∙ set-set s n l (swapWithFirst (getD (set s n l) n []) f)
     ∙ ap (λ (m : List (List ℕ)). set s n m) (ap (λ (m : List (List ℕ)). swapWithFirst m f) g ∙ swap-twice (getD s n []) f low)
     ∙ set-getD s n []
+
+-- Facet 0 changes places with itself, which changes nothing either.
+pub exchange-none : (s : Solid) → exchangedIn s 0 ≡ s
+unfolding exchangedIn swapWithFirst
+exchange-none s =
+    let n = top s - 1 in
+    let l = getD s n [] in
+    ap (set s n) (set-set l 0 (getD l 0 []) (getD l 0 []) ∙ set-getD l 0 []) ∙ set-getD s n []
 
 module _ (s : Solid) (tall : 2 ≤ top s) (f : ℕ) (low : f < size s (top s - 1)) where
   abbrev t : Solid
