@@ -17,7 +17,6 @@ use Rattle.spec.specs.Float.{zeroF}
 use Rattle.spec.specs.Types.{Solid, top, size, subs, elements}
 use Rattle.spec.specs.Solid.{entries, bound, diamond}
 use Rattle.spec.specs.Search.{exchangedIn, exchanged}
-use Rattle.spec.specs.Copying.{parts}
 use Rattle.laws.specs.SolidLaws.{swap}
 use Rattle.laws.specs.Passed.{Kept}
 use Rattle.laws.proofs.Exchange.{swap-low, size-same, subs-n, subs-other, elements-same, entries-same, bound-same, every-exchange}
@@ -202,6 +201,7 @@ module _ (sh : Shape) (w : List ℕ) (st : Stored sh w) (d : diamond (absIn sh w
     start = st .start;
     some = st .some;
     few = st .few;
+    rest = st .rest;
     small = st .small;
     room = rw (lists-length w g (g + f)) (st .room);
     apart = λ k h. let c = came k h in rw (c .2 .0) (st .apart (c .0) (c .1));
@@ -345,7 +345,4 @@ module _ {sh : Shape} {ws : List ℕ} {fs : List Float} (o : Bench sh ws fs) (f 
 
   pub solid-exchanged : solidIn sh vs fs ≡ exchanged (solidIn sh ws fs) f
   unfolding exchanged
-  solid-exchanged =
-      rw e
-      (ap (λ (n : ℕ). record { dimension = sh .dimension; points = parts n (sh .dimension) (take (n * sh .dimension) fs); abs = exchangedIn (absIn sh (listsOf sh ws)) f })
-      (size-same (absIn sh (listsOf sh ws)) (tall-s sh (listsOf sh ws) (asked .0)) f (low-s sh (listsOf sh ws) (asked .0) f (asked .1)) 1))
+  solid-exchanged = rw e

@@ -29,7 +29,8 @@ fn swap_lists(words: &mut [u32], g: usize, h: usize)
     swap(words, 4 * g + 1, 4 * h + 1);
 }
 
-// Lets facet f change places with facet 0, and derives the sups anew. There are as many as before, so the solid takes the same words.
+// Lets facet f change places with facet 0, and derives the sups anew. There are as many as before, so the solid takes the same words. Where f is 0,
+// there is nothing to do.
 pub fn exchange(words: &mut [u32], sh: Shape, f: usize)
     requires { ⌜ Laid sh (now words) ⌝ }
     requires { ⌜ (2 ≤ sh .rank) × (f < sizeAt sh (sh .rank - 1)) ⌝ }
@@ -37,6 +38,9 @@ pub fn exchange(words: &mut [u32], sh: Shape, f: usize)
     ensures { λ _. ⌜ Laid sh (now (words .exit)) ⌝ }
     ensures { λ _. ⌜ drop (sh .low) (now (words .exit)) ≡ drop (sh .low) (now (words .entry)) ⌝ }
 {
+    if f == 0 {
+        return;
+    }
     let first = sh.start(sh.rank - 1);
     swap_lists(words, first, first + f);
     derive_sups(words, sh, sh.sup_entries());
