@@ -6,7 +6,7 @@ use Prim.Native.Nat.{ℕ, _+_, _-_, _≤_, _<_}
 use native.Mathlib.Omega.{arith}
 use native.Mathlib.Numerals.{add-one}
 use lib.ListN.{length, getD, set, take, drop}
-use lib.Seq.{slice, length-slice, getD-take, getD-drop, take-all, paste, paste-zero, paste-suc, length-paste, drop-paste}
+use lib.Seq.{slice, length-slice, getD-take, getD-drop, take-all, paste, paste-zero, paste-suc, drop-paste}
 use Rattle.spec.specs.Lists.{renumber, eqList}
 use Rattle.laws.proofs.Counts.{lists}
 use Rattle.ranked.specs.declared.Shape.{Shape}
@@ -26,9 +26,6 @@ module _ (w : List ℕ) (to from n : ℕ) (apart : to + n ≤ from) (room : from
 
   pub copied-first : w ≡ paste w to s 0
   copied-first = paste-zero w to s
-
-  pub length-copied : (v : List ℕ) (k : ℕ) → v ≡ paste w to s k → k ≤ n → length v ≡ length w
-  length-copied v k e h = ap length e ∙ length-paste w to s k (omega arith) (rw many h)
 
   -- The word that is read is what stood there.
   read : (k : ℕ) → k < n → getD (paste w to s k) (from + k) 0 ≡ getD s k 0

@@ -22,6 +22,8 @@ use Rattle.ranked.specs.declared.Shape.{Shape}
 use Rattle.ranked.specs.Words.{firstAt, sizeAt, total, listsOf, absIn, Held}
 use Rattle.ranked.specs.Store.{subEntries, lowOf}
 use Rattle.ranked.proofs.Solids.{top-is, size-is}
+use Rattle.ranked.proofs.Entries.{sub-entries-is}
+use Rattle.ranked.proofs.Benches.{proper-few}
 use Rattle.element_types.specs.State.{entries, needed, Sweepable}
 
 -- ---- sums
@@ -92,11 +94,6 @@ rank-entries : (s : Solid) (r : ℕ) → sum (map length (getD s r [])) ≡ entr
 unfolding entries subs
 rank-entries s r = ap sum (lengths 0 (getD s r []) (λ e. length (subs s r e)) (λ e k. let q : 0 + e ≡ e = omega arith in rw q refl))
 
--- Where R is two or more, the entries are those of the vertices, of the lists and of the top.
-sub-entries-is : (sh : Shape) (J z : ℕ) → sh .rank ≡ suc (suc z) → subEntries sh J ≡ sizeAt sh 1 + J + sizeAt sh (suc z)
-unfolding subEntries
-sub-entries-is sh J z e = rw (e, subEntries)
-
 module _ (sh : Shape) (l : List ℕ) (h : Held sh l) where
   abbrev s : Solid
   s = absIn sh l
@@ -121,11 +118,7 @@ module _ (sh : Shape) (l : List ℕ) (h : Held sh l) where
   size-few : (r : ℕ) → r ≤ sh .rank → size s r ≤ maxCount
   size-few r k = rw (size-is sh l r k) (h .few r k)
 
-  -- A proper rank's elements are among E, and the entries of ranks 2 to R − 1 among I.
-  size-in : (r : ℕ) → 1 ≤ r → r < sh .rank → size s r ≤ E
-  unfolding elements properRanks
-  size-in r a b = sum-has (λ q. size s q) (range 1 (top s - 1)) r (in-range 1 (top s - 1) r a (omega (arith, top-is sh l)))
-
+  -- The entries of ranks 2 to R − 1 are among I.
   stored-in : (r : ℕ) → 2 ≤ r → r < sh .rank → entries s (up r) ≤ I
   unfolding solids.entries
   stored-in r a b =
@@ -142,14 +135,14 @@ module _ (sh : Shape) (l : List ℕ) (h : Held sh l) where
   up-few zero a b c = absurd (omega arith)
   up-few (suc zero) a b c =
       let p : entries s (up 1) ≤ size s 1 * 1 = rw least-one at (product 0) in
-      omega (arith, size-in 1 (omega arith) (omega arith))
+      omega (arith, proper-few sh l h 1 (omega arith) (omega arith))
   up-few (suc (suc q)) a b c = go (ℕ-discrete (suc (suc q)) (sh .rank))
     where
       go : Dec (suc (suc q) ≡ sh .rank) → entries s (up (suc (suc q))) ≤ E + I
       go (yes e) =
           let o : size s (suc (suc q)) ≡ 1 = ap (size s) e ∙ top-one in
           let p : entries s (up (suc (suc q))) ≤ 1 * size s (suc q) = rw o at (product (suc q)) in
-          omega (arith, size-in (suc q) (omega arith) (omega arith))
+          omega (arith, proper-few sh l h (suc q) (omega arith) (omega arith))
       go (no e) = omega (arith, stored-in (suc (suc q)) (omega arith) (omega arith))
 
   entries-few : (x : Step) → 1 ≤ at x → at x < sh .rank → entries s x ≤ E + I
@@ -158,7 +151,7 @@ module _ (sh : Shape) (l : List ℕ) (h : Held sh l) where
 
   -- ---- the limits
 
-  pub elements-few : E ≤ (maxRank - 1) * maxCount
+  elements-few : E ≤ (maxRank - 1) * maxCount
   unfolding elements properRanks
   elements-few =
       let p = sum-under (λ q. size s q) maxCount (range 1 (top s - 1)) (λ r m. size-few r (omega (arith, of-range 1 (top s - 1) r m, top-is sh l))) in
@@ -181,10 +174,6 @@ module _ (sh : Shape) (l : List ℕ) (h : Held sh l) where
       one (suc r) b = rw (rank-entries s (suc r)) (square r (omega (arith, top-is sh l)))
 
   -- ---- all elements
-
-  pub rising : (k a : ℕ) → a + k ≤ suc (sh .rank) → firstAt sh a ≤ firstAt sh (a + k)
-  rising zero a b = rw (add-zero a) (omega arith)
-  rising (suc k) a b = let e : a + suc k ≡ suc a + k = omega arith in rw e (omega (arith, h .some a (omega arith), rising k (suc a) (omega arith)))
 
   sizes-sum : (n a : ℕ) → a + n ≤ suc (sh .rank) → firstAt sh (a + n) ≡ firstAt sh a + sum (map (λ r. size s r) (range a n))
   unfolding sum range
@@ -215,12 +204,12 @@ module _ (sh : Shape) (l : List ℕ) (h : Held sh l) where
             sub-entries-is sh I z e,
             size-is sh l 1 (omega arith),
             size-is sh l (suc z) (omega arith),
-            size-in 1 (omega arith) (omega arith),
-            size-in (suc z) (omega arith) (omega arith),
+            proper-few sh l h 1 (omega arith) (omega arith),
+            proper-few sh l h (suc z) (omega arith) (omega arith),
           )
 
   -- A step's words are bounded by the solid's counts.
-  pub step-words : (x : Step) → 1 ≤ at x → at x < sh .rank → lowOf sh I + total sh + 4 * sizeAt sh (at x) + entries s x ≤ 14 * E + 3 * I + 10
+  step-words : (x : Step) → 1 ≤ at x → at x < sh .rank → lowOf sh I + total sh + 4 * sizeAt sh (at x) + entries s x ≤ 14 * E + 3 * I + 10
   unfolding lowOf
   step-words x a b =
       omega (
@@ -228,12 +217,12 @@ module _ (sh : Shape) (l : List ℕ) (h : Held sh l) where
         total-is (omega arith),
         sub-entries-few (omega arith),
         size-is sh l (at x) (omega arith),
-        size-in (at x) a b,
+        proper-few sh l h (at x) a b,
         entries-few x a b,
       )
 
 -- A "workspace under 16 times (E+I+4) 32-bit words" is refused. One that is not is enough, and its words can hold any place in it that a step uses.
-pub room-enough : (sh : Shape) (w : List ℕ) → Held sh (listsOf sh w) → sh .low ≡ lowOf sh (solids.entries (absIn sh (listsOf sh w)))
+room-enough : (sh : Shape) (w : List ℕ) → Held sh (listsOf sh w) → sh .low ≡ lowOf sh (solids.entries (absIn sh (listsOf sh w)))
     → 16 * (elements (absIn sh (listsOf sh w)) + solids.entries (absIn sh (listsOf sh w)) + 4) ≤ length w
     → (x : Step) → 1 ≤ at x → at x < sh .rank → (needed sh w x ≤ length w) × (needed sh w x < 2 ^ 32)
 unfolding needed

@@ -19,10 +19,10 @@ use Rattle.laws.proofs.Lists.{in-getD, map-same, getD-table, length-table, of-r
 use Rattle.laws.proofs.Renumber.{length-renumber, renumber-pattern}
 use Rattle.laws.proofs.Counts as counts
 use Rattle.ranked.specs.declared.Shape.{Shape}
-use Rattle.ranked.specs.Words.{firstAt, sizeAt, total, listsOf, listAt, absIn, Held}
+use Rattle.ranked.specs.Words.{firstAt, sizeAt, total, listsOf, listAt, absIn}
 use Rattle.ranked.specs.Layout as layout
 use Rattle.ranked.specs.Reading.{Lies, subsWord, supsWord}
-use Rattle.ranked.proofs.Solids.{size-is, number-in, subs-lie, sups-lie, subs-listed, sups-listed, sub-in, sup-in}
+use Rattle.ranked.proofs.Solids.{size-is, in-order, number-in, subs-lie, sups-lie, subs-listed, sups-listed, sub-in, sup-in}
 use Rattle.element_types.specs.Runs.{over, under, keyOf}
 use Rattle.element_types.specs.Numbers.{keyIn, keysTo, spaceTo, Ready}
 use Rattle.element_types.specs.State.{typesIn, stateIn, entries, needed, Steppable, Stepping, steppedAt}
@@ -78,11 +78,7 @@ renumber-tables f g n h =
         ∙ carry (p i) (p j) (q i) (q j) k (sym (getD-table p [] n i a) ∙ e ∙ getD-table p [] n j b)
         ∙ sym (getD-table q [] n j b)
 
--- ---- ranks lie one after another
-
-first-le : (sh : Shape) (l : List ℕ) → Held sh l → (k q r : ℕ) → q + k ≡ r → r ≤ suc (sh .rank) → firstAt sh q ≤ firstAt sh r
-first-le sh l h zero q r e b = let d : q ≡ r = omega arith in rw d (omega arith)
-first-le sh l h (suc k) q r e b = omega (arith, h .some q (omega arith), first-le sh l h k (suc q) r (omega arith) b)
+-- ---- a step
 
 -- A step's elements look to these neighbours, and their lists are here.
 pub record Looks (sh : Shape) (w : List ℕ) (x : Step) (base : ℕ) : Type 0 where
@@ -113,7 +109,7 @@ module _ (sh : Shape) (w : List ℕ) (x : Step) (t : Steppable sh w x) (listing 
   -- ---- there is room
 
   rank-in : (q : ℕ) → q ≤ sh .rank → firstAt sh q + sizeAt sh q ≤ total sh
-  rank-in q h = omega (arith, t .held .some q h, first-le sh (listsOf sh w) (t .held) (sh .rank - q) (suc q) (suc (sh .rank)) (omega arith) (omega arith))
+  rank-in q h = omega (arith, t .held .some q h, in-order sh (listsOf sh w) (t .held) (suc q) (suc (sh .rank)) (omega arith) (omega arith))
 
   out-in : out ≤ length w
   unfolding needed
@@ -228,7 +224,7 @@ module _ (sh : Shape) (w : List ℕ) (x : Step) (t : Steppable sh w x) (listing 
     -- The ranks below and above keep their types.
     below : (q : ℕ) → q < at x → typesIn sh v q ≡ typesIn sh w q
     below q h =
-        let k = first-le sh (listsOf sh w) (t .held) (at x - suc q) (suc q) (at x) (omega arith) (omega (arith, t .under)) in
+        let k = in-order sh (listsOf sh w) (t .held) (suc q) (at x) (omega arith) (omega (arith, t .under)) in
         let c : sh .low + firstAt sh q + sizeAt sh q ≤ from = omega (arith, t .held .some q (omega (arith, t .under))) in
         let z : from ≤ length (over W from (from + n) R) = omega (arith, length-over W from (from + n) R part part-in, part-in) in
         rank-new q (omega (arith, t .under))
@@ -239,7 +235,7 @@ module _ (sh : Shape) (w : List ℕ) (x : Step) (t : Steppable sh w x) (listing 
 
     above : (q : ℕ) → q ≤ sh .rank → at x < q → typesIn sh v q ≡ typesIn sh w q
     above q b h =
-        let k = first-le sh (listsOf sh w) (t .held) (q - suc (at x)) (suc (at x)) q (omega arith) (omega arith) in
+        let k = in-order sh (listsOf sh w) (t .held) (suc (at x)) q (omega arith) (omega arith) in
         rank-new q b
         ∙ ap (take (sizeAt sh q)) (drop-past W from (from + n) R part part-in (sh .low + firstAt sh q) (omega (arith, t .held .some (at x) (omega (arith, t .under)))))
         ∙ rank-old q b

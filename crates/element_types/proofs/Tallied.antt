@@ -18,9 +18,8 @@ use Rattle.laws.proofs.Counts.{numbers}
 use Rattle.ranked.specs.declared.Shape.{Shape}
 use Rattle.ranked.specs.Words.{firstAt, sizeAt, total, listsOf, absIn}
 use Rattle.ranked.specs.Layout as layout
-use Rattle.ranked.proofs.Solids.{top-is}
+use Rattle.ranked.proofs.Solids.{top-is, in-order}
 use Rattle.element_types.specs.State.{typesIn, stateIn, Countable}
-use Rattle.element_types.proofs.Room.{rising}
 
 -- ---- one rank
 
@@ -156,9 +155,7 @@ module _ (sh : Shape) (w : List ℕ) (a : Countable sh w) (n r : ℕ) (i : Tally
   module _ (h : r < sh .rank) where
     -- The rank's elements are among all elements.
     pub offsets : (firstAt sh r < firstAt sh (suc r)) × (firstAt sh (suc r) ≤ total sh)
-    offsets =
-        let e : suc r + (sh .rank - r) ≡ suc (sh .rank) = omega arith in
-        (a .held .some r (omega arith), rw e at (rising sh (listsOf sh w) (a .held) (sh .rank - r) (suc r) (omega arith)))
+    offsets = (a .held .some r (omega arith), in-order sh (listsOf sh w) (a .held) (suc r) (suc (sh .rank)) (omega arith) (omega arith))
 
     -- In the code's terms, the types of the rank's `many` elements stand from word `from` on.
     module _ (from many : ℕ) (f : from ≡ layout.typesAt sh r) (m : many ≡ sizeAt sh r) where
