@@ -19,7 +19,7 @@ use Rattle.spec.specs.Hull.{hullOf, distance}
 use Rattle.spec.specs.Classes.{pointOf, distanceOf}
 use Rattle.laws.proofs.Lists.{in-getD, in-range, of-range, map-same}
 use Rattle.laws.proofs.Counts.{keep-in, in-keep, holds-in}
-use Rattle.float.proofs.Parts.{part-at, parts-take}
+use Rattle.points.proofs.Parts.{part-at, parts-take}
 use Rattle.ranked.specs.declared.Shape.{Shape}
 use Rattle.ranked.specs.Words.{sizeAt, absIn, Held}
 use Rattle.ranked.specs.Layout.{coordinates}
