@@ -10,23 +10,22 @@ use lib.ListN.{length, getD, set, take, drop}
 use lib.Seq.{getD-take}
 use lib.Ieee.{Float}
 use Rattle.spec.specs.Lists.{range}
-use Rattle.spec.specs.Types.{Solid, top, size, properRanks}
+use Rattle.spec.specs.Types.{Solid, top, properRanks}
 use Rattle.spec.specs.Demand.{Sound}
 use Rattle.spec.specs.Solid.{Concrete, diamond}
 use Rattle.spec.specs.Matrix.{columns}
 use Rattle.spec.specs.Flags.{Flag, IsFlag, elementAt, change}
-use Rattle.spec.specs.Copying.{parts}
 use Rattle.spec.specs.Classes.{pointOf}
 use Rattle.spec.specs.Search.{changes, walk, flagColumns}
 use Rattle.laws.proofs.FlagChange.{every-change}
 use Rattle.laws.proofs.Lists.{map-map}
 use Rattle.matrix.specs.Reading.{leading, corner}
 use Rattle.float.proofs.Written.{Written, none, next, end}
-use Rattle.points.proofs.Parts.{part-at, part-end}
+use Rattle.points.proofs.Parts.{part-at, parts-take, part-end}
 use Rattle.ranked.specs.declared.Shape.{Shape}
-use Rattle.ranked.specs.Words.{absIn, Held}
-use Rattle.ranked.proofs.Solids.{size-is}
-use Rattle.distances.specs.Solids.{coordinates, solidOn}
+use Rattle.ranked.specs.Words.{sizeAt, absIn, Held}
+use Rattle.ranked.specs.Layout.{coordinates}
+use Rattle.ranked.specs.Bench.{solidOn}
 use Rattle.flag.proofs.Flags.{flag-in}
 use Rattle.candidates.specs.Post.{Turned}
 
@@ -80,26 +79,28 @@ pub record Walking (sh : Shape) (w : List ℕ) (fl : List Float) (F G : Flag) (o
   pub high : 0 < sh .dimension → i ≤ sh .dimension
   pub flag : IsFlag (absIn sh w) G
   pub at : G ≡ rounds (absIn sh w) (i - 1) F
-  pub written : Written (take (sh .dimension)) (λ j. pointOf (solidOn sh w fl (sh .dimension)) (elementAt (rounds (absIn sh w) j F) 1)) old rows i
+  pub written : Written (take (sh .dimension)) (λ j. pointOf (solidOn sh w fl) (elementAt (rounds (absIn sh w) j F) 1)) old rows i
 
-module _ (sh : Shape) (w : List ℕ) (fl : List Float) (h : Held sh w) (one : 1 ≤ sh .rank) (room : coordinates sh w ≤ length fl) where
+module _ (sh : Shape) (w : List ℕ) (fl : List Float) (h : Held sh w) (one : 1 ≤ sh .rank) (room : coordinates sh ≤ length fl) where
   abbrev d : ℕ
   d = sh .dimension
 
   abbrev c : Concrete
-  c = solidOn sh w fl d
+  c = solidOn sh w fl
 
   module _ (els : List ℕ) (f : IsFlag (absIn sh w) (take (suc (sh .rank)) els)) where
-    vertex : getD els 1 0 < size (absIn sh w) 1
-    vertex = rw (size-is sh w 1 one) (flag-in sh w h els f 1 one)
+    vertex : getD els 1 0 < sizeAt sh 1
+    vertex = flag-in sh w h els f 1 one
 
     -- The vertex's coordinates lie in the slice.
     pub vertex-in : getD els 1 0 * d + d ≤ length fl
-    vertex-in = omega (arith, part-end (size (absIn sh w) 1) d (getD els 1 0) vertex, room)
+    vertex-in = omega (arith, part-end (sizeAt sh 1) d (getD els 1 0) vertex, room)
 
     point-is : (x : List Float) → take d x ≡ take d (drop (getD els 1 0 * d) fl) → take d x ≡ pointOf c (elementAt (take (suc (sh .rank)) els) 1)
     unfolding pointOf
-    point-is x e = e ∙ sym (part-at (size (absIn sh w) 1) d fl (getD els 1 0) vertex) ∙ ap (λ (v : ℕ). getD (parts (size (absIn sh w) 1) d fl) v []) (sym (getD-take (suc (sh .rank)) els 1 0 (omega arith)))
+    point-is x e =
+        e ∙ sym (ap (λ (ps : List (List Float)). getD ps (getD els 1 0) []) (parts-take (sizeAt sh 1) d fl) ∙ part-at (sizeAt sh 1) d fl (getD els 1 0) vertex)
+        ∙ ap (pointOf c) (sym (getD-take (suc (sh .rank)) els 1 0 (omega arith)))
 
     pub walk-first : (zeros : List (List Float)) → 0 < length zeros → (x : List Float) → take d x ≡ take d (drop (getD els 1 0 * d) fl)
         → Walking sh w fl (take (suc (sh .rank)) els) (take (suc (sh .rank)) els) (set zeros 0 x) (set zeros 0 x) 1

@@ -14,7 +14,8 @@ use Rattle.spec.specs.Flags.{Flag, IsFlag, elementAt, firstFlag}
 use Rattle.spec.specs.Search.{Setting, sameTypes}
 use Rattle.laws.proofs.Lists.{getD-table, length-table, of-range}
 use Rattle.ranked.specs.declared.Shape.{Shape}
-use Rattle.ranked.specs.Words.{firstAt, sizeAt, total, subsIn, absIn, Held}
+use Rattle.ranked.specs.Words.{sizeAt, listsOf, subsIn, absIn, Held}
+use Rattle.ranked.specs.Layout.{typesAt, scratchAt}
 use Rattle.ranked.proofs.Solids.{number-in}
 use Rattle.ranked.proofs.Judged.{every-same}
 use Rattle.element_types.specs.State.{typesIn, stateIn}
@@ -22,30 +23,30 @@ use Rattle.flag.proofs.Flags.{flag-in}
 use Rattle.candidates.specs.Post.{typesAgree}
 
 -- This is the code's test at rank r.
-abbrev pub agree : List ℕ → ℕ → List ℕ → List ℕ → List ℕ → ℕ → Bool
-agree w low starts a b r = eqb (getD w (low + getD starts r 0 + getD a r 0) 0) (getD w (low + getD starts r 0 + getD b r 0) 0)
+abbrev pub agree : List ℕ → Shape → List ℕ → List ℕ → ℕ → Bool
+agree w sh a b r = eqb (getD w (typesAt sh r + getD a r 0) 0) (getD w (typesAt sh r + getD b r 0) 0)
 
-type-read : (sh : Shape) (low : ℕ) (w : List ℕ) (r e : ℕ) → r ≤ sh .rank → e < sizeAt sh r → getD w (low + firstAt sh r + e) 0 ≡ typeOf (stateIn sh low w) r e
+type-read : (sh : Shape) (w : List ℕ) (r e : ℕ) → r ≤ sh .rank → e < sizeAt sh r → getD w (typesAt sh r + e) 0 ≡ typeOf (stateIn sh w) r e
 unfolding stateIn typesIn
-type-read sh low w r e h k =
+type-read sh w r e h k =
     sym
-    (ap (λ (l : List ℕ). getD l e 0) (getD-table (typesIn sh low w) [] (suc (sh .rank)) r (omega arith))
-    ∙ getD-take (sizeAt sh r) (drop (low + firstAt sh r) w) e 0 k
-    ∙ getD-drop (low + firstAt sh r) w e 0)
+    (ap (λ (l : List ℕ). getD l e 0) (getD-table (typesIn sh w) [] (suc (sh .rank)) r (omega arith))
+    ∙ getD-take (sizeAt sh r) (drop (typesAt sh r) w) e 0 k
+    ∙ getD-drop (typesAt sh r) w e 0)
 
-module _ (sh : Shape) (low : ℕ) (w : List ℕ) (h : Held sh (take low w)) (room : low + total sh ≤ length w) where
-  module _ (els : List ℕ) (f : IsFlag (absIn sh (take low w)) (take (suc (sh .rank)) els)) (r : ℕ) (q : r ≤ sh .rank) where
+module _ (sh : Shape) (w : List ℕ) (h : Held sh (listsOf sh w)) (room : scratchAt sh ≤ length w) where
+  module _ (els : List ℕ) (f : IsFlag (absIn sh (listsOf sh w)) (take (suc (sh .rank)) els)) (r : ℕ) (q : r ≤ sh .rank) where
     -- The word of an element's type lies within the words.
-    pub word-in : low + firstAt sh r + getD els r 0 < length w
-    word-in = omega (arith, number-in sh (take low w) h r (getD els r 0) q (flag-in sh (take low w) h els f r q))
+    pub word-in : typesAt sh r + getD els r 0 < length w
+    word-in = omega (arith, number-in sh (listsOf sh w) h r (getD els r 0) q (flag-in sh (listsOf sh w) h els f r q))
 
-    read : getD w (low + firstAt sh r + getD els r 0) 0 ≡ typeOf (stateIn sh low w) r (elementAt (take (suc (sh .rank)) els) r)
+    read : getD w (typesAt sh r + getD els r 0) 0 ≡ typeOf (stateIn sh w) r (elementAt (take (suc (sh .rank)) els) r)
     read =
-        type-read sh low w r (getD els r 0) q (flag-in sh (take low w) h els f r q)
-        ∙ ap (typeOf (stateIn sh low w) r) (sym (getD-take (suc (sh .rank)) els r 0 (omega arith)))
+        type-read sh w r (getD els r 0) q (flag-in sh (listsOf sh w) h els f r q)
+        ∙ ap (typeOf (stateIn sh w) r) (sym (getD-take (suc (sh .rank)) els r 0 (omega arith)))
 
-  pub agree-is : (a b : List ℕ) → IsFlag (absIn sh (take low w)) (take (suc (sh .rank)) a) → IsFlag (absIn sh (take low w)) (take (suc (sh .rank)) b)
-      → every (agree w low (sh .first) a b) (range 0 (suc (sh .rank))) ≡ typesAgree (stateIn sh low w) (sh .rank) (take (suc (sh .rank)) a) (take (suc (sh .rank)) b)
+  pub agree-is : (a b : List ℕ) → IsFlag (absIn sh (listsOf sh w)) (take (suc (sh .rank)) a) → IsFlag (absIn sh (listsOf sh w)) (take (suc (sh .rank)) b)
+      → every (agree w sh a b) (range 0 (suc (sh .rank))) ≡ typesAgree (stateIn sh w) (sh .rank) (take (suc (sh .rank)) a) (take (suc (sh .rank)) b)
   agree-is a b f g =
       every-same _ _ (range 0 (suc (sh .rank)))
       (λ r m. let q : r ≤ sh .rank = omega (arith, of-range 0 (suc (sh .rank)) r m) in ap₂ eqb (read a f r q) (read b g r q))

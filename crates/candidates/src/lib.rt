@@ -2,7 +2,7 @@
 // (conc/symmetry.rs).
 ghost use mathlib.Core.Path.{_≡_};
 ghost use mathlib.Core.Bool.{true};
-ghost use Prim.Native.Nat.{_+_, _*_, _≤_};
+ghost use Prim.Native.Nat.{_*_, _≤_};
 ghost use lib.ListN.{length, take};
 ghost use Rattle.spec.specs.Limits.{maxDimension};
 ghost use Rattle.spec.specs.Lists.{every};
@@ -14,8 +14,9 @@ ghost use Rattle.spec.specs.Solid.{diamond};
 ghost use Rattle.spec.specs.Flags.{IsFlag};
 ghost use Rattle.spec.specs.Search.{flagColumns, allFinite};
 ghost use Rattle.matrix.specs.Reading.{corner};
-ghost use Rattle.ranked.specs.Words.{total, absIn, Held};
-ghost use Rattle.distances.specs.Solids.{coordinates, solidOn};
+ghost use Rattle.ranked.specs.Words.{listsOf, absIn, Held};
+ghost use Rattle.ranked.specs.Layout.{scratchAt, coordinates};
+ghost use Rattle.ranked.specs.Bench.{solidOn};
 ghost use Rattle.element_types.specs.State.{stateIn};
 ghost use Rattle.flag.specs.Reading.{flagIn};
 ghost use Rattle.candidates.specs.Post.{Turned, typesAgree};
@@ -24,7 +25,7 @@ use float::DIMENSION;
 use float::tolerance;
 use points::Found;
 use ranked::Shape;
-use ranked::lists;
+use ranked::lists::get;
 
 // Tells whether a float is neither an infinity nor a NaN.
 fn is_finite(x: f64) -> bool
@@ -84,22 +85,21 @@ pub fn no_double(points: &[f64], d: usize, n: usize) -> bool
     true
 }
 
-// Tells whether "its elements have the first flag's types". The type of element e of rank r stands at word low + starts[r] + e.
-pub fn same_types(words: &[u32], low: usize, sh: Shape, flag: Flag, first: Flag) -> bool
-    requires { ⌜ Held sh (take low (now words)) ⌝ }
-    requires { ⌜ low + total sh ≤ length (now words) ⌝ }
-    requires { ⌜ IsFlag (absIn sh (take low (now words))) (flagIn (sh .rank) flag) ⌝ }
-    requires { ⌜ IsFlag (absIn sh (take low (now words))) (flagIn (sh .rank) first) ⌝ }
-    ensures { λ res. ⌜ res ≡ typesAgree (stateIn sh low (now (words .entry))) (sh .rank) (flagIn (sh .rank) flag) (flagIn (sh .rank) first) ⌝ }
+// Tells whether "its elements have the first flag's types".
+pub fn same_types(words: &[u32], sh: Shape, flag: Flag, first: Flag) -> bool
+    requires { ⌜ Held sh (listsOf sh (now words)) ⌝ }
+    requires { ⌜ scratchAt sh ≤ length (now words) ⌝ }
+    requires { ⌜ IsFlag (absIn sh (listsOf sh (now words))) (flagIn (sh .rank) flag) ⌝ }
+    requires { ⌜ IsFlag (absIn sh (listsOf sh (now words))) (flagIn (sh .rank) first) ⌝ }
+    ensures { λ res. ⌜ res ≡ typesAgree (stateIn sh (now (words .entry))) (sh .rank) (flagIn (sh .rank) flag) (flagIn (sh .rank) first) ⌝ }
 {
-    let starts = sh.first;
     let rank = sh.rank;
     let a = flag.elements;
     let b = first.elements;
     let mut r: usize = 0;
     while r <= rank {
-        let at = low + starts[r];
-        if lists::get(words, at + a[r]) != lists::get(words, at + b[r]) {
+        let types = sh.types(r);
+        if get(words, types + a[r]) != get(words, types + b[r]) {
             return false;
         }
         r += 1;
@@ -108,18 +108,18 @@ pub fn same_types(words: &[u32], low: usize, sh: Shape, flag: Flag, first: Flag)
 }
 
 // Returns the flag after one round: "change ranks 1 to R−1 in turn".
-fn turned(w: &[u32], sh: Shape, flag: Flag) -> Flag
-    requires { ⌜ Held sh (now w) ⌝ }
-    requires { ⌜ diamond (absIn sh (now w)) ≡ true ⌝ }
-    requires { ⌜ IsFlag (absIn sh (now w)) (flagIn (sh .rank) flag) ⌝ }
+fn turned(lists: &[u32], sh: Shape, flag: Flag) -> Flag
+    requires { ⌜ Held sh (now lists) ⌝ }
+    requires { ⌜ diamond (absIn sh (now lists)) ≡ true ⌝ }
+    requires { ⌜ IsFlag (absIn sh (now lists)) (flagIn (sh .rank) flag) ⌝ }
     requires { ⌜ 1 ≤ sh .rank ⌝ }
-    ensures { λ res. ⌜ Turned (absIn sh (now (w .entry))) (flagIn (sh .rank) flag) (flagIn (sh .rank) res) ⌝ }
+    ensures { λ res. ⌜ Turned (absIn sh (now (lists .entry))) (flagIn (sh .rank) flag) (flagIn (sh .rank) res) ⌝ }
 {
     let rank = sh.rank;
     let mut f = flag;
     let mut r: usize = 1;
     while r < rank {
-        let next = f.change(w, sh, r);
+        let next = f.change(lists, sh, r);
         f = next;
         r += 1;
     }
@@ -127,24 +127,29 @@ fn turned(w: &[u32], sh: Shape, flag: Flag) -> Flag
 }
 
 // "A flag's columns: its vertex; then, D−1 times, change ranks 1 to R−1 in turn and take the vertex."
-pub fn columns(w: &[u32], sh: Shape, points: &[f64], flag: Flag) -> [[f64; DIMENSION]; DIMENSION]
-    requires { ⌜ Held sh (now w) ⌝ }
-    requires { ⌜ diamond (absIn sh (now w)) ≡ true ⌝ }
-    requires { ⌜ IsFlag (absIn sh (now w)) (flagIn (sh .rank) flag) ⌝ }
+pub fn columns(
+    lists: &[u32],
+    sh: Shape,
+    floats: &[f64],
+    flag: Flag,
+) -> [[f64; DIMENSION]; DIMENSION]
+    requires { ⌜ Held sh (now lists) ⌝ }
+    requires { ⌜ diamond (absIn sh (now lists)) ≡ true ⌝ }
+    requires { ⌜ IsFlag (absIn sh (now lists)) (flagIn (sh .rank) flag) ⌝ }
     requires { ⌜ 1 ≤ sh .rank ⌝ }
-    requires { ⌜ coordinates sh (now w) ≤ length (now points) ⌝ }
-    ensures { λ res. ⌜ corner (sh .dimension) res ≡ flagColumns (solidOn sh (now (w .entry)) (now (points .entry)) (sh .dimension)) (flagIn (sh .rank) flag) ⌝ }
+    requires { ⌜ coordinates sh ≤ length (now floats) ⌝ }
+    ensures { λ res. ⌜ corner (sh .dimension) res ≡ flagColumns (solidOn sh (now (lists .entry)) (now (floats .entry))) (flagIn (sh .rank) flag) ⌝ }
 {
     let d = sh.dimension;
     let mut rows = [[0.0; DIMENSION]; DIMENSION];
     let mut f = flag;
     let first = f.elements;
-    rows[0] = points::loaded(points, d, first[1]);
+    rows[0] = points::loaded(floats, d, first[1]);
     let mut i: usize = 1;
     while i < d {
-        let next = turned(w, sh, f);
+        let next = turned(lists, sh, f);
         let elements = next.elements;
-        rows[i] = points::loaded(points, d, elements[1]);
+        rows[i] = points::loaded(floats, d, elements[1]);
         f = next;
         i += 1;
     }
@@ -153,20 +158,20 @@ pub fn columns(w: &[u32], sh: Shape, points: &[f64], flag: Flag) -> [[f64; DIMEN
 
 // The candidate is "columns times the inverse of the first flag's".
 pub fn candidate(
-    w: &[u32],
+    lists: &[u32],
     sh: Shape,
-    points: &[f64],
+    floats: &[f64],
     flag: Flag,
     inv: [[f64; DIMENSION]; DIMENSION],
 ) -> [[f64; DIMENSION]; DIMENSION]
-    requires { ⌜ Held sh (now w) ⌝ }
-    requires { ⌜ diamond (absIn sh (now w)) ≡ true ⌝ }
-    requires { ⌜ IsFlag (absIn sh (now w)) (flagIn (sh .rank) flag) ⌝ }
+    requires { ⌜ Held sh (now lists) ⌝ }
+    requires { ⌜ diamond (absIn sh (now lists)) ≡ true ⌝ }
+    requires { ⌜ IsFlag (absIn sh (now lists)) (flagIn (sh .rank) flag) ⌝ }
     requires { ⌜ 1 ≤ sh .rank ⌝ }
-    requires { ⌜ coordinates sh (now w) ≤ length (now points) ⌝ }
+    requires { ⌜ coordinates sh ≤ length (now floats) ⌝ }
     ensures { λ res. ⌜ corner (sh .dimension) res
-        ≡ mulMat (flagColumns (solidOn sh (now (w .entry)) (now (points .entry)) (sh .dimension)) (flagIn (sh .rank) flag)) (corner (sh .dimension) inv) ⌝ }
+        ≡ mulMat (flagColumns (solidOn sh (now (lists .entry)) (now (floats .entry))) (flagIn (sh .rank) flag)) (corner (sh .dimension) inv) ⌝ }
 {
     let d = sh.dimension;
-    matrix::product(columns(w, sh, points, flag), inv, d)
+    matrix::product(columns(lists, sh, floats, flag), inv, d)
 }

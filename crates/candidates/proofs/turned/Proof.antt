@@ -2,7 +2,6 @@
 -- Assumes nothing.
 use borrow.Author.Needs.{needs}
 use native.Mathlib.Omega.{arith}
-use mathlib.Core.Path.{_≡_}
 use Prim.Native.Nat.{_-_}
 use Rattle.ranked.specs.Words.{absIn}
 use Rattle.ranked.proofs.Solids.{top-is}
@@ -13,19 +12,19 @@ use Rattle.candidates.proofs.turned.Statement.{statement}
 use Rattle.candidates.proofs.turned.Tie as tie
 
 abbrev Inv : tie.InvT-loop
-Inv w sh rank f₀ r₀ f r = Turning (absIn sh w) (flagIn (sh .rank) f₀) (flagIn (sh .rank) f) r
+Inv lists sh rank f₀ r₀ f r = Turning (absIn sh lists) (flagIn (sh .rank) f₀) (flagIn (sh .rank) f) r
 
 abbrev μ : tie.MeasureT-loop
-μ w sh rank f₀ r₀ f r = rank - r
+μ lists sh rank f₀ r₀ f r = rank - r
 
 pub turned-spec : {M : Type 1} → statement M
 turned-spec =
     tie.close
     (tie.spec Inv μ
-    (λ c. let s = c .before in let a = s .args in turn-first _ _ (s .pre .1 .1 .0) (omega (arith, s .pre .1 .1 .1, top-is (a .sh) (a .w .now))))
+    (λ c. let s = c .before in let a = s .args in turn-first _ _ (s .pre .1 .1 .0) (omega (arith, s .pre .1 .1 .1, top-is (a .sh) (a .lists .now))))
     -- The need is change-requires.
     (λ c κs. let l = c .before .loop in let s = c .before .before .before in let a = s .args in
-    let inside = flag-in (a .sh) (a .w .now) (s .pre .0) (l .f .elements) (l .inv .flag) in (
+    let inside = flag-in (a .sh) (a .lists .now) (s .pre .0) (l .f .elements) (l .inv .flag) in (
       s .pre .0,
       (
         (omega (arith, l .inv .low), omega (arith, l .inv .low, c .loop-test .taken)),
@@ -36,6 +35,6 @@ turned-spec =
     (λ c. omega (arith, c .before .loop-test .taken))
     -- The needs are loop-again and returns.
     (λ c. let l = c .before .before .loop in let s = c .before .before .before .before in let a = s .args in
-    turn-next _ _ _ (l .r) (l .inv) (s .pre .0 .sound) (s .pre .1 .0) (omega (arith, c .before .loop-test .taken, top-is (a .sh) (a .w .now))) _ (c .change .ensures))
+    turn-next _ _ _ (l .r) (l .inv) (s .pre .0 .sound) (s .pre .1 .0) (omega (arith, c .before .loop-test .taken, top-is (a .sh) (a .lists .now))) _ (c .change .ensures))
     (λ c. let l = c .before .loop in let s = c .before .before .before in let a = s .args in
-    turn-end _ _ _ (l .r) (l .inv) (omega (arith, c .loop-test .left, top-is (a .sh) (a .w .now)))))
+    turn-end _ _ _ (l .r) (l .inv) (omega (arith, c .loop-test .left, top-is (a .sh) (a .lists .now)))))
