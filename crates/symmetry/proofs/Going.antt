@@ -22,7 +22,7 @@ use Rattle.laws.proofs.CopyLaws.{written-length}
 use Rattle.points.proofs.Tails.{tail-is}
 use Rattle.points.proofs.Tails.{part-written}
 use Rattle.laws.proofs.Shapes.{Fit, Shape, square-long, Holds, none-held, fits-holds, candidate-shape, tested-shape}
-use Rattle.symmetry.specs.Listing.{listedIf, gives, given, matrixCells, rowCells, Running, tried, fits}
+use Rattle.symmetry.specs.Listing.{listedIf, gives, membersGiven, matrixCells, rowCells, Running, tried, fits}
 use Rattle.symmetry.specs.declared.listing.Tried.{Tried}
 use Rattle.symmetry.specs.declared.listing.Tried.the-variants.{Skipped, Added, Short}
 use Rattle.symmetry.proofs.Running.{matrix-one, row-one, running-first, running-none, running-next, running-short}
@@ -98,7 +98,7 @@ module _ (w : Setting) (rot : Bool) (m : Room) (d v : ℕ) (shape : Fit d v w) (
     unfoldable pub Then : Tried → Type 0
     Then Skipped = Going w rot m d v Fs left ms matricesThen rs rowsThen n
     Then Added = Going w rot m d v Fs left ms matricesThen rs rowsThen (suc n)
-    Then Short = (fitting m d v 0 (given w rot Fs) ≡ g .done) × (ltb n (length (given w rot Fs)) ≡ true) × (matricesThen ≡ ms′) × (rowsThen ≡ rs′)
+    Then Short = (fitting m d v 0 (membersGiven w rot Fs) ≡ g .done) × (ltb n (length (membersGiven w rot Fs)) ≡ true) × (matricesThen ≡ ms′) × (rowsThen ≡ rs′)
 
     fits-is : fits d v (length matrixPart) (length rowPart) (m .marks - n) ≡ haveRoom m d v (suc n)
     unfolding many long floats-in entries-in
@@ -160,7 +160,7 @@ module _ (w : Setting) (rot : Bool) (m : Room) (d v : ℕ) (shape : Fit d v w) (
             }
 
       module _ (h : haveRoom m d v (suc n) ≡ false) (k : _≡_ {A = Tried × List Float × List ℕ} (t, p, q) (tried (some x) false matrixPart rowPart)) where
-        stopped : (fitting m d v 0 (given w rot Fs) ≡ g .done) × (ltb n (length (given w rot Fs)) ≡ true) × (matricesThen ≡ ms′) × (rowsThen ≡ rs′)
+        stopped : (fitting m d v 0 (membersGiven w rot Fs) ≡ g .done) × (ltb n (length (membersGiven w rot Fs)) ≡ true) × (matricesThen ≡ ms′) × (rowsThen ≡ rs′)
         unfolding tried same-matrices same-rows
         stopped =
             let a = running-short w rot m d v Fs F left (g .done) (g .running) x o (rw (← g .count) h) in

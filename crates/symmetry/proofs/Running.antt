@@ -20,8 +20,8 @@ use Rattle.spec.specs.Search.{Member, Setting, candidate, sameTypes, tested, me
 use Rattle.spec.specs.Judged.{passed, _>>=_}
 use Rattle.spec.specs.Solid.{Concrete}
 use Rattle.spec.specs.Calls.{Room, haveRoom, fitting, Outcome, keptOf, outcome, SearchOut, roomOf, searchWritten}
-use Rattle.symmetry.specs.Tails.{wantedOf, listed, ends}
-use Rattle.symmetry.specs.Listing.{listedIf, gives, given, matrixCells, rowCells, Running, keptIn, answerOf, outsOf}
+use Rattle.symmetry.specs.Tails.{wantedOf, listed, callFrom}
+use Rattle.symmetry.specs.Listing.{listedIf, gives, membersGiven, matrixCells, rowCells, Running, keptIn, answerOf, outsOf}
 
 -- Puts a member, where there is one, before the others.
 unfoldable pub before : Option Member → List Member → List Member
@@ -29,9 +29,9 @@ before none ms = ms
 before (some x) ms = x ∷ ms
 
 -- One flag more gives its member, where it gives one.
-pub given-next : (w : Setting) (rot : Bool) (F : Flag) (Fs : List Flag) → given w rot (F ∷ Fs) ≡ before (gives w rot F) (given w rot Fs)
-unfolding given gives membersOf rotationsOf wantedOf listedIf before
-given-next w rot F Fs = go rot (sameTypes w F) (tested w (candidate w F))
+pub members-next : (w : Setting) (rot : Bool) (F : Flag) (Fs : List Flag) → membersGiven w rot (F ∷ Fs) ≡ before (gives w rot F) (membersGiven w rot Fs)
+unfolding membersGiven gives membersOf rotationsOf wantedOf listedIf before
+members-next w rot F Fs = go rot (sameTypes w F) (tested w (candidate w F))
   where
     rotates : (b : Bool) (x : Member) → elim b as (λ z. List Member) [ true ↦ x ∷ rotationsOf (membersOf w Fs) | false ↦ rotationsOf (membersOf w Fs) ]
         ≡ before (elim (not true || b) as (λ z. Option Member) [ true ↦ some x | false ↦ none ]) (rotationsOf (membersOf w Fs))
@@ -78,23 +78,23 @@ module _ (w : Setting) (rot : Bool) (m : Room) (d v : ℕ) (Fs : List Flag) wher
     pub running-none : gives w rot F ≡ none → Running w rot m d v Fs rest done
     unfolding before
     running-none e =
-        let q : given w rot (F ∷ rest) ≡ given w rot rest = given-next w rot F rest ∙ ap (λ o. before o (given w rot rest)) e in
+        let q : membersGiven w rot (F ∷ rest) ≡ membersGiven w rot rest = members-next w rot F rest ∙ ap (λ o. before o (membersGiven w rot rest)) e in
         record { kept = rw q at (i .kept); all = rw q at (i .all); floats = i .floats; entries = i .entries }
 
     module _ (x : Member) (e : gives w rot F ≡ some x) where
-      coming : given w rot (F ∷ rest) ≡ x ∷ given w rot rest
+      coming : membersGiven w rot (F ∷ rest) ≡ x ∷ membersGiven w rot rest
       unfolding before
-      coming = given-next w rot F rest ∙ ap (λ o. before o (given w rot rest)) e
+      coming = members-next w rot F rest ∙ ap (λ o. before o (membersGiven w rot rest)) e
 
       -- The flag gives a member for which there is room.
       pub running-next : haveRoom m d v (suc (length done)) ≡ true → length (join (x .matrix)) ≡ d * d → length (x .row) ≡ v → Running w rot m d v Fs rest (done ++ x ∷ [])
       unfolding coming
       running-next h a b =
           let n : length (done ++ x ∷ []) ≡ suc (length done) = length-append done (x ∷ []) ∙ add-one (length done) in
-          let k = rw (coming, fitting-yes m d v (length done) x (given w rot rest) h) at (i .kept) in
+          let k = rw (coming, fitting-yes m d v (length done) x (membersGiven w rot rest) h) at (i .kept) in
           let l = rw coming at (i .all) in
           record {
-            kept = rw n (k ∙ sym (append-assoc done (x ∷ []) (fitting m d v (suc (length done)) (given w rot rest))));
+            kept = rw n (k ∙ sym (append-assoc done (x ∷ []) (fitting m d v (suc (length done)) (membersGiven w rot rest))));
             all = rw n (omega (arith, l));
             floats = rw (matrix-one done x, n, length-append (matrixCells done) (join (x .matrix)), i .floats, a) (omega arith);
             entries = rw (row-one done x, n, length-append (rowCells done) (x .row), i .entries, b) (omega arith);
@@ -102,24 +102,24 @@ module _ (w : Setting) (rot : Bool) (m : Room) (d v : ℕ) (Fs : List Flag) wher
 
       -- The flag gives a member for which there is no room, which is refusal 13.
       pub running-short : haveRoom m d v (suc (length done)) ≡ false
-          → (fitting m d v 0 (given w rot Fs) ≡ done) × (ltb (length done) (length (given w rot Fs)) ≡ true)
+          → (fitting m d v 0 (membersGiven w rot Fs) ≡ done) × (ltb (length done) (length (membersGiven w rot Fs)) ≡ true)
       unfolding coming
       running-short h = (
-        rw (coming, fitting-no m d v (length done) x (given w rot rest) h) at (i .kept) ∙ append-nil done,
-        lt-ltb (length done) (length (given w rot Fs)) (let l = rw coming at (i .all) in omega (arith, l)),
+        rw (coming, fitting-no m d v (length done) x (membersGiven w rot rest) h) at (i .kept) ∙ append-nil done,
+        lt-ltb (length done) (length (membersGiven w rot Fs)) (let l = rw coming at (i .all) in omega (arith, l)),
       )
 
   -- After the last flag, all members are listed.
   pub running-end : (done : List Member) → Running w rot m d v Fs [] done
-      → (fitting m d v 0 (given w rot Fs) ≡ done) × (length (given w rot Fs) ≡ length done)
-  unfolding given membersOf wantedOf rotationsOf fitting
+      → (fitting m d v 0 (membersGiven w rot Fs) ≡ done) × (length (membersGiven w rot Fs) ≡ length done)
+  unfolding membersGiven membersOf wantedOf rotationsOf fitting
   running-end done i = (ends rot (i .kept), counts rot (i .all))
     where
-      ends : (b : Bool) → fitting m d v 0 (given w b Fs) ≡ done ++ fitting m d v (length done) (wantedOf b []) → fitting m d v 0 (given w b Fs) ≡ done
+      ends : (b : Bool) → fitting m d v 0 (membersGiven w b Fs) ≡ done ++ fitting m d v (length done) (wantedOf b []) → fitting m d v 0 (membersGiven w b Fs) ≡ done
       ends false e = e ∙ append-nil done
       ends true e = e ∙ append-nil done
 
-      counts : (b : Bool) → length (given w b Fs) ≡ length done + length (wantedOf b []) → length (given w b Fs) ≡ length done
+      counts : (b : Bool) → length (membersGiven w b Fs) ≡ length done + length (wantedOf b []) → length (membersGiven w b Fs) ≡ length done
       counts false e = omega (arith, e)
       counts true e = omega (arith, e)
 
@@ -150,10 +150,10 @@ written-kept old (x ∷ ms) kept short h e = rw e (go (length kept) (ltb (length
     go (suc n) false q t = rw q refl
 
 -- This is what a call gives once its members are listed.
-pub ends-listed : (w : Setting) (rot : Bool) (c : Concrete) (old : SearchOut) (short : Bool) → c .dimension ≡ w .searched .dimension → c .points ≡ w .searched .points
-    → short ≡ ltb (length (keptIn w rot (roomOf old) (flags (w .searched .abs)))) (length (given w rot (flags (w .searched .abs))))
-    → ends rot c (passed w) old ≡ (answerOf short (length (keptIn w rot (roomOf old) (flags (w .searched .abs)))), outsOf (keptIn w rot (roomOf old) (flags (w .searched .abs))) old)
-unfolding ends listed outcome _>>=_ keptIn given
-ends-listed w rot c old short d p e =
-    let ms = given w rot (flags (w .searched .abs)) in
+pub listed-call : (w : Setting) (rot : Bool) (c : Concrete) (old : SearchOut) (short : Bool) → c .dimension ≡ w .searched .dimension → c .points ≡ w .searched .points
+    → short ≡ ltb (length (keptIn w rot (roomOf old) (flags (w .searched .abs)))) (length (membersGiven w rot (flags (w .searched .abs))))
+    → callFrom rot c (passed w) old ≡ (answerOf short (length (keptIn w rot (roomOf old) (flags (w .searched .abs)))), outsOf (keptIn w rot (roomOf old) (flags (w .searched .abs))) old)
+unfolding callFrom listed outcome _>>=_ keptIn membersGiven
+listed-call w rot c old short d p e =
+    let ms = membersGiven w rot (flags (w .searched .abs)) in
     rw (d, p) (written-kept old ms (keptIn w rot (roomOf old) (flags (w .searched .abs))) short (fitting-few (roomOf old) (w .searched .dimension) (length (w .searched .points)) 0 ms) e)

@@ -6,15 +6,15 @@ use mathlib.Core.Bool.{Bool, true, false, not, _&&_, _||_}
 use mathlib.Core.Option.{Option, none, some}
 use mathlib.Core.List.{List, map}
 use Prim.Native.Nat.{ℕ, suc, _*_, _≤_}
-use lib.ListN.{length, take}
+use lib.ListN.{length}
 use lib.Dec.{leb, ltb}
 use lib.Ieee.{Float, lt}
 use borrow.Author.Tests.{leb-true}
 use Rattle.spec.specs.Lists.{range, join}
-use Rattle.spec.specs.Types.{size, State}
+use Rattle.spec.specs.Types.{State}
 use Rattle.spec.specs.Float.{zeroF}
-use Rattle.spec.specs.Matrix.{Matrix, Vector, mulMat, determinant}
-use Rattle.spec.specs.Copying.{written, parts}
+use Rattle.spec.specs.Matrix.{Matrix, mulMat, determinant}
+use Rattle.spec.specs.Copying.{written}
 use Rattle.spec.specs.Solid.{Concrete}
 use Rattle.spec.specs.Flags.{Flag, IsFlag, firstFlag}
 use Rattle.spec.specs.Search.{Member, flagColumns, candidate, sameTypes, rowOf, markOf, tested, isRotation}
@@ -22,15 +22,13 @@ use Rattle.laws.proofs.Lists.{length-table}
 use Rattle.laws.proofs.Marked.{both}
 use Rattle.laws.proofs.FlagList.{every-first}
 use Rattle.ranked.specs.declared.Shape.{Shape}
-use Rattle.ranked.specs.Words.{sizeAt, subsIn, absIn}
-use Rattle.ranked.specs.Bench.{solidAt}
+use Rattle.ranked.specs.Words.{sizeAt, listsOf, subsIn, absIn}
 use Rattle.candidates.specs.Post.{typesAgree}
 use Rattle.symmetry.specs.declared.listing.Tried.{Tried}
 use Rattle.symmetry.specs.declared.listing.Tried.the-variants.{Skipped, Added, Short}
 use Rattle.symmetry.specs.Tails.{settingOf}
 use Rattle.symmetry.specs.Listing.{listedIf, gives, tried, fits, Came}
 use Rattle.symmetry.specs.Searching.{Searching, passing}
-use Rattle.symmetry.proofs.Bounds.{points-are}
 
 module _ (d v k : ℕ) (o : Option Member) (ms : List Float) (rs : List ℕ) where
   came-none : o ≡ none → Came d v k o Skipped ms ms rs rs
@@ -102,39 +100,34 @@ module _ (D : Concrete) (z : State) (m : Matrix) (rot : Bool) (d v k : ℕ) (ms 
 -- ---- a flag F, where G is the first
 
 -- The first flag is a flag.
-pub first-is : {sh : Shape} {low : ℕ} {ws : List ℕ} {fs : List Float} {at : ℕ} → Searching sh low ws fs at → {G : Flag} → G ≡ firstFlag (absIn sh (take low ws)) → IsFlag (absIn sh (take low ws)) G
-first-is {sh} {low} {ws} h e = subst (IsFlag (absIn sh (take low ws))) (sym e) (every-first (absIn sh (take low ws)) (h .bench .held .sound) (h .bench .held .filled) .0)
+pub first-is : {sh : Shape} {ws : List ℕ} {fs : List Float} → Searching sh ws fs → {G : Flag} → G ≡ firstFlag (absIn sh (listsOf sh ws)) → IsFlag (absIn sh (listsOf sh ws)) G
+first-is {sh} {ws} h e =
+    let s = absIn sh (listsOf sh ws) in
+    subst (IsFlag s) (sym e) (every-first s (h .bench .held .sound) (h .bench .held .filled) .0)
 
-module _ {sh : Shape} {low : ℕ} {ws : List ℕ} {fs : List Float} {at : ℕ} (h : Searching sh low ws fs at) (z : State) (F G : Flag) (first : G ≡ firstFlag (absIn sh (take low ws)))
-    (rot : Bool) (d v k : ℕ) (ms : List Float) (rs : List ℕ) (c : Concrete) (i : Matrix) where
-  -- This is the solid searched, whose points are read from all floats.
-  abbrev untaken : Concrete
-  untaken = record { dimension = sh .dimension; points = parts (size (absIn sh (take low ws)) 1) (sh .dimension) fs; abs = absIn sh (take low ws) }
+-- The solid has a list for each rank.
+pub ranks-are : (sh : Shape) (w : List ℕ) → length (absIn sh w) ≡ suc (sh .rank)
+unfolding absIn
+ranks-are sh w = length-table (λ r. map (subsIn sh w r) (range 0 (sizeAt sh r))) (suc (sh .rank))
 
-  ranks : length (absIn sh (take low ws)) ≡ suc (sh .rank)
-  unfolding absIn
-  ranks = length-table (λ r. map (subsIn sh (take low ws) r) (range 0 (sizeAt sh r))) (suc (sh .rank))
-
-  types-are : sameTypes (settingOf c (solidAt sh low ws fs) z i) F ≡ typesAgree z (sh .rank) F G
+module _ (D : Concrete) (R : ℕ) (ranks : length (D .abs) ≡ suc R) (z : State) (F G : Flag) (first : G ≡ firstFlag (D .abs)) (rot : Bool) (d v k : ℕ)
+    (ms : List Float) (rs : List ℕ) (c : Concrete) (i : Matrix) where
+  types-are : sameTypes (settingOf c D z i) F ≡ typesAgree z R F G
   unfolding sameTypes settingOf
   types-are = rw (ranks, first) refl
 
   abbrev by : Matrix → Bool → Option Member
-  by m b = elim b [ true ↦ listedIf rot (tested (settingOf c (solidAt sh low ws fs) z i) m) | false ↦ none ]
+  by m b = elim b [ true ↦ listedIf rot (tested (settingOf c D z i) m) | false ↦ none ]
 
-  pub flag-not : false ≡ typesAgree z (sh .rank) F G → Came d v k (gives (settingOf c (solidAt sh low ws fs) z i) rot F) Skipped ms ms rs rs
+  pub flag-not : false ≡ typesAgree z R F G → Came d v k (gives (settingOf c D z i) rot F) Skipped ms ms rs rs
   unfolding gives
-  flag-not e = came-none d v k _ ms rs (ap (by (candidate (settingOf c (solidAt sh low ws fs) z i) F)) (types-are ∙ sym e))
+  flag-not e = came-none d v k _ ms rs (ap (by (candidate (settingOf c D z i) F)) (types-are ∙ sym e))
 
   -- The flag goes as its candidate m does.
-  pub flag-is : true ≡ typesAgree z (sh .rank) F G → (m : Matrix) → m ≡ mulMat (flagColumns untaken F) i
-      → (t : Tried) (ms′ : List Float) (rs′ : List ℕ) → Came d v k (listedIf rot (tested (settingOf c (solidAt sh low ws fs) z i) m)) t ms ms′ rs rs′
-      → Came d v k (gives (settingOf c (solidAt sh low ws fs) z i) rot F) t ms ms′ rs rs′
+  pub flag-is : true ≡ typesAgree z R F G → (m : Matrix) → m ≡ mulMat (flagColumns D F) i → (t : Tried) (ms′ : List Float) (rs′ : List ℕ)
+      → Came d v k (listedIf rot (tested (settingOf c D z i) m)) t ms ms′ rs rs′ → Came d v k (gives (settingOf c D z i) rot F) t ms ms′ rs rs′
   unfolding gives candidate settingOf
-  flag-is e m q t ms′ rs′ g = subst (λ o. Came d v k o t ms ms′ rs rs′) (sym came) g
+  flag-is e m made t ms′ rs′ g = subst (λ o. Came d v k o t ms ms′ rs rs′) (sym came) g
     where
-      made : m ≡ candidate (settingOf c (solidAt sh low ws fs) z i) F
-      made = q ∙ ap (λ (ps : List Vector). mulMat (flagColumns (record { dimension = sh .dimension; points = ps; abs = absIn sh (take low ws) }) F) i) (sym (points-are h))
-
-      came : gives (settingOf c (solidAt sh low ws fs) z i) rot F ≡ listedIf rot (tested (settingOf c (solidAt sh low ws fs) z i) m)
-      came = ap (by (candidate (settingOf c (solidAt sh low ws fs) z i) F)) (types-are ∙ sym e) ∙ ap (λ y. listedIf rot (tested (settingOf c (solidAt sh low ws fs) z i) y)) (sym made)
+      came : gives (settingOf c D z i) rot F ≡ listedIf rot (tested (settingOf c D z i) m)
+      came = ap (by (candidate (settingOf c D z i) F)) (types-are ∙ sym e) ∙ ap (λ y. listedIf rot (tested (settingOf c D z i) y)) (sym made)

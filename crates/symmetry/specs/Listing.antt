@@ -18,7 +18,7 @@ use Rattle.spec.specs.Search.{Member, Setting, candidate, sameTypes, tested, me
 use Rattle.spec.specs.Calls.{Room, fitting, SearchOut}
 use Rattle.symmetry.specs.declared.listing.Tried.{Tried}
 use Rattle.symmetry.specs.declared.listing.Tried.the-variants.{Skipped, Added, Short}
-use Rattle.symmetry.specs.declared.listing.Listing.{Listing}
+use Rattle.symmetry.specs.declared.listing.Members.{Members}
 use Rattle.symmetry.specs.Tails.{wantedOf}
 
 -- Gives the member, if the call lists it: a search lists any member, and a rotations call only a rotation.
@@ -31,8 +31,8 @@ unfoldable pub gives : Setting → Bool → Flag → Option Member
 gives w rot F = elim (sameTypes w F) [ true ↦ listedIf rot (tested w (candidate w F)) | false ↦ none ]
 
 -- Lists the listed members that some flags give.
-unfoldable pub given : Setting → Bool → List Flag → List Member
-given w rot Fs = wantedOf rot (membersOf w Fs)
+unfoldable pub membersGiven : Setting → Bool → List Flag → List Member
+membersGiven w rot Fs = wantedOf rot (membersOf w Fs)
 
 -- These are the cells that some members take: those of their matrices, and then those of their rows.
 unfoldable pub matrixCells : List Member → List Float
@@ -43,8 +43,8 @@ rowCells ms = join (map (λ x. x .row) ms)
 
 -- Of the members of the flags Fs, those of `rest` are still to come, and `done` are listed. Each takes d * d floats and v cells of a row.
 pub record Running (w : Setting) (rot : Bool) (m : Room) (d v : ℕ) (Fs rest : List Flag) (done : List Member) : Type 0 where
-  pub kept : fitting m d v 0 (given w rot Fs) ≡ done ++ fitting m d v (length done) (given w rot rest)
-  pub all : length (given w rot Fs) ≡ length done + length (given w rot rest)
+  pub kept : fitting m d v 0 (membersGiven w rot Fs) ≡ done ++ fitting m d v (length done) (membersGiven w rot rest)
+  pub all : length (membersGiven w rot Fs) ≡ length done + length (membersGiven w rot rest)
   pub floats : length (matrixCells done) ≡ length done * (d * d)
   pub entries : length (rowCells done) ≡ length done * v
 
@@ -69,12 +69,12 @@ Came d v k o t ms ms′ rs rs′ = _≡_ {A = Tried × List Float × List ℕ} (
 
 -- Lists the members that fit, and so are written out.
 unfoldable pub keptIn : Setting → Bool → Room → List Flag → List Member
-keptIn w rot m Fs = fitting m (w .searched .dimension) (length (w .searched .points)) 0 (given w rot Fs)
+keptIn w rot m Fs = fitting m (w .searched .dimension) (length (w .searched .points)) 0 (membersGiven w rot Fs)
 
 -- The members of the flags Fs are listed. This says how many, whether one more had no room, and what the outputs are before and after.
-pub record Listed (w : Setting) (rot : Bool) (m : Room) (Fs : List Flag) (r : Listing) (ms ms′ : List Float) (rs rs′ : List ℕ) : Type 0 where
+pub record MembersListed (w : Setting) (rot : Bool) (m : Room) (Fs : List Flag) (r : Members) (ms ms′ : List Float) (rs rs′ : List ℕ) : Type 0 where
   pub count : r .count ≡ length (keptIn w rot m Fs)
-  pub short : r .short ≡ ltb (length (keptIn w rot m Fs)) (length (given w rot Fs))
+  pub short : r .short ≡ ltb (length (keptIn w rot m Fs)) (length (membersGiven w rot Fs))
   pub matrices : ms′ ≡ written (matrixCells (keptIn w rot m Fs)) ms
   pub rows : rs′ ≡ written (rowCells (keptIn w rot m Fs)) rs
 

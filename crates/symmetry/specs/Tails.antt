@@ -60,8 +60,8 @@ listed rot c j = do
   passed (c, wantedOf rot (membersOf w (flags (w .searched .abs))))
 
 -- Gives the answer and outputs of a call, from one of these tails of the judgements on.
-unfoldable pub ends : Bool → Concrete → Judged Setting → SearchOut → Answer × SearchOut
-ends rot c j old = searchWritten (outcome (listed rot c j) (roomOf old)) old
+unfoldable pub callFrom : Bool → Concrete → Judged Setting → SearchOut → Answer × SearchOut
+callFrom rot c j old = searchWritten (outcome (listed rot c j) (roomOf old)) old
 
 -- These are the outputs of a call, as they stand in the three lent buffers.
 abbrev pub outOf : List Float → List ℕ → List ℕ → SearchOut

@@ -4,20 +4,16 @@ ghost use mathlib.Core.Bool.{true};
 ghost use Prim.Native.Nat.{_≤_};
 ghost use lib.ListN.{length, take};
 ghost use Rattle.spec.specs.Limits.{maxDimension};
-ghost use Rattle.spec.specs.Types.{size};
-ghost use Rattle.spec.specs.Matrix.{Matrix};
-ghost use Rattle.spec.specs.Solid.{Concrete};
-ghost use Rattle.spec.specs.Flags.{IsFlag, firstFlag, flags};
-ghost use Rattle.spec.specs.Search.{rowOf, tested};
+ghost use Rattle.spec.specs.Flags.{IsFlag, firstFlag};
+ghost use Rattle.spec.specs.Search.{rowOf};
 ghost use Rattle.matrix.specs.Reading.{corner};
 ghost use Rattle.points.specs.Guesses.{Guesses};
-ghost use Rattle.ranked.specs.Words.{firstAt, sizeAt, absIn};
-ghost use Rattle.ranked.specs.Bench.{solidAt};
+ghost use Rattle.ranked.specs.Words.{sizeAt, listsOf, absIn};
+ghost use Rattle.ranked.specs.Bench.{solidIn};
 ghost use Rattle.element_types.specs.State.{stateIn};
 ghost use Rattle.flag.specs.Reading.{flagIn};
-ghost use Rattle.symmetry.specs.Tails.{settingOf};
-ghost use Rattle.symmetry.specs.Listing.{listedIf, gives, fits, Came, Listed};
-ghost use Rattle.symmetry.specs.Searching.{Searching, passing};
+ghost use Rattle.symmetry.specs.Listing.{fits};
+ghost use Rattle.symmetry.specs.Searching.{Searching, passing, CandidateTried, FlagTried, SolidListed};
 use crate::writing::put_entries;
 use crate::writing::put_matrix;
 use candidates::candidate;
@@ -40,27 +36,30 @@ pub enum Tried {
 }
 
 // This says how many members are listed, and whether one more had no room.
-pub struct Listing {
+pub struct Members {
     pub count: usize,
     pub short: bool,
 }
 
-impl Listing {
-    fn of(count: usize, short: bool) -> Listing
+impl Members {
+    fn of(count: usize, short: bool) -> Members
         ensures { λ r. ⌜ r ≡ record { count = count; short = short } ⌝ }
     {
-        Listing {
+        Members {
             count: count,
             short: short,
         }
     }
 }
 
-fn vertex_count(sh: Shape) -> usize
-    requires { ⌜ firstAt sh 1 ≤ firstAt sh 2 ⌝ }
-    ensures { λ r. ⌜ r ≡ sizeAt sh 1 ⌝ }
-{
-    sh.first[2] - sh.first[1]
+// This is one turn of the search: the flag that is tried, the first flag, which it is compared with, whether rotations alone are listed, and how many
+// marks are left for members. The inverse goes beside it, since a field that is an array of arrays would leave every function over it to a proof by hand.
+struct Trial {
+    shape: Shape,
+    first: Flag,
+    flag: Flag,
+    rotations: bool,
+    left: usize,
 }
 
 // Tells whether a member of d * d floats and v row entries fits, where `left` marks are left.
@@ -82,62 +81,56 @@ fn has_room(d: usize, v: usize, floats: usize, entries: usize, left: usize) -> b
 // columns and their product.
 fn passes(
     words: &[u32],
-    low: usize,
     sh: Shape,
-    at: usize,
     floats: &[f64],
     places: &[u16; PLACES],
     m: [[f64; DIMENSION]; DIMENSION],
     row: &mut [u16],
 ) -> bool
-    requires { ⌜ Searching sh low (now words) (now floats) at ⌝ }
-    requires { ⌜ size (absIn sh (take low (now words))) 1 ≤ length (now row) ⌝ }
-    requires { ⌜ Guesses (solidAt sh low (now words) (now floats) .points) (now places) ⌝ }
-    ensures { λ r. ⌜ r ≡ passing (solidAt sh low (now (words .entry)) (now (floats .entry))) (stateIn sh low (now (words .entry)))
-        (corner (sh .dimension) m) ⌝ }
-    ensures { λ r. ⌜ (r ≡ true → take (size (absIn sh (take low (now (words .entry)))) 1) (now (row .exit))
-        ≡ rowOf (solidAt sh low (now (words .entry)) (now (floats .entry)) .points) (corner (sh .dimension) m)) ⌝ }
+    requires { ⌜ Searching sh (now words) (now floats) ⌝ }
+    requires { ⌜ sizeAt sh 1 ≤ length (now row) ⌝ }
+    requires { ⌜ Guesses (solidIn sh (now words) (now floats) .points) (now places) ⌝ }
+    ensures { λ r. ⌜ r ≡ passing (solidIn sh (now (words .entry)) (now (floats .entry))) (stateIn sh (now (words .entry))) (corner (sh .dimension) m) ⌝ }
+    ensures { λ r. ⌜ (r ≡ true → take (sizeAt sh 1) (now (row .exit))
+        ≡ rowOf (solidIn sh (now (words .entry)) (now (floats .entry)) .points) (corner (sh .dimension) m)) ⌝ }
 {
-    let v = vertex_count(sh);
-    if !row_of(floats, sh.dimension, v, places, m, row) {
+    let d = sh.dimension;
+    let v = sh.vertices();
+    if !row_of(floats, d, v, places, m, row) {
         return false;
     }
-    examples_go(words, low, sh, at, row)
+    examples_go(words, sh, row)
 }
 
-// Tries a candidate. It is skipped, or written to the front of the given parts of the outputs, or there is no room for it. `left` marks are left.
-// Whether it is a rotation is tested first, since that is told sooner than whether it passes.
+// Tries a candidate. It is skipped, or written to the front of the given parts of the outputs, or there is no room for it. Whether it is a rotation is
+// tested first, since that is told sooner than whether it passes.
 fn try_candidate(
     words: &[u32],
-    low: usize,
-    sh: Shape,
-    at: usize,
     floats: &[f64],
     places: &[u16; PLACES],
+    trial: Trial,
     m: [[f64; DIMENSION]; DIMENSION],
-    rotations: bool,
-    left: usize,
     matrices: &mut [f64],
     rows: &mut [u16],
 ) -> Tried
-    requires { ⌜ Searching sh low (now words) (now floats) at ⌝ }
-    requires { ⌜ Guesses (solidAt sh low (now words) (now floats) .points) (now places) ⌝ }
-    ensures { λ t. ⌜ ((c : Concrete) (i : Matrix) → Came (sh .dimension) (length (solidAt sh low (now (words .entry)) (now (floats .entry)) .points)) left
-        (listedIf rotations (tested (settingOf c (solidAt sh low (now (words .entry)) (now (floats .entry))) (stateIn sh low (now (words .entry))) i)
-        (corner (sh .dimension) m))) t (now (matrices .entry)) (now (matrices .exit)) (now (rows .entry)) (now (rows .exit))) ⌝ }
+    requires { ⌜ Searching (trial .shape) (now words) (now floats) ⌝ }
+    requires { ⌜ Guesses (solidIn (trial .shape) (now words) (now floats) .points) (now places) ⌝ }
+    ensures { λ t. ⌜ CandidateTried trial (now (words .entry)) (now (floats .entry)) m t
+        (now (matrices .entry)) (now (matrices .exit)) (now (rows .entry)) (now (rows .exit)) ⌝ }
 {
+    let sh = trial.shape;
     let d = sh.dimension;
-    if rotations {
+    if trial.rotations {
         if !(0.0 < matrix::determinant(m, d)) {
             return Tried::Skipped;
         }
     }
     let mut row = [0u16; MAX_COUNT];
-    if !passes(words, low, sh, at, floats, places, m, &mut row) {
+    if !passes(words, sh, floats, places, m, &mut row) {
         return Tried::Skipped;
     }
-    let v = vertex_count(sh);
-    if !has_room(d, v, matrices.len(), rows.len(), left) {
+    let v = sh.vertices();
+    if !has_room(d, v, matrices.len(), rows.len(), trial.left) {
         return Tried::Short;
     }
     put_matrix(m, d, matrices);
@@ -148,85 +141,65 @@ fn try_candidate(
 // Tries a flag. Its candidate is made and tried only where its elements have the first flag's types.
 fn try_flag(
     words: &[u32],
-    low: usize,
-    sh: Shape,
-    at: usize,
     floats: &[f64],
     places: &[u16; PLACES],
-    flag: Flag,
-    first: Flag,
-    inv: [[f64; DIMENSION]; DIMENSION],
-    rotations: bool,
-    left: usize,
+    trial: Trial,
+    inverse: [[f64; DIMENSION]; DIMENSION],
     matrices: &mut [f64],
     rows: &mut [u16],
 ) -> Tried
-    requires { ⌜ Searching sh low (now words) (now floats) at ⌝ }
-    requires { ⌜ IsFlag (absIn sh (take low (now words))) (flagIn (sh .rank) flag) ⌝ }
-    requires { ⌜ flagIn (sh .rank) first ≡ firstFlag (absIn sh (take low (now words))) ⌝ }
-    requires { ⌜ Guesses (solidAt sh low (now words) (now floats) .points) (now places) ⌝ }
-    ensures { λ t. ⌜ ((c : Concrete) → Came (sh .dimension) (length (solidAt sh low (now (words .entry)) (now (floats .entry)) .points)) left
-        (gives (settingOf c (solidAt sh low (now (words .entry)) (now (floats .entry))) (stateIn sh low (now (words .entry)))
-        (corner (sh .dimension) inv)) rotations (flagIn (sh .rank) flag)) t (now (matrices .entry)) (now (matrices .exit)) (now (rows .entry))
-        (now (rows .exit))) ⌝ }
+    requires { ⌜ Searching (trial .shape) (now words) (now floats) ⌝ }
+    requires { ⌜ IsFlag (absIn (trial .shape) (listsOf (trial .shape) (now words))) (flagIn (trial .shape .rank) (trial .flag)) ⌝ }
+    requires { ⌜ flagIn (trial .shape .rank) (trial .first) ≡ firstFlag (absIn (trial .shape) (listsOf (trial .shape) (now words))) ⌝ }
+    requires { ⌜ Guesses (solidIn (trial .shape) (now words) (now floats) .points) (now places) ⌝ }
+    ensures { λ t. ⌜ FlagTried trial (now (words .entry)) (now (floats .entry)) inverse t
+        (now (matrices .entry)) (now (matrices .exit)) (now (rows .entry)) (now (rows .exit)) ⌝ }
 {
-    if !same_types(words, low, sh, flag, first) {
+    let sh = trial.shape;
+    let flag = trial.flag;
+    let first = trial.first;
+    if !same_types(words, sh, flag, first) {
         return Tried::Skipped;
     }
-    let m = candidate(&words[..low], sh, floats, flag, inv);
-    try_candidate(
-        words,
-        low,
-        sh,
-        at,
-        floats,
-        places,
-        m,
-        rotations,
-        left,
-        matrices,
-        rows,
-    )
+    let m = candidate(&words[..sh.low], sh, floats, flag, inverse);
+    try_candidate(words, floats, places, trial, m, matrices, rows)
 }
 
 // Tries every flag in order, until there is no room. `room` is how many marks there are.
 pub fn list_members(
     words: &[u32],
-    low: usize,
     sh: Shape,
-    at: usize,
     floats: &[f64],
-    inv: [[f64; DIMENSION]; DIMENSION],
+    inverse: [[f64; DIMENSION]; DIMENSION],
     rotations: bool,
     room: usize,
     matrices: &mut [f64],
     rows: &mut [u16],
-) -> Listing
-    requires { ⌜ Searching sh low (now words) (now floats) at ⌝ }
-    ensures { λ r. ⌜ ((c : Concrete) → Listed (settingOf c (solidAt sh low (now (words .entry)) (now (floats .entry)))
-        (stateIn sh low (now (words .entry))) (corner (sh .dimension) inv)) rotations
-        (record { floats = length (now (matrices .entry)); entries = length (now (rows .entry)); marks = room })
-        (flags (absIn sh (take low (now (words .entry))))) r (now (matrices .entry)) (now (matrices .exit)) (now (rows .entry)) (now (rows .exit))) ⌝ }
+) -> Members
+    requires { ⌜ Searching sh (now words) (now floats) ⌝ }
+    ensures { λ r. ⌜ SolidListed sh (now (words .entry)) (now (floats .entry)) inverse rotations room r
+        (now (matrices .entry)) (now (matrices .exit)) (now (rows .entry)) (now (rows .exit)) ⌝ }
 {
-    let first = Flag::first(&words[..low], sh);
+    let first = Flag::first(&words[..sh.low], sh);
     let d = sh.dimension;
-    let v = vertex_count(sh);
+    let v = sh.vertices();
     let places = places(floats, d, v);
     let mut flag = first;
     let mut n: usize = 0;
     loop {
+        let trial = Trial {
+            shape: sh,
+            first: first,
+            flag: flag,
+            rotations: rotations,
+            left: room - n,
+        };
         let tried = try_flag(
             words,
-            low,
-            sh,
-            at,
             floats,
             &places,
-            flag,
-            first,
-            inv,
-            rotations,
-            room - n,
+            trial,
+            inverse,
             &mut matrices[n * (d * d)..],
             &mut rows[n * v..],
         );
@@ -235,14 +208,14 @@ pub fn list_members(
             Tried::Added => {
                 n += 1;
             }
-            Tried::Short => return Listing::of(n, true),
+            Tried::Short => return Members::of(n, true),
         }
-        let next = flag.next(&words[..low], sh);
+        let next = flag.next(&words[..sh.low], sh);
         flag = next.flag;
         let advance = next.advance;
         match advance {
             Advance::More => {}
-            Advance::Ended => return Listing::of(n, false),
+            Advance::Ended => return Members::of(n, false),
         }
     }
 }

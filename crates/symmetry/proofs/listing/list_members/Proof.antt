@@ -6,7 +6,7 @@ use mathlib.Core.List.{List, _∷_}
 use Prim.Native.Nat.{ℕ, _+_, _-_, _*_, _≤_, _<_}
 use native.Mathlib.Nat.{mul-le-mul-left}
 use native.Mathlib.Omega.{arith}
-use lib.ListN.{length, take}
+use lib.ListN.{length}
 use lib.Seq.{length-take-le}
 use lib.Ieee.{Float}
 use borrow.Author.Needs.{needs}
@@ -14,53 +14,49 @@ use borrow.Rule.Slice.PartMut.{putMid, same-len-mid}
 use Rattle.spec.specs.Limits.{maxDimension, maxCount}
 use Rattle.spec.specs.Flags.{Flag, IsFlag}
 use Rattle.points.specs.Guesses.{Guesses}
-use Rattle.ranked.specs.Words.{absIn}
-use Rattle.ranked.specs.Bench.{solidAt}
+use Rattle.ranked.specs.Words.{listsOf, absIn}
+use Rattle.ranked.specs.Bench.{solidIn}
 use Rattle.flag.specs.Reading.{flagIn, moreOf}
 use Rattle.flag.proofs.Numbered.{nth-first, nth-flag}
 use Rattle.symmetry.specs.declared.listing.Tried.the-variants.{Skipped, Added}
-use Rattle.symmetry.proofs.Bounds.{rising, vertices-are, vertices-few, coordinates-in, points-read}
+use Rattle.symmetry.proofs.Bounds.{vertices-few, coordinates-in, points-read}
 use Rattle.symmetry.proofs.Members.{Tally, tally-first, tally-end, inside, tally-skipped, tally-added, tally-short}
 use Rattle.symmetry.proofs.Turning.{Turn, toCome, turn-first, turn-end, later, turn-at, turn-next, fewer}
 use Rattle.symmetry.proofs.listing.list_members.Statement.{statement}
 use Rattle.symmetry.proofs.listing.list_members.Tie as tie
 
 abbrev Inv : tie.InvT-loop
-Inv words low sh at floats inv rotations room matrices₀ rows₀ first d v places flag₀ n₀ matrices rows flag n =
+Inv words sh floats inverse rotations room matrices₀ rows₀ first d v places flag₀ n₀ matrices rows flag n =
     (length matrices ≡ length matrices₀) × (length rows ≡ length rows₀)
-    × Turn (absIn sh (take low words)) (flagIn (sh .rank) flag) (Tally sh low words floats inv rotations room (sh .dimension) v matrices₀ matrices rows₀ rows n)
+    × Turn (absIn sh (listsOf sh words)) (flagIn (sh .rank) flag) (Tally sh words floats inverse rotations room v matrices₀ matrices rows₀ rows n)
 
 abbrev μ : tie.MeasureT-loop
-μ words low sh at floats inv rotations room matrices₀ rows₀ first d v places flag₀ n₀ matrices rows flag n =
-    toCome (absIn sh (take low words)) (flagIn (sh .rank) flag)
+μ words sh floats inverse rotations room matrices₀ rows₀ first d v places flag₀ n₀ matrices rows flag n =
+    toCome (absIn sh (listsOf sh words)) (flagIn (sh .rank) flag)
 
 abbrev start : tie.At-loop Inv μ → tie.Start Inv μ
 start c = c .before .before .before .before .before .before .before .before .before
 
 -- This is the point where the vertices are counted.
-abbrev counted : tie.At-loop Inv μ → tie.After-vertex-count Inv μ
+abbrev counted : tie.At-loop Inv μ → tie.After-vertices Inv μ
 counted l = l .before .before
 
 slice-aggregate-first : tie.Need-slice-aggregate-first Inv μ
-slice-aggregate-first c = let s = c .before .before .before .before .before in sym (length-take-le (s .args .low) (s .args .words .now) (s .pre .bench .words-in))
+slice-aggregate-first c = let s = c .before .before .before .before .before in sym (length-take-le (s .args .sh .low) (s .args .words .now) (s .pre .bench .words-in))
 
 first-requires : tie.Need-first-requires Inv μ
 first-requires c κs = c .before .before .before .before .before .pre .bench .held
 
-vertex-count-requires : tie.Need-vertex-count-requires Inv μ
-vertex-count-requires c κs = rising (c .before .before .before .before .before .before .pre)
-
-tall : (s : tie.Start Inv μ) → s .args .sh .dimension ≤ length (s .args .inv)
-tall s = let k : length (s .args .inv) ≡ maxDimension = search needs in omega (arith, k, s .pre .bench .held .wide)
+tall : (s : tie.Start Inv μ) → s .args .sh .dimension ≤ length (s .args .inverse)
+tall s = let k : length (s .args .inverse) ≡ maxDimension = search needs in omega (arith, k, s .pre .bench .held .wide)
 
 -- The points lie in the floats.
-points-requires : (v : tie.After-vertex-count Inv μ) → let s = v .before .before .before .before .before .before .before in
-    (s .args .sh .dimension ≤ maxDimension) × (v .vertex-count .result ≤ maxCount) × (v .vertex-count .result * s .args .sh .dimension ≤ length (s .args .floats .now))
+points-requires : (v : tie.After-vertices Inv μ) → let s = v .before .before .before .before .before .before .before in
+    (s .args .sh .dimension ≤ maxDimension) × (v .vertices .result ≤ maxCount) × (v .vertices .result * s .args .sh .dimension ≤ length (s .args .floats .now))
 points-requires v =
     let h = v .before .before .before .before .before .before .before .pre in
-    let m = v .vertex-count .ensures in
-    let e = vertices-are h in
-    (h .bench .held .wide, rw (m, ← e) (vertices-few h), rw (m, ← e) (coordinates-in h))
+    let m = v .vertices .ensures in
+    (h .bench .held .wide, rw m (vertices-few h), rw m (coordinates-in h))
 
 loop-holds : tie.Need-loop-holds Inv μ
 loop-holds c =
@@ -69,16 +65,16 @@ loop-holds c =
     let a = s .args in (
       refl,
       refl,
-      turn-first (absIn (a .sh) (take (a .low) (a .words .now))) _ (flagIn (a .sh .rank) (v .before .first .result))
-          (nth-first (a .sh) (take (a .low) (a .words .now)) (s .pre .bench .held) _ (v .before .first .ensures))
-          (tally-first (s .pre) (a .inv) (tall s) (a .rotations) (a .room) (v .vertex-count .result) (v .vertex-count .ensures) (a .matrices .now) (a .rows .now)),
+      turn-first (absIn (a .sh) (listsOf (a .sh) (a .words .now))) _ (flagIn (a .sh .rank) (v .before .first .result))
+          (nth-first (a .sh) (listsOf (a .sh) (a .words .now)) (s .pre .bench .held) _ (v .before .first .ensures))
+          (tally-first (a .sh) (a .words .now) (a .floats .now) (a .inverse) (tall s) (a .rotations) (a .room) (v .vertices .result) (v .vertices .ensures) (a .matrices .now) (a .rows .now)),
     )
 
 -- This is what stands of the flags that are to come, the flag and those after it.
 abbrev Stands : tie.At-loop Inv μ → List Flag → Type 0
 Stands l =
     let a = start l .args in
-    Tally (a .sh) (a .low) (a .words .now) (a .floats .now) (a .inv) (a .rotations) (a .room) (a .sh .dimension) (counted l .vertex-count .result) (a .matrices .now) (l .loop .matrices) (a .rows .now) (l .loop .rows) (l .loop .n)
+    Tally (a .sh) (a .words .now) (a .floats .now) (a .inverse) (a .rotations) (a .room) (counted l .vertices .result) (a .matrices .now) (l .loop .matrices) (a .rows .now) (l .loop .rows) (l .loop .n)
 
 abbrev flag : tie.At-loop Inv μ → Flag
 flag l = flagIn (start l .args .sh .rank) (l .loop .flag)
@@ -86,20 +82,20 @@ flag l = flagIn (start l .args .sh .rank) (l .loop .flag)
 abbrev rest : tie.At-loop Inv μ → List Flag
 rest l =
     let s = start l in
-    later (s .args .sh) (take (s .args .low) (s .args .words .now)) (s .pre .bench .held) (Stands l) (flag l) (l .loop .inv .2)
+    later (s .args .sh) (listsOf (s .args .sh) (s .args .words .now)) (s .pre .bench .held) (Stands l) (flag l) (l .loop .inv .2)
 
 stands : (l : tie.At-loop Inv μ) → Stands l (flag l ∷ rest l)
 stands l =
     let s = start l in
-    turn-at (s .args .sh) (take (s .args .low) (s .args .words .now)) (s .pre .bench .held) (Stands l) (flag l) (l .loop .inv .2)
+    turn-at (s .args .sh) (listsOf (s .args .sh) (s .args .words .now)) (s .pre .bench .held) (Stands l) (flag l) (l .loop .inv .2)
 
 -- The parts after the members start within the outputs, whose lengths fit a word.
 within : (l : tie.At-loop Inv μ) → let a = start l .args in
-    (l .loop .n * (a .sh .dimension * a .sh .dimension) ≤ length (l .loop .matrices)) × (l .loop .n * counted l .vertex-count .result ≤ length (l .loop .rows)) × (l .loop .n ≤ a .room)
+    (l .loop .n * (a .sh .dimension * a .sh .dimension) ≤ length (l .loop .matrices)) × (l .loop .n * counted l .vertices .result ≤ length (l .loop .rows)) × (l .loop .n ≤ a .room)
 within l =
     let s = start l in
     let a = s .args in
-    inside (s .pre) (a .inv) (tall s) (a .rotations) (a .room) (counted l .vertex-count .result) (counted l .vertex-count .ensures) (a .matrices .now) (a .rows .now) (l .loop .matrices) (l .loop .rows) (l .loop .n) (flag l) (rest l) (stands l)
+    inside (a .sh) (a .words .now) (a .floats .now) (a .inverse) (tall s) (a .rotations) (a .room) (counted l .vertices .result) (counted l .vertices .ensures) (a .matrices .now) (a .rows .now) (l .loop .matrices) (l .loop .rows) (l .loop .n) (flag l) (rest l) (stands l)
 
 short : (s : tie.Start Inv μ) → (length (s .args .matrices .now) < 0x1000_0000_0000_0000) × (length (s .args .rows .now) < 0x4000_0000_0000_0000)
 short s = (omega arith, omega arith)
@@ -126,70 +122,70 @@ part-try-flag-start-2 : tie.Need-part-try-flag-start-2 Inv μ
 part-try-flag-start-2 c = omega (arith, within (c .before .before) .1)
 
 -- The flag is a flag of the solid.
-is-flag : (l : tie.At-loop Inv μ) → let a = start l .args in IsFlag (absIn (a .sh) (take (a .low) (a .words .now))) (flag l)
+is-flag : (l : tie.At-loop Inv μ) → let a = start l .args in IsFlag (absIn (a .sh) (listsOf (a .sh) (a .words .now))) (flag l)
 is-flag l =
     let s = start l in
-    nth-flag (s .args .sh) (take (s .args .low) (s .args .words .now)) (s .pre .bench .held) (flag l) (l .loop .inv .2 .from) (l .loop .inv .2 .flag)
+    nth-flag (s .args .sh) (listsOf (s .args .sh) (s .args .words .now)) (s .pre .bench .held) (flag l) (l .loop .inv .2 .from) (l .loop .inv .2 .flag)
 
 try-flag-requires : tie.Need-try-flag-requires Inv μ
 try-flag-requires c κs =
     let l = c .before .before .before in
     let s = start l in
-    (s .pre, (is-flag l, (counted l .before .first .ensures, subst (λ ps. Guesses ps (l .before .places .result)) (sym (points-read (s .pre) (counted l .vertex-count .result) (counted l .vertex-count .ensures))) (l .before .places .ensures))))
+    (s .pre, (is-flag l, (counted l .before .first .ensures, subst (λ ps. Guesses ps (l .before .places .result)) (sym (points-read (s .args .sh) (s .args .words .now) (s .args .floats .now) (counted l .vertices .result) (counted l .vertices .ensures))) (l .before .places .ensures))))
 
 -- These are the outputs after the flag is tried.
 abbrev matrices : tie.After-try-flag Inv μ → List Float
 matrices t =
     let l = t .before .before .before .before in
     let k = l .loop .n * (start l .args .sh .dimension * start l .args .sh .dimension) in
-    putMid k (length (l .loop .matrices) - k) (l .loop .matrices) (t .try-flag .last .1 .1 .1 .1 .1 .1 .1 .1 .1 .1 .1 .0)
+    putMid k (length (l .loop .matrices) - k) (l .loop .matrices) (t .try-flag .last .1 .1 .1 .1 .1 .0)
 
 abbrev rows : tie.After-try-flag Inv μ → List ℕ
 rows t =
     let l = t .before .before .before .before in
-    let k = l .loop .n * counted l .vertex-count .result in
-    putMid k (length (l .loop .rows) - k) (l .loop .rows) (t .try-flag .last .1 .1 .1 .1 .1 .1 .1 .1 .1 .1 .1 .1 .0)
+    let k = l .loop .n * counted l .vertices .result in
+    putMid k (length (l .loop .rows) - k) (l .loop .rows) (t .try-flag .last .1 .1 .1 .1 .1 .1 .0)
 
 many : (t : tie.After-try-flag Inv μ) → length (matrices t) ≡ length (start (t .before .before .before .before) .args .matrices .now)
 many t =
     let l = t .before .before .before .before in
     let k = l .loop .n * (start l .args .sh .dimension * start l .args .sh .dimension) in
-    same-len-mid k (length (l .loop .matrices) - k) (l .loop .matrices) (t .try-flag .last .1 .1 .1 .1 .1 .1 .1 .1 .1 .1 .1 .0) (t .try-flag .kept .1 .1 .1 .1 .1 .1 .1 .1 .1 .1 .1 .0) ∙ l .loop .inv .0
+    same-len-mid k (length (l .loop .matrices) - k) (l .loop .matrices) (t .try-flag .last .1 .1 .1 .1 .1 .0) (t .try-flag .kept .1 .1 .1 .1 .1 .0) ∙ l .loop .inv .0
 
 long : (t : tie.After-try-flag Inv μ) → length (rows t) ≡ length (start (t .before .before .before .before) .args .rows .now)
 long t =
     let l = t .before .before .before .before in
-    let k = l .loop .n * counted l .vertex-count .result in
-    same-len-mid k (length (l .loop .rows) - k) (l .loop .rows) (t .try-flag .last .1 .1 .1 .1 .1 .1 .1 .1 .1 .1 .1 .1 .0) (t .try-flag .kept .1 .1 .1 .1 .1 .1 .1 .1 .1 .1 .1 .1 .0) ∙ l .loop .inv .1
+    let k = l .loop .n * counted l .vertices .result in
+    same-len-mid k (length (l .loop .rows) - k) (l .loop .rows) (t .try-flag .last .1 .1 .1 .1 .1 .1 .0) (t .try-flag .kept .1 .1 .1 .1 .1 .1 .0) ∙ l .loop .inv .1
 
 -- This is what stands then.
 abbrev Stood : tie.After-try-flag Inv μ → ℕ → List Flag → Type 0
 Stood t n =
     let l = t .before .before .before .before in
     let a = start l .args in
-    Tally (a .sh) (a .low) (a .words .now) (a .floats .now) (a .inv) (a .rotations) (a .room) (a .sh .dimension) (counted l .vertex-count .result) (a .matrices .now) (matrices t) (a .rows .now) (rows t) n
+    Tally (a .sh) (a .words .now) (a .floats .now) (a .inverse) (a .rotations) (a .room) (counted l .vertices .result) (a .matrices .now) (matrices t) (a .rows .now) (rows t) n
 
 skipped : (t : tie.After-try-flag Inv μ) → t .try-flag .result ≡ Skipped → Stood t (t .before .before .before .before .loop .n) (rest (t .before .before .before .before))
 skipped t r =
     let l = t .before .before .before .before in
     let s = start l in
     let a = s .args in
-    tally-skipped (s .pre) (a .inv) (tall s) (a .rotations) (a .room) (counted l .vertex-count .result) (counted l .vertex-count .ensures) (a .matrices .now) (a .rows .now) (l .loop .matrices) (l .loop .rows) (l .loop .n) (flag l) (rest l) (stands l)
-    (t .try-flag .result) (t .try-flag .last .1 .1 .1 .1 .1 .1 .1 .1 .1 .1 .1 .0) (t .try-flag .last .1 .1 .1 .1 .1 .1 .1 .1 .1 .1 .1 .1 .0) (t .try-flag .ensures) r
+    tally-skipped (a .sh) (a .words .now) (a .floats .now) (a .inverse) (tall s) (a .rotations) (a .room) (counted l .vertices .result) (counted l .vertices .ensures) (a .matrices .now) (a .rows .now) (l .loop .matrices) (l .loop .rows) (l .loop .n) (flag l) (rest l) (stands l)
+    (t .try-flag .result) (t .try-flag .last .1 .1 .1 .1 .1 .0) (t .try-flag .last .1 .1 .1 .1 .1 .1 .0) (t .try-flag .ensures) r
 
 added : (t : tie.After-try-flag Inv μ) → t .try-flag .result ≡ Added → Stood t (t .before .before .before .before .loop .n + 1) (rest (t .before .before .before .before))
 added t r =
     let l = t .before .before .before .before in
     let s = start l in
     let a = s .args in
-    tally-added (s .pre) (a .inv) (tall s) (a .rotations) (a .room) (counted l .vertex-count .result) (counted l .vertex-count .ensures) (a .matrices .now) (a .rows .now) (l .loop .matrices) (l .loop .rows) (l .loop .n) (flag l) (rest l) (stands l)
-    (t .try-flag .result) (t .try-flag .last .1 .1 .1 .1 .1 .1 .1 .1 .1 .1 .1 .0) (t .try-flag .last .1 .1 .1 .1 .1 .1 .1 .1 .1 .1 .1 .1 .0) (t .try-flag .ensures) r
+    tally-added (a .sh) (a .words .now) (a .floats .now) (a .inverse) (tall s) (a .rotations) (a .room) (counted l .vertices .result) (counted l .vertices .ensures) (a .matrices .now) (a .rows .now) (l .loop .matrices) (l .loop .rows) (l .loop .n) (flag l) (rest l) (stands l)
+    (t .try-flag .result) (t .try-flag .last .1 .1 .1 .1 .1 .0) (t .try-flag .last .1 .1 .1 .1 .1 .1 .0) (t .try-flag .ensures) r
 
 add-n : tie.Need-add-n Inv μ
 add-n c =
     let t = c .before .before .before .before .before .before in
     let s = start (t .before .before .before .before) in
-    let g = added t (c .enum-told2 .given .1) (solidAt (s .args .sh) (s .args .low) (s .args .words .now) (s .args .floats .now)) in
+    let g = added t (c .enum-told2 .given .1) (solidIn (s .args .sh) (s .args .words .now) (s .args .floats .now)) in
     omega (arith, g .room .marks)
 
 same-length : tie.Need-same-length Inv μ
@@ -206,13 +202,13 @@ returns r x =
     let s = start l in
     let a = s .args in
     rw (r .of .ensures)
-    (tally-short (s .pre) (a .inv) (tall s) (a .rotations) (a .room) (counted l .vertex-count .result) (counted l .vertex-count .ensures) (a .matrices .now) (a .rows .now) (l .loop .matrices) (l .loop .rows) (l .loop .n) (flag l) (rest l) (stands l)
-    (t .try-flag .result) (t .try-flag .last .1 .1 .1 .1 .1 .1 .1 .1 .1 .1 .1 .0) (t .try-flag .last .1 .1 .1 .1 .1 .1 .1 .1 .1 .1 .1 .1 .0) (t .try-flag .ensures) (e .enum-told3 .given .1) x)
+    (tally-short (a .sh) (a .words .now) (a .floats .now) (a .inverse) (tall s) (a .rotations) (a .room) (counted l .vertices .result) (counted l .vertices .ensures) (a .matrices .now) (a .rows .now) (l .loop .matrices) (l .loop .rows) (l .loop .n) (flag l) (rest l) (stands l)
+    (t .try-flag .result) (t .try-flag .last .1 .1 .1 .1 .1 .0) (t .try-flag .last .1 .1 .1 .1 .1 .1 .0) (t .try-flag .ensures) (e .enum-told3 .given .1) x)
 
 slice-aggregate-next : tie.Need-slice-aggregate-next Inv μ
 slice-aggregate-next c =
     let s = start (c .before .before .before .before .before .before .before .before .before .before) in
-    sym (length-take-le (s .args .low) (s .args .words .now) (s .pre .bench .words-in))
+    sym (length-take-le (s .args .sh .low) (s .args .words .now) (s .pre .bench .words-in))
 
 next-requires : tie.Need-next-requires Inv μ
 next-requires c κs =
@@ -233,7 +229,7 @@ loop-less c =
     let x = c .before .before .before in
     let l = x .before .before .before .before .before .before .before .before .before .before .before in
     let s = start l in
-    fewer (s .args .sh) (take (s .args .low) (s .args .words .now)) (s .pre .bench .held) (Stands l) (flag l) (l .loop .inv .2)
+    fewer (s .args .sh) (listsOf (s .args .sh) (s .args .words .now)) (s .pre .bench .held) (Stands l) (flag l) (l .loop .inv .2)
     (moreOf (x .next .result .advance)) (flagIn (s .args .sh .rank) (x .next .result .flag)) (x .next .ensures) (ap moreOf (c .enum-told4 .given .1))
 
 loop-again : tie.Need-loop-again Inv μ
@@ -246,7 +242,7 @@ loop-again c =
     let s = start l in (
       many t,
       long t,
-      turn-next (s .args .sh) (take (s .args .low) (s .args .words .now)) (s .pre .bench .held) (Stands l) (flag l) (l .loop .inv .2)
+      turn-next (s .args .sh) (listsOf (s .args .sh) (s .args .words .now)) (s .pre .bench .held) (Stands l) (flag l) (l .loop .inv .2)
           (moreOf (x .next .result .advance)) (flagIn (s .args .sh .rank) (x .next .result .flag)) (x .next .ensures) (ap moreOf (c .enum-told4 .given .1)) (Stood t (m .match .n)) (follows x),
     )
 
@@ -267,8 +263,8 @@ returns-2 r y =
     let s = start l in
     let a = s .args in
     rw (r .of2 .ensures)
-    (tally-end (s .pre) (a .inv) (tall s) (a .rotations) (a .room) (counted l .vertex-count .result) (counted l .vertex-count .ensures) (a .matrices .now) (a .rows .now) (matrices t) (rows t) (m .match .n)
-    (turn-end (a .sh) (take (a .low) (a .words .now)) (s .pre .bench .held) (Stands l) (flag l) (l .loop .inv .2)
+    (tally-end (a .sh) (a .words .now) (a .floats .now) (a .inverse) (tall s) (a .rotations) (a .room) (counted l .vertices .result) (counted l .vertices .ensures) (a .matrices .now) (a .rows .now) (matrices t) (rows t) (m .match .n)
+    (turn-end (a .sh) (listsOf (a .sh) (a .words .now)) (s .pre .bench .held) (Stands l) (flag l) (l .loop .inv .2)
     (moreOf (x .next .result .advance)) (flagIn (a .sh .rank) (x .next .result .flag)) (x .next .ensures) (ap moreOf (c .enum-told5 .given .1)) (Stood t (m .match .n)) (follows x)) y)
 
 pub list-members-spec : {M : Type 1} → statement M
@@ -279,10 +275,10 @@ list-members-spec =
     μ
     slice-aggregate-first
     first-requires
-    vertex-count-requires
+    (λ c κs. search needs)
     (λ c κs. points-requires c)
     loop-holds
-    (λ c. within (c .before) .2)
+    (λ c. within c .2)
     mul-try-flag
     mul-try-flag-2
     mul-try-flag-3
