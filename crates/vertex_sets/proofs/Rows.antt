@@ -11,8 +11,8 @@ use Rattle.spec.specs.Mark.{vertices}
 use Rattle.ranked.specs.declared.Shape.{Shape}
 use Rattle.ranked.specs.Words.{firstAt, sizeAt, listsOf, absIn, Held}
 use Rattle.ranked.specs.Layout.{scratchAt, fingerprintsAt}
+use Rattle.ranked.proofs.Solids.{in-order}
 use Rattle.element_types.proofs.Parts.{getD-kept, take-kept}
-use Rattle.element_types.proofs.Room.{rising}
 use Rattle.vertex_sets.specs.Fingerprints.{fingerprintOf, ProperElement, Stands, Fingerprinted}
 use Rattle.vertex_sets.proofs.Looks.{front-is, fingerprint-in}
 
@@ -95,8 +95,7 @@ module _ {sh : Shape} {old new : List ℕ} {r : ℕ} (t : Round sh old new r) (h
     where
       before : (q : ℕ) → q < r → (e : ℕ) → e < sizeAt sh q → fingerprintsAt sh q + e < fingerprintsAt sh r
       before q b e i =
-          let z : suc q + (r - suc q) ≡ r = omega arith in
-          let y : firstAt sh (suc q) ≤ firstAt sh r = rw z at (rising sh (listsOf sh old) h (r - suc q) (suc q) (omega arith)) in
+          let y : firstAt sh (suc q) ≤ firstAt sh r = in-order sh (listsOf sh old) h (suc q) r (omega arith) (omega arith) in
           omega arith
 
   pub round-end : sh .rank ≤ r → fingerprintsAt sh (suc (sh .rank)) ≤ length old → Fingerprinted sh new
