@@ -2,37 +2,30 @@
 -- Assumes nothing.
 use mathlib.Core.Path.{_≡_, sym, ap, ap₂, _∙_}
 use mathlib.Core.Bool.{Bool}
-use mathlib.Core.List.{List, [], map}
+use mathlib.Core.List.{List, map}
 use Prim.Native.Nat.{ℕ, suc, _+_, _≤_, _<_}
 use native.Mathlib.Omega.{arith}
-use lib.ListN.{length, getD, take, drop}
-use lib.Seq.{getD-take, getD-drop}
+use lib.ListN.{length, getD, take}
+use lib.Seq.{getD-take}
 use lib.Dec.{eqb}
 use Rattle.spec.specs.Lists.{range, every}
 use Rattle.spec.specs.Types.{typeOf}
 use Rattle.spec.specs.Flags.{Flag, IsFlag, elementAt, firstFlag}
 use Rattle.spec.specs.Search.{Setting, sameTypes}
-use Rattle.laws.proofs.Lists.{getD-table, length-table, of-range}
+use Rattle.laws.proofs.Lists.{length-table, of-range}
 use Rattle.ranked.specs.declared.Shape.{Shape}
 use Rattle.ranked.specs.Words.{sizeAt, listsOf, subsIn, absIn, Held}
 use Rattle.ranked.specs.Layout.{typesAt, scratchAt}
 use Rattle.ranked.proofs.Solids.{number-in}
 use Rattle.ranked.proofs.Judged.{every-same}
-use Rattle.element_types.specs.State.{typesIn, stateIn}
+use Rattle.element_types.specs.State.{stateIn}
+use Rattle.element_types.proofs.States.{type-read}
 use Rattle.flag.proofs.Flags.{flag-in}
 use Rattle.candidates.specs.Post.{typesAgree}
 
 -- This is the code's test at rank r.
 abbrev pub agree : List ℕ → Shape → List ℕ → List ℕ → ℕ → Bool
 agree w sh a b r = eqb (getD w (typesAt sh r + getD a r 0) 0) (getD w (typesAt sh r + getD b r 0) 0)
-
-type-read : (sh : Shape) (w : List ℕ) (r e : ℕ) → r ≤ sh .rank → e < sizeAt sh r → getD w (typesAt sh r + e) 0 ≡ typeOf (stateIn sh w) r e
-unfolding stateIn typesIn
-type-read sh w r e h k =
-    sym
-    (ap (λ (l : List ℕ). getD l e 0) (getD-table (typesIn sh w) [] (suc (sh .rank)) r (omega arith))
-    ∙ getD-take (sizeAt sh r) (drop (typesAt sh r) w) e 0 k
-    ∙ getD-drop (typesAt sh r) w e 0)
 
 module _ (sh : Shape) (w : List ℕ) (h : Held sh (listsOf sh w)) (room : scratchAt sh ≤ length w) where
   module _ (els : List ℕ) (f : IsFlag (absIn sh (listsOf sh w)) (take (suc (sh .rank)) els)) (r : ℕ) (q : r ≤ sh .rank) where
@@ -42,7 +35,7 @@ module _ (sh : Shape) (w : List ℕ) (h : Held sh (listsOf sh w)) (room : scratc
 
     read : getD w (typesAt sh r + getD els r 0) 0 ≡ typeOf (stateIn sh w) r (elementAt (take (suc (sh .rank)) els) r)
     read =
-        type-read sh w r (getD els r 0) q (flag-in sh (listsOf sh w) h els f r q)
+        sym (type-read sh w r q (getD els r 0) (flag-in sh (listsOf sh w) h els f r q))
         ∙ ap (typeOf (stateIn sh w) r) (sym (getD-take (suc (sh .rank)) els r 0 (omega arith)))
 
   pub agree-is : (a b : List ℕ) → IsFlag (absIn sh (listsOf sh w)) (take (suc (sh .rank)) a) → IsFlag (absIn sh (listsOf sh w)) (take (suc (sh .rank)) b)

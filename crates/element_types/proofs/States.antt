@@ -78,6 +78,19 @@ renumber-tables f g n h =
         ∙ carry (p i) (p j) (q i) (q j) k (sym (getD-table p [] n i a) ∙ e ∙ getD-table p [] n j b)
         ∙ sym (getD-table q [] n j b)
 
+-- ---- a type
+
+module _ (sh : Shape) (w : List ℕ) (r : ℕ) (within : r ≤ sh .rank) where
+  types-at : typesAt (stateIn sh w) r ≡ typesIn sh w r
+  unfolding stateIn
+  types-at = getD-table (typesIn sh w) [] (suc (sh .rank)) r (omega arith)
+
+  -- The type of an element is the word that stands for it.
+  pub type-read : (e : ℕ) → e < sizeAt sh r → typeOf (stateIn sh w) r e ≡ getD w (layout.typesAt sh r + e) 0
+  unfolding typesIn
+  type-read e h =
+      ap (λ (l : List ℕ). getD l e 0) types-at ∙ getD-take (sizeAt sh r) (drop (layout.typesAt sh r) w) e 0 h ∙ getD-drop (layout.typesAt sh r) w e 0
+
 -- ---- a step
 
 -- A step's elements look to these neighbours, and their lists are here.
@@ -144,18 +157,9 @@ module _ (sh : Shape) (w : List ℕ) (x : Step) (t : Steppable sh w x) (listing 
 
   -- ---- the keys
 
-  types-at : (q : ℕ) → q ≤ sh .rank → typesAt S q ≡ typesIn sh w q
-  unfolding stateIn
-  types-at q h = getD-table (typesIn sh w) [] (suc (sh .rank)) q (omega arith)
-
   length-types : (q : ℕ) → q ≤ sh .rank → length (typesAt S q) ≡ sizeAt sh q
   unfolding typesIn
-  length-types q h = ap length (types-at q h) ∙ simp (length-take, length-drop) (omega (arith, rank-in q h, out-in))
-
-  type-read : (q y : ℕ) → q ≤ sh .rank → y < sizeAt sh q → typeOf S q y ≡ getD w (sh .low + firstAt sh q + y) 0
-  unfolding typesIn
-  type-read q y h k =
-      ap (λ (l : List ℕ). getD l y 0) (types-at q h) ∙ getD-take (sizeAt sh q) (drop (sh .low + firstAt sh q) w) y 0 k ∙ getD-drop (sh .low + firstAt sh q) w y 0
+  length-types q h = ap length (types-at sh w q h) ∙ simp (length-take, length-drop) (omega (arith, rank-in q h, out-in))
 
   -- The keys are given as the paper has them, and as the program does.
   paper : ℕ → List ℕ
@@ -175,9 +179,9 @@ module _ (sh : Shape) (w : List ℕ) (x : Step) (t : Steppable sh w x) (listing 
   held-is : (e : ℕ) → e < n → keyIn w listing base from out e ≡ held e
   unfolding held keyIn keyOf under
   held-is e h =
-      ap₂ {C = List ℕ} (λ a l. a ∷ sorted l) (sym (type-read (at x) e (omega (arith, t .under)) h))
+      ap₂ {C = List ℕ} (λ a l. a ∷ sorted l) (sym (type-read sh w (at x) (omega (arith, t .under)) e h))
       (ap (map (λ y. getD w (base + y) 0)) (list-here e h .1)
-      ∙ map-same (λ y. getD w (base + y) 0) (λ y. getD (typesAt S (next x)) y 0) (neighbours s x e) (λ y m. sym (type-read (next x) y (o .next-in) (o .inside e y h m))))
+      ∙ map-same (λ y. getD w (base + y) 0) (λ y. getD (typesAt S (next x)) y 0) (neighbours s x e) (λ y m. sym (type-read sh w (next x) (o .next-in) y (o .inside e y h m))))
 
   numbers-are : renumber eqList (keysTo w listing base from out n) ≡ renumber eqList (keys s S x)
   unfolding keys paper
@@ -258,7 +262,7 @@ module _ (sh : Shape) (w : List ℕ) (x : Step) (t : Steppable sh w x) (listing 
         go : (q : ℕ) → q ≤ sh .rank → Dec (q ≡ at x) → typesIn sh v q ≡ getD (set S (at x) R) q []
         go q b (yes p) =
             ap (typesIn sh v) p ∙ here ∙ sym (ap (λ (k : ℕ). getD (set S (at x) R) k []) p ∙ getD-set-same S (at x) R [] (rw (length-table (typesIn sh w) (suc (sh .rank))) (omega (arith, t .under))))
-        go q b (no p) = other q b p ∙ sym (getD-set-other S (at x) q R [] p ∙ types-at q b)
+        go q b (no p) = other q b p ∙ sym (getD-set-other S (at x) q R [] p ∙ types-at sh w q b)
 
     pub lists-kept : listsOf sh v ≡ listsOf sh w
     unfolding W
