@@ -3,18 +3,22 @@
 use marks::mark;
 use points::Found;
 use points::wide;
+use ranked::ELEMENTS;
 use ranked::Shape;
 ghost use mathlib.Core.Path.{_≡_};
 ghost use mathlib.Core.Bool.{true};
-ghost use mathlib.Core.List.{[], _∷_, map};
+ghost use mathlib.Core.List.{[], _∷_};
 ghost use Prim.Native.Nat.{_+_, _*_, _≤_, _<_};
 ghost use lib.ListN.{length};
-ghost use Rattle.spec.specs.Types.{size};
-ghost use Rattle.spec.specs.Copying.{parts, written};
-ghost use Rattle.ranked.specs.Words.{absIn};
-ghost use Rattle.marks.specs.Rows.{concrete};
+ghost use Rattle.spec.specs.Limits.{maxCount, maxElements};
+ghost use Rattle.spec.specs.Mark.{setsApart};
+ghost use Rattle.spec.specs.Copying.{written};
+ghost use Rattle.spec.specs.Demand3Calls.{rowAt};
+ghost use Rattle.ranked.specs.Words.{sizeAt, absIn};
+ghost use Rattle.marks.specs.Rows.{markOn};
 ghost use Rattle.products.specs.Products.{composed};
-ghost use Rattle.products.specs.Marking.{markIn, Markable, rowAt, Factored, Below};
+ghost use Rattle.products.specs.Table.{tablePlaces, slots, unkept, mixedLimit, SlotFound};
+ghost use Rattle.products.specs.Marking.{marksOn, Markable, Factored};
 
 // The table has this many places.
 const PLACES: usize = 16384;
@@ -26,16 +30,18 @@ const FREE: u16 = 65535;
 const ENTRIES: usize = 8;
 // There are this many slots. Each but slot 0 has room for one generator; slot 0 holds the places of a row's own first entries.
 const SLOTS: usize = 16;
-// The slots have this many cells. A slot holds its generator's number and then the places.
-const CELLS: usize = SLOTS * (ENTRIES + 1);
+// A slot has this many cells, for its generator's number and then the places.
+const WIDTH: usize = ENTRIES + 1;
+// All slots have this many cells.
+const CELLS: usize = SLOTS * WIDTH;
 
 // For fewer rows than this no table is made, since it would cost more than it saves.
 const FEW: usize = 16;
 
-// Returns row k, handed back as the part of the slice that holds it.
+// Returns row k of rows that have v entries each, as the part of the slice that holds it.
 fn row_at(rows: &[u16], v: usize, k: usize) -> &[u16]
     requires { ⌜ k * v + v ≤ length (now rows) ⌝ }
-    ensures { λ r. ⌜ now r ≡ rowAt v (now (rows .entry)) k ⌝ }
+    ensures { λ r. ⌜ now r ≡ rowAt v k (now (rows .entry)) ⌝ }
 {
     let start = k * v;
     let end = start + v;
@@ -54,9 +60,10 @@ fn entry(row: &[u16], p: usize) -> u16 {
     0
 }
 
+// Mixes an entry into the number that decides a row's place.
 fn mixed(h: u64, x: u16) -> u64
-    requires { ⌜ h < 0x1000_0000_0000 ⌝ }
-    ensures { λ r. ⌜ r < 0x1000_0000_0000 ⌝ }
+    requires { ⌜ h < mixedLimit ⌝ }
+    ensures { λ r. ⌜ r < mixedLimit ⌝ }
 {
     let t = (h + x as u64) % 0x1_0000_0000;
     t * 0x9e37_79b1 / 0x10_0000
@@ -64,26 +71,26 @@ fn mixed(h: u64, x: u16) -> u64
 
 // Returns the first place for the row whose first entries are those that this row has where slot j says.
 fn place(row: &[u16], cells: &[u16; CELLS], j: usize) -> usize
-    requires { ⌜ j < 16 ⌝ }
-    ensures { λ r. ⌜ r < 16384 ⌝ }
+    requires { ⌜ j < slots ⌝ }
+    ensures { λ r. ⌜ r < tablePlaces ⌝ }
 {
     let mut h: u64 = 0;
     let mut i: usize = 0;
     while i < ENTRIES {
-        let p = wide(cells[9 * j + 1 + i]);
+        let p = wide(cells[WIDTH * j + 1 + i]);
         h = mixed(h, entry(row, p));
         i += 1;
     }
-    (h % 16384) as usize
+    (h % PLACES as u64) as usize
 }
 
 // Writes number k to the first free place, if one of the places that are looked at is free.
-fn store(guesses: &mut [u16; PLACES], at: usize, k: usize)
-    requires { ⌜ (at < 16384) × (k < 65535) ⌝ }
+fn store(guesses: &mut [u16; PLACES], from: usize, k: usize)
+    requires { ⌜ (from < tablePlaces) × (k < unkept) ⌝ }
 {
     let mut i: usize = 0;
     while i < TRIES {
-        let p = (at + i) % PLACES;
+        let p = (from + i) % PLACES;
         if guesses[p] == FREE {
             guesses[p] = k as u16;
             return;
@@ -92,18 +99,16 @@ fn store(guesses: &mut [u16; PLACES], at: usize, k: usize)
     }
 }
 
-// Adds row k to the table, if its mark m confirms it.
-fn keep(v: usize, rows: &[u16], m: u8, k: usize, cells: &[u16; CELLS], guesses: &mut [u16; PLACES])
-    requires { ⌜ k * v + v ≤ length (now rows) ⌝ }
-{
+// Adds the row, which has number k and mark m, to the table, if the mark confirms it.
+fn keep(row: &[u16], k: usize, m: u8, cells: &[u16; CELLS], guesses: &mut [u16; PLACES]) {
     if m != 1 {
         return;
     }
     if wide(FREE) <= k {
         return;
     }
-    let at = place(row_at(rows, v, k), cells, 0);
-    store(guesses, at, k);
+    let from = place(row, cells, 0);
+    store(guesses, from, k);
 }
 
 // Returns the slots before there is any generator.
@@ -119,11 +124,11 @@ fn none() -> [u16; CELLS] {
 
 // Returns the first free slot after slot 0.
 fn free_slot(cells: &[u16; CELLS]) -> Found
-    ensures { λ r. ⌜ Below 16 r ⌝ }
+    ensures { λ r. ⌜ SlotFound r ⌝ }
 {
     let mut j: usize = 1;
     while j < SLOTS {
-        if cells[9 * j] == FREE {
+        if cells[WIDTH * j] == FREE {
             return Found::At(j);
         }
         j += 1;
@@ -133,22 +138,22 @@ fn free_slot(cells: &[u16; CELLS]) -> Found
 
 // Writes the places of the first vertices in the row to slot j.
 fn note(row: &[u16], cells: &mut [u16; CELLS], j: usize)
-    requires { ⌜ (j < 16) × (length (now row) ≤ 65536) ⌝ }
+    requires { ⌜ (j < slots) × (length (now row) ≤ maxCount) ⌝ }
 {
-    let mut at: usize = 0;
-    while at < row.len() {
-        let x = wide(row[at]);
+    let mut p: usize = 0;
+    while p < row.len() {
+        let x = wide(row[p]);
         if x < ENTRIES {
-            cells[9 * j + 1 + x] = at as u16;
+            cells[WIDTH * j + 1 + x] = p as u16;
         }
-        at += 1;
+        p += 1;
     }
 }
 
-// Adds row k to the generators, if its mark m confirms it and there is a free slot. Row 0 is nearly always the identity, which makes no new
-// product, so it is left out.
-fn join(v: usize, rows: &[u16], m: u8, k: usize, cells: &mut [u16; CELLS])
-    requires { ⌜ (k * v + v ≤ length (now rows)) × (v ≤ 65536) ⌝ }
+// Adds the row, which has number k and mark m, to the generators, if the mark confirms it and there is a free slot. Row 0 is nearly always the
+// identity, which makes no new product, so it is left out.
+fn join(row: &[u16], k: usize, m: u8, cells: &mut [u16; CELLS])
+    requires { ⌜ length (now row) ≤ maxCount ⌝ }
 {
     if m != 1 {
         return;
@@ -162,8 +167,8 @@ fn join(v: usize, rows: &[u16], m: u8, k: usize, cells: &mut [u16; CELLS])
     let Found::At(j) = free_slot(cells) else {
         return;
     };
-    cells[9 * j] = k as u16;
-    note(row_at(rows, v, k), cells, j);
+    cells[WIDTH * j] = k as u16;
+    note(row, cells, j);
 }
 
 // Tells whether the row is the product of g and then a.
@@ -186,45 +191,45 @@ fn is_product(row: &[u16], a: &[u16], g: &[u16]) -> bool
     true
 }
 
-// Tells whether row k is the product of row g and then row a, both of which were confirmed before it.
-fn is_factored(v: usize, rows: &[u16], marks: &[u8], k: usize, g: usize, a: usize) -> bool
-    requires { ⌜ (k * v + v ≤ length (now rows)) × (k ≤ length (now marks)) ⌝ }
-    ensures { λ r. ⌜ (r ≡ true → Factored v (now (rows .entry)) (now (marks .entry)) k) ⌝ }
+// Tells whether the row after those that have the marks `done` is the product of row g and then row a, both of which are confirmed.
+fn is_factored(rows: &[u16], v: usize, done: &[u8], g: usize, a: usize) -> bool
+    requires { ⌜ length (now done) * v + v ≤ length (now rows) ⌝ }
+    ensures { λ r. ⌜ (r ≡ true → Factored v (now (rows .entry)) (now (done .entry))) ⌝ }
 {
+    let k = done.len();
     if k <= g {
         return false;
     }
     if k <= a {
         return false;
     }
-    if marks[g] != 1 {
+    if done[g] != 1 {
         return false;
     }
-    if marks[a] != 1 {
+    if done[a] != 1 {
         return false;
     }
     is_product(row_at(rows, v, k), row_at(rows, v, a), row_at(rows, v, g))
 }
 
-// Tells whether row k is found to be the product of the generator of slot j and then a row of the table.
+// Tells whether that row is found to be the product of the generator of slot j and then a row of the table.
 fn is_met(
-    v: usize,
     rows: &[u16],
-    marks: &[u8],
-    k: usize,
+    v: usize,
+    done: &[u8],
     guesses: &[u16; PLACES],
     cells: &[u16; CELLS],
     j: usize,
 ) -> bool
-    requires { ⌜ (k * v + v ≤ length (now rows)) × (k ≤ length (now marks)) × (j < 16) ⌝ }
-    ensures { λ r. ⌜ (r ≡ true → Factored v (now (rows .entry)) (now (marks .entry)) k) ⌝ }
+    requires { ⌜ (length (now done) * v + v ≤ length (now rows)) × (j < slots) ⌝ }
+    ensures { λ r. ⌜ (r ≡ true → Factored v (now (rows .entry)) (now (done .entry))) ⌝ }
 {
-    let g = wide(cells[9 * j]);
-    let at = place(row_at(rows, v, k), cells, j);
+    let g = wide(cells[WIDTH * j]);
+    let from = place(row_at(rows, v, done.len()), cells, j);
     let mut i: usize = 0;
     while i < TRIES {
-        let a = wide(guesses[(at + i) % PLACES]);
-        if is_factored(v, rows, marks, k, g, a) {
+        let a = wide(guesses[(from + i) % PLACES]);
+        if is_factored(rows, v, done, g, a) {
             return true;
         }
         i += 1;
@@ -232,24 +237,23 @@ fn is_met(
     false
 }
 
-// Tells whether row k is found to be a product of two rows that were confirmed before it.
+// Tells whether that row is found to be a product of two confirmed rows.
 fn is_known(
-    v: usize,
     rows: &[u16],
-    marks: &[u8],
-    k: usize,
+    v: usize,
+    done: &[u8],
     guesses: &[u16; PLACES],
     cells: &[u16; CELLS],
 ) -> bool
-    requires { ⌜ (k * v + v ≤ length (now rows)) × (k ≤ length (now marks)) ⌝ }
-    ensures { λ r. ⌜ (r ≡ true → Factored v (now (rows .entry)) (now (marks .entry)) k) ⌝ }
+    requires { ⌜ length (now done) * v + v ≤ length (now rows) ⌝ }
+    ensures { λ r. ⌜ (r ≡ true → Factored v (now (rows .entry)) (now (done .entry))) ⌝ }
 {
     let mut j: usize = 1;
     while j < SLOTS {
-        if cells[9 * j] == FREE {
+        if cells[WIDTH * j] == FREE {
             return false;
         }
-        if is_met(v, rows, marks, k, guesses, cells, j) {
+        if is_met(rows, v, done, guesses, cells, j) {
             return true;
         }
         j += 1;
@@ -257,30 +261,32 @@ fn is_known(
     false
 }
 
-// Returns the mark of row k. `done` are the marks of the rows before it.
+// Returns the mark of the row after those that have the marks `done`. A row that has to be followed element by element, and is confirmed, becomes a
+// generator.
 fn mark_next(
-    w: &[u32],
+    lists: &[u32],
     sh: Shape,
     floats: &[f64],
-    apart: bool,
-    v: usize,
     rows: &[u16],
-    k: usize,
     goes: &mut [u16],
     done: &[u8],
     guesses: &[u16; PLACES],
     cells: &mut [u16; CELLS],
 ) -> u8
-    requires { ⌜ Markable sh (now w) (now floats) apart (length (now goes)) ⌝ }
-    requires { ⌜ (v ≡ size (absIn sh (now w)) 1) × (k * v + v ≤ length (now rows)) ⌝ }
-    requires { ⌜ now done ≡ map (markIn (concrete sh (now w) (now floats))) (parts k v (now rows)) ⌝ }
-    ensures { λ r. ⌜ r ≡ markIn (concrete sh (now (w .entry)) (now (floats .entry))) (rowAt v (now (rows .entry)) k) ⌝ }
+    requires { ⌜ Markable sh (now lists) (now floats) (length (now goes)) × (setsApart (absIn sh (now lists)) ≡ true) ⌝ }
+    requires { ⌜ length (now done) * sizeAt sh 1 + sizeAt sh 1 ≤ length (now rows) ⌝ }
+    requires { ⌜ now done ≡ marksOn sh (now lists) (now floats) (now rows) (length (now done)) ⌝ }
+    ensures { λ m. ⌜ m
+        ≡ markOn sh (now (lists .entry)) (now (floats .entry)) (rowAt (sizeAt sh 1) (length (now (done .entry))) (now (rows .entry))) ⌝ }
 {
-    if is_known(v, rows, done, k, guesses, cells) {
+    let v = sh.vertices();
+    if is_known(rows, v, done, guesses, cells) {
         return 1;
     }
-    let m = mark(w, sh, floats, apart, row_at(rows, v, k), goes);
-    join(v, rows, m, k, cells);
+    let k = done.len();
+    let row = row_at(rows, v, k);
+    let m = mark(lists, sh, floats, true, row, goes);
+    join(row, k, m, cells);
     m
 }
 
@@ -292,26 +298,25 @@ fn put_mark(out: &mut [u8], m: u8)
     out[0] = m;
 }
 
-// Marks a few rows, each element by element.
+// Marks a few rows, each element by element. `apart` says whether no two elements of a rank have one vertex set.
 fn mark_few(
-    w: &[u32],
+    lists: &[u32],
     sh: Shape,
     floats: &[f64],
     apart: bool,
-    v: usize,
     rows: &[u16],
-    n: usize,
     goes: &mut [u16],
     marks: &mut [u8],
 )
-    requires { ⌜ Markable sh (now w) (now floats) apart (length (now goes)) ⌝ }
-    requires { ⌜ (v ≡ size (absIn sh (now w)) 1) × (n * v ≤ length (now rows)) × (n ≤ length (now marks)) ⌝ }
-    ensures { λ _. ⌜ now (marks .exit)
-        ≡ written (map (markIn (concrete sh (now (w .entry)) (now (floats .entry)))) (parts n v (now (rows .entry)))) (now (marks .entry)) ⌝ }
+    requires { ⌜ Markable sh (now lists) (now floats) (length (now goes)) × (apart ≡ setsApart (absIn sh (now lists))) ⌝ }
+    requires { ⌜ length (now marks) * sizeAt sh 1 ≤ length (now rows) ⌝ }
+    ensures { λ _. ⌜ now (marks .exit) ≡ marksOn sh (now (lists .entry)) (now (floats .entry)) (now (rows .entry)) (length (now (marks .entry))) ⌝ }
 {
+    let v = sh.vertices();
+    let n = marks.len();
     let mut k: usize = 0;
     while k < n {
-        let m = mark(w, sh, floats, apart, row_at(rows, v, k), goes);
+        let m = mark(lists, sh, floats, apart, row_at(rows, v, k), goes);
         put_mark(&mut marks[k..], m);
         k += 1;
     }
@@ -319,64 +324,59 @@ fn mark_few(
 
 // Marks many rows, each by a product where one is found.
 fn mark_many(
-    w: &[u32],
+    lists: &[u32],
     sh: Shape,
     floats: &[f64],
-    apart: bool,
-    v: usize,
     rows: &[u16],
-    n: usize,
     goes: &mut [u16],
     marks: &mut [u8],
 )
-    requires { ⌜ Markable sh (now w) (now floats) apart (length (now goes)) ⌝ }
-    requires { ⌜ (v ≡ size (absIn sh (now w)) 1) × (n * v ≤ length (now rows)) × (n ≤ length (now marks)) ⌝ }
-    ensures { λ _. ⌜ now (marks .exit)
-        ≡ written (map (markIn (concrete sh (now (w .entry)) (now (floats .entry)))) (parts n v (now (rows .entry)))) (now (marks .entry)) ⌝ }
+    requires { ⌜ Markable sh (now lists) (now floats) (length (now goes)) × (setsApart (absIn sh (now lists)) ≡ true) ⌝ }
+    requires { ⌜ length (now marks) * sizeAt sh 1 ≤ length (now rows) ⌝ }
+    ensures { λ _. ⌜ now (marks .exit) ≡ marksOn sh (now (lists .entry)) (now (floats .entry)) (now (rows .entry)) (length (now (marks .entry))) ⌝ }
 {
+    let v = sh.vertices();
+    let n = marks.len();
     let mut guesses = [FREE; PLACES];
     let mut cells = none();
     let mut k: usize = 0;
     while k < n {
         let m = mark_next(
-            w,
+            lists,
             sh,
             floats,
-            apart,
-            v,
             rows,
-            k,
             goes,
             &marks[..k],
             &guesses,
             &mut cells,
         );
         put_mark(&mut marks[k..], m);
-        keep(v, rows, m, k, &cells, &mut guesses);
+        keep(row_at(rows, v, k), k, m, &cells, &mut guesses);
         k += 1;
     }
 }
 
-// Marks n rows of v entries each. The cells of `goes` are free before and after.
+// Writes the mark of each row. A row has an entry for each vertex, and there are as many rows as marks. `apart` says whether no two elements of a
+// rank have one vertex set.
 pub fn mark_rows(
-    w: &[u32],
+    lists: &[u32],
     sh: Shape,
     floats: &[f64],
     apart: bool,
-    v: usize,
     rows: &[u16],
-    n: usize,
-    goes: &mut [u16],
     marks: &mut [u8],
 )
-    requires { ⌜ Markable sh (now w) (now floats) apart (length (now goes)) ⌝ }
-    requires { ⌜ (v ≡ size (absIn sh (now w)) 1) × (n * v ≤ length (now rows)) × (n ≤ length (now marks)) ⌝ }
-    ensures { λ _. ⌜ now (marks .exit)
-        ≡ written (map (markIn (concrete sh (now (w .entry)) (now (floats .entry)))) (parts n v (now (rows .entry)))) (now (marks .entry)) ⌝ }
+    requires { ⌜ Markable sh (now lists) (now floats) maxElements × (apart ≡ setsApart (absIn sh (now lists))) ⌝ }
+    requires { ⌜ length (now marks) * sizeAt sh 1 ≤ length (now rows) ⌝ }
+    ensures { λ _. ⌜ now (marks .exit) ≡ marksOn sh (now (lists .entry)) (now (floats .entry)) (now (rows .entry)) (length (now (marks .entry))) ⌝ }
 {
-    if n < FEW {
-        mark_few(w, sh, floats, apart, v, rows, n, goes, marks);
-    } else {
-        mark_many(w, sh, floats, apart, v, rows, n, goes, marks);
+    let mut goes = [0u16; ELEMENTS];
+    if apart {
+        if FEW <= marks.len() {
+            mark_many(lists, sh, floats, rows, &mut goes, marks);
+            return;
+        }
     }
+    mark_few(lists, sh, floats, apart, rows, &mut goes, marks);
 }

@@ -1,15 +1,16 @@
 -- The loop's invariant is that j is at most as many as there are slots. The measure is what is left of them.
 -- Assumes nothing.
 use borrow.Author.Needs.{needs}
-use Prim.Native.Nat.{_≤_, _<_, _-_}
+use Prim.Native.Nat.{_≤_, _-_}
+use Rattle.products.specs.Table.{slots}
 use Rattle.products.proofs.free_slot.Statement.{statement}
 use Rattle.products.proofs.free_slot.Tie as tie
 
 abbrev Inv-loop : tie.InvT-loop
-Inv-loop cells j₀ j = j ≤ 16
+Inv-loop cells j₀ j = j ≤ slots
 
 abbrev μ-loop : tie.MeasureT-loop
-μ-loop cells j₀ j = 16 - j
+μ-loop cells j₀ j = slots - j
 
 pub free-slot-spec : {M : Type 1} → statement M
 free-slot-spec =

@@ -18,15 +18,15 @@ start e = e .before .before .before .before .before .before .before .before
 -- The factors lie within the rows.
 a-in : (e : tie.Else4) → let s = start e in s .args .a * s .args .v + s .args .v ≤ length (s .args .rows .now)
 unfolding start
-a-in e = let s = start e in omega (arith, part-end (s .args .k) (s .args .v) (s .args .a) (e .before .before .before .before .if2 .left), s .pre .0)
+a-in e = let s = start e in omega (arith, part-end (length (s .args .done .now)) (s .args .v) (s .args .a) (e .before .before .before .before .if2 .left), s .pre)
 
 g-in : (e : tie.Else4) → let s = start e in s .args .g * s .args .v + s .args .v ≤ length (s .args .rows .now)
 unfolding start
-g-in e = let s = start e in omega (arith, part-end (s .args .k) (s .args .v) (s .args .g) (e .before .before .before .before .before .if1 .left), s .pre .0)
+g-in e = let s = start e in omega (arith, part-end (length (s .args .done .now)) (s .args .v) (s .args .g) (e .before .before .before .before .before .if1 .left), s .pre)
 
 row-at-requires : tie.Need-row-at-requires
 unfolding start
-row-at-requires c κs = start c .pre .0
+row-at-requires c κs = start c .pre
 
 row-at-requires-2 : tie.Need-row-at-requires-2
 unfolding start
@@ -43,7 +43,7 @@ is-product-requires c κs =
     let s = start e in
     let v = s .args .v in
     let rows = s .args .rows .now in
-    let k-long = ap length (c .before .before .row-at .ensures) ∙ row-long v (s .args .k) rows (s .pre .0) in
+    let k-long = ap length (c .before .before .row-at .ensures) ∙ row-long v (length (s .args .done .now)) rows (s .pre) in
     let a-long = ap length (c .before .row-at2 .ensures) ∙ row-long v (s .args .a) rows (a-in e) in
     let g-long = ap length (c .row-at3 .ensures) ∙ row-long v (s .args .g) rows (g-in e) in
     (k-long ∙ sym g-long, a-long ∙ sym g-long)

@@ -3,14 +3,15 @@
 use borrow.Author.Needs.{needs}
 use mathlib.Core.Bool.{false≢true}
 use Prim.Native.Nat.{_≤_, _-_}
+use Rattle.products.specs.Table.{slots}
 use Rattle.products.proofs.is_known.Statement.{statement}
 use Rattle.products.proofs.is_known.Tie as tie
 
 abbrev Inv-loop : tie.InvT-loop
-Inv-loop v rows marks k guesses cells j₀ j = j ≤ 16
+Inv-loop rows v done guesses cells j₀ j = j ≤ slots
 
 abbrev μ-loop : tie.MeasureT-loop
-μ-loop v rows marks k guesses cells j₀ j = 16 - j
+μ-loop rows v done guesses cells j₀ j = slots - j
 
 pub is-known-spec : {M : Type 1} → statement M
 is-known-spec =

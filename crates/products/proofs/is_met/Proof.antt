@@ -3,14 +3,15 @@
 use borrow.Author.Needs.{needs}
 use mathlib.Core.Bool.{false≢true}
 use Prim.Native.Nat.{_≤_, _-_}
+use Rattle.products.specs.Table.{placesTried}
 use Rattle.products.proofs.is_met.Statement.{statement}
 use Rattle.products.proofs.is_met.Tie as tie
 
 abbrev Inv-loop : tie.InvT-loop
-Inv-loop v rows marks k guesses cells j g at i₀ i = i ≤ 4
+Inv-loop rows v done guesses cells j g from i₀ i = i ≤ placesTried
 
 abbrev μ-loop : tie.MeasureT-loop
-μ-loop v rows marks k guesses cells j g at i₀ i = 4 - i
+μ-loop rows v done guesses cells j g from i₀ i = placesTried - i
 
 pub is-met-spec : {M : Type 1} → statement M
 is-met-spec =

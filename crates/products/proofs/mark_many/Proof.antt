@@ -1,96 +1,71 @@
--- The rows are taken one after another, and each mark goes to the part of the marks after those written. The row then joins the table.
+-- The rows are taken one after another, and each mark is written behind those before it. The row then joins the table.
 -- Assumes nothing.
 use borrow.Author.Needs.{needs}
 use native.Mathlib.Omega.{arith}
 use mathlib.Core.Path.{sym}
-use Prim.Native.Nat.{_+_, _-_, _*_, _≤_}
-use lib.ListN.{length}
-use lib.Seq.{length-take-le}
-use Rattle.points.proofs.Parts.{part-end}
-use Rattle.marks.specs.Rows.{concrete}
-use Rattle.products.proofs.Marked.{MarkedTo, loop-first, loop-left, loop-next, loop-end, marks-taken}
+use Prim.Native.Nat.{_-_}
+use Rattle.products.proofs.Marked.{row-in, MarkedTo, loop-first, loop-end, next-in, cell-left, done-long, done-are, loop-next}
 use Rattle.products.proofs.mark_many.Statement.{statement}
 use Rattle.products.proofs.mark_many.Tie as tie
 
 abbrev Inv : tie.InvT-loop
-Inv w sh floats apart v rows n goes₀ marks₀ guesses₀ cells₀ k₀ goes marks guesses cells k = MarkedTo (concrete sh w floats) v rows n goes₀ marks₀ goes marks k
+Inv lists sh floats rows goes₀ marks₀ v n guesses₀ cells₀ k₀ goes marks guesses cells k = MarkedTo sh lists floats rows goes₀ marks₀ v n goes marks k
 
 abbrev μ : tie.MeasureT-loop
-μ w sh floats apart v rows n goes₀ marks₀ guesses₀ cells₀ k₀ goes marks guesses cells k = n - k
+μ lists sh floats rows goes₀ marks₀ v n guesses₀ cells₀ k₀ goes marks guesses cells k = n - k
 
-start : (c : tie.At-loop Inv μ) → tie.Start Inv μ
-start c = c .before .before .before .before .before .before .before
+abbrev start : (c : tie.At-loop Inv μ) → tie.Start Inv μ
+start c = c .before .before .before .before .before .before .before .before
 
--- The row lies within the rows.
-row-in : (c : tie.In-loop Inv μ) → let a = start (c .before) .args in c .before .loop .k * a .v + a .v ≤ length (a .rows .now)
-unfolding start
-row-in c = let s = start (c .before) in omega (arith, part-end (s .args .n) (s .args .v) (c .before .loop .k) (c .loop-test .taken), s .pre .1 .1)
-
-mark-next-requires : tie.Need-mark-next-requires Inv μ
-unfolding start
-mark-next-requires c κs =
-    let t = c .before .before .before .before in
-    let l = t .before .loop in
-    let s = start (t .before) in
-    let a = s .args in (
-      rw (l .inv .1) (s .pre .0),
-      ((s .pre .1 .0, row-in t), marks-taken (concrete (a .sh) (a .w .now) (a .floats .now)) (a .v) (a .rows .now) (l .k) (a .marks .now) (l .marks) (l .inv .3)),
-    )
-
-put-mark-requires : tie.Need-put-mark-requires Inv μ
-unfolding start
-put-mark-requires c κs =
-    let t = c .before .before .before .before .before .before .before .before in
-    let l = t .before .loop in
-    let s = start (t .before) in
-    let a = s .args in
-    loop-left (concrete (a .sh) (a .w .now) (a .floats .now)) (a .v) (a .rows .now) (a .n) (a .goes .now) (a .marks .now) (l .goes) (l .marks) (l .k) (l .inv) (t .loop-test .taken) (s .pre .1 .2)
-
-keep-requires : tie.Need-keep-requires Inv μ
-unfolding start
-keep-requires c κs = row-in (c .before .before .before .before .before .before .before .before .before .before .before .before .before)
-
-loop-again : tie.Need-loop-again Inv μ
-unfolding start
-loop-again c =
-    let p = c .before .before .before .before .before in
-    let m = p .before .before .before .before in
-    let t = m .before .before .before .before .before in
-    let l = t .before .loop in
-    let s = start (t .before) in
-    let a = s .args in
-    loop-next (concrete (a .sh) (a .w .now) (a .floats .now)) (a .v) (a .rows .now) (a .n) (a .goes .now) (a .marks .now)
-    (l .goes) (l .marks) (m .mark-next .last .1 .1 .1 .1 .1 .1 .1 .0) (p .put-mark .last .0) (m .mark-next .result) (l .k) (l .inv) (t .loop-test .taken) (s .pre .1 .2)
-    (m .mark-next .kept .1 .1 .1 .1 .1 .1 .1 .0) (m .mark-next .ensures) (p .put-mark .kept .0) (p .put-mark .ensures)
+-- The turn that a place at its end belongs to.
+abbrev turn : (c : tie.After-keep Inv μ) → tie.In-loop Inv μ
+turn c = c .before .before .before .before .before .before .before .before .before .before .before .before .before .before .before
 
 pub mark-many-spec : {M : Type 1} → statement M
-unfolding start
 mark-many-spec =
     tie.close
     (tie.spec Inv μ
-    -- The needs are none-requires and loop-holds.
+    -- The needs are vertices-requires, none-requires and loop-holds.
     (λ c κs. search needs)
-    (λ c. let a = c .before .before .before .before .before .before .args in
-    loop-first (concrete (a .sh) (a .w .now) (a .floats .now)) (a .v) (a .rows .now) (a .n) (a .goes .now) (a .marks .now))
+    (λ c κs. search needs)
+    (λ c. let v = c .before in let a = v .before .before .before .before .before .before .args in
+    loop-first (a .sh) (a .lists .now) (a .floats .now) (a .rows .now) (a .goes .now) (a .marks .now) _ _ (v .vertices .ensures) (search needs))
     -- The needs are slice-reshare-prefix-mark-next, slice-aggregate-mark-next and mark-next-requires.
     (λ c. search needs)
-    (λ c. let t = c .before .before in
+    (λ c. let t = c .before .before in sym (done-long _ _ _ _ (t .before .loop .inv) (t .loop-test .taken)))
+    (λ c κs. let t = c .before .before .before .before in
     let l = t .before .loop in
-    sym (length-take-le (l .k) (l .marks) (omega (arith, t .loop-test .taken, start (t .before) .pre .1 .2, l .inv .2))))
-    mark-next-requires
-    -- The needs are sub-put-mark, part-put-mark-start, part-put-mark-end, put-mark-requires and keep-requires.
+    let s = start (t .before) in
+    let a = s .args in
+    let long = done-long (a .sh) (a .lists .now) (a .floats .now) (a .rows .now) (l .inv) (t .loop-test .taken) in
+    ((rw (l .inv .free) (s .pre .0 .0), s .pre .0 .1), (rw long (next-in _ _ _ _ (l .inv) (t .loop-test .taken) (s .pre .1)), done-are _ _ _ _ (l .inv) (t .loop-test .taken))))
+    -- The needs are sub-put-mark, part-put-mark-start, part-put-mark-end and put-mark-requires.
     (λ c. search needs)
     (λ c. search needs)
     (λ c. search needs)
-    put-mark-requires
-    keep-requires
-    -- The needs are add-k and loop-less.
-    (λ c. search needs)
-    (λ c. search needs)
-    loop-again
+    (λ c κs. let t = c .before .before .before .before .before .before .before .before in
+    let a = start (t .before) .args in
+    cell-left (a .sh) (a .lists .now) (a .floats .now) (a .rows .now) (t .before .loop .inv) (t .loop-test .taken))
+    -- The needs are row-at-requires and keep-requires.
+    (λ c κs. let t = c .before .before .before .before .before .before .before .before .before .before .before in
+    let l = t .before .loop in
+    let s = start (t .before) in
+    let a = s .args in
+    row-in (a .sh) (a .lists .now) (a .floats .now) (a .rows .now) _ _ (l .inv .v-is) (next-in _ _ _ _ (l .inv) (t .loop-test .taken) (s .pre .1)))
+    (λ c κs. search needs)
+    -- The needs are add-k, loop-less and loop-again.
+    (λ c. let t = turn c in
+    let s = start (t .before) in
+    omega (arith, t .loop-test .taken, t .before .loop .inv .n-is))
+    (λ c. let t = turn c in omega (arith, t .loop-test .taken))
+    (λ c. let p = c .before .before .before .before .before .before in
+    let m = p .before .before .before .before in
+    let t = turn c in
+    let l = t .before .loop in
+    let a = start (t .before) .args in
+    let long = done-long (a .sh) (a .lists .now) (a .floats .now) (a .rows .now) (l .inv) (t .loop-test .taken) in
+    loop-next _ _ _ _ (l .inv) (t .loop-test .taken) _ (p .put-mark .last .0) _ (m .mark-next .kept .1 .1 .1 .1 .0) (rw long at (m .mark-next .ensures)) (p .put-mark .kept .0) (p .put-mark .ensures))
     -- The needs are same-length, same-length-2 and returns.
-    (λ c. c .before .loop .inv .1)
-    (λ c. c .before .loop .inv .2)
-    (λ c. let l = c .before .loop in
-    let a = start (c .before) .args in
-    loop-end (concrete (a .sh) (a .w .now) (a .floats .now)) (a .v) (a .rows .now) (a .n) (a .goes .now) (a .marks .now) (l .goes) (l .marks) (l .k) (l .inv) (c .loop-test .left)))
+    (λ c. c .before .loop .inv .free)
+    (λ c. c .before .loop .inv .long)
+    (λ c. loop-end _ _ _ _ (c .before .loop .inv) (c .loop-test .left)))

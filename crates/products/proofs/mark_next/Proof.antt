@@ -1,56 +1,37 @@
 -- A row is confirmed by a product, or element by element.
 -- Assumes nothing.
 use borrow.Author.Needs.{needs}
-use mathlib.Core.Path.{sym, ap, _∙_}
+use mathlib.Core.Path.{refl, sym}
 use lib.ListN.{length}
-use native.Mathlib.Omega.{arith}
-use Rattle.marks.specs.Rows.{concrete}
-use Rattle.marks.proofs.Carried.{few-vertices}
-use Rattle.products.specs.Marking.{markIn}
-use Rattle.products.proofs.Factors.{row-long, factored-one}
-use Rattle.products.proofs.Marked.{marks-long}
+use Rattle.products.proofs.Marked.{row-in, row-known, row-full, row-few, row-mark}
 use Rattle.products.proofs.mark_next.Statement.{statement}
 use Rattle.products.proofs.mark_next.Tie as tie
 
-start : tie.After-is-known → tie.Start
-start c = c .before .before .before .before .before .before .before
-
-is-known-requires : tie.Need-is-known-requires
-is-known-requires c κs =
-    let s = c .before .before .before .before .before .before in
-    let a = s .args in
-    (s .pre .1 .0 .1, omega (arith, ap length (s .pre .1 .1), marks-long (concrete (a .sh) (a .w .now) (a .floats .now)) (a .v) (a .rows .now) (a .k)))
-
-returns : tie.Need-returns
-unfolding start
-returns c =
-    let s = start (c .before) in
-    let a = s .args in
-    sym (factored-one (concrete (a .sh) (a .w .now) (a .floats .now)) (s .pre .0 .held .sound) (a .v) (a .k) (a .rows .now) (a .done .now) (s .pre .1 .1) (c .before .is-known .ensures (c .if1 .taken)))
-
-mark-requires : tie.Need-mark-requires
-unfolding start
-mark-requires c κs =
-    let s = start (c .before .before .before) in
-    let p = s .pre .0 in
-    ((p .held, p .classes), (p .apart-is, (ap length (c .before .row-at .ensures) ∙ row-long (s .args .v) (s .args .k) (s .args .rows .now) (s .pre .1 .0 .1) ∙ s .pre .1 .0 .0, p .room)))
-
-join-requires : tie.Need-join-requires
-unfolding start
-join-requires c κs =
-    let s = start (c .before .before .before .before .before .before .before) in
-    let a = s .args in
-    (s .pre .1 .0 .1, omega (arith, few-vertices (a .sh) (a .w .now) (s .pre .0 .held), s .pre .1 .0 .0))
-
-returns-2 : tie.Need-returns-2
-unfolding start markIn
-returns-2 c =
-    let m = c .before .before .before .before in
-    let r = m .before .before in
-    let a = start (r .before .before) .args in
-    m .mark .ensures ∙ ap (markIn (concrete (a .sh) (a .w .now) (a .floats .now))) (r .row-at .ensures)
+abbrev start : tie.After-vertices → tie.Start
+start c = c .before .before .before .before .before .before
 
 pub mark-next-spec : {M : Type 1} → statement M
 mark-next-spec =
     tie.close
-    (tie.spec is-known-requires returns (λ c κs. search needs) mark-requires join-requires (λ c. search needs) returns-2)
+    (tie.spec
+    -- The needs are vertices-requires and is-known-requires.
+    (λ c κs. search needs)
+    (λ c κs. let v = c .before in let s = start v in let a = s .args in
+    row-in (a .sh) (a .lists .now) (a .floats .now) (a .rows .now) _ (length (a .done .now)) (v .vertices .ensures) (s .pre .1 .0))
+    -- The need is returns.
+    (λ c. let v = c .before .before .before in let s = start v in let a = s .args in
+    row-known (a .sh) (a .lists .now) (a .floats .now) (a .rows .now) _ (length (a .done .now)) (v .vertices .ensures) (s .pre .1 .0) (s .pre .0 .0 .held) (a .done .now) refl (s .pre .1 .1)
+    (c .before .is-known .ensures (c .if1 .taken)))
+    -- The needs are row-at-requires, mark-requires and join-requires.
+    (λ c κs. let v = c .before .before .before in let s = start v in let a = s .args in
+    row-in (a .sh) (a .lists .now) (a .floats .now) (a .rows .now) _ (length (a .done .now)) (v .vertices .ensures) (s .pre .1 .0))
+    (λ c κs. let r = c .before in let v = r .before .before .before .before in let s = start v in let a = s .args in
+    let p = s .pre .0 in
+    ((p .0 .held, p .0 .classes), (sym (p .1), (row-full (a .sh) (a .lists .now) (a .floats .now) (a .rows .now) _ _ (v .vertices .ensures) (s .pre .1 .0) _ (r .row-at .ensures), p .0 .room))))
+    (λ c κs. let r = c .before .before .before .before .before in let v = r .before .before .before .before in let s = start v in let a = s .args in
+    row-few (a .sh) (a .lists .now) (a .floats .now) (a .rows .now) _ _ (v .vertices .ensures) (s .pre .1 .0) _ (r .row-at .ensures) (s .pre .0 .0 .held))
+    -- The needs are same-length and returns-2.
+    (λ c. search needs)
+    (λ c. let m = c .before .before .before .before in
+    let r = m .before .before in let v = r .before .before .before .before in let s = start v in let a = s .args in
+    row-mark (a .sh) (a .lists .now) (a .floats .now) (a .rows .now) _ _ (v .vertices .ensures) (s .pre .1 .0) _ (r .row-at .ensures) _ (m .mark .ensures)))

@@ -1,15 +1,16 @@
 -- The loop's invariant is that i is at most as many as there are entries. The measure is what is left of them.
 -- Assumes nothing.
 use borrow.Author.Needs.{needs}
-use Prim.Native.Nat.{_≤_, _<_, _-_}
+use Prim.Native.Nat.{_≤_, _-_}
+use Rattle.products.specs.Table.{firstEntries}
 use Rattle.products.proofs.none.Statement.{statement}
 use Rattle.products.proofs.none.Tie as tie
 
 abbrev Inv-loop : tie.InvT-loop
-Inv-loop cells₀ i₀ cells i = i ≤ 8
+Inv-loop cells₀ i₀ cells i = i ≤ firstEntries
 
 abbrev μ-loop : tie.MeasureT-loop
-μ-loop cells₀ i₀ cells i = 8 - i
+μ-loop cells₀ i₀ cells i = firstEntries - i
 
 pub none-spec : {M : Type 1} → statement M
 none-spec =

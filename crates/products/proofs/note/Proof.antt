@@ -1,16 +1,16 @@
--- The loop's invariant is that at is at most the row's length. The measure is what is left of it.
+-- The loop's invariant is that p is at most the row's length. The measure is what is left of it.
 -- Assumes nothing.
 use borrow.Author.Needs.{needs}
-use Prim.Native.Nat.{_≤_, _<_, _-_}
+use Prim.Native.Nat.{_≤_, _-_}
 use lib.ListN.{length}
 use Rattle.products.proofs.note.Statement.{statement}
 use Rattle.products.proofs.note.Tie as tie
 
 abbrev Inv-loop : tie.InvT-loop
-Inv-loop row cells₀ j at₀ cells at = at ≤ length row
+Inv-loop row cells₀ j p₀ cells p = p ≤ length row
 
 abbrev μ-loop : tie.MeasureT-loop
-μ-loop row cells₀ j at₀ cells at = length row - at
+μ-loop row cells₀ j p₀ cells p = length row - p
 
 pub note-spec : {M : Type 1} → statement M
 note-spec =

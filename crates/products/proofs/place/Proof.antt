@@ -2,14 +2,15 @@
 -- Assumes nothing.
 use borrow.Author.Needs.{needs}
 use Prim.Native.Nat.{_≤_, _<_, _-_}
+use Rattle.products.specs.Table.{firstEntries, mixedLimit}
 use Rattle.products.proofs.place.Statement.{statement}
 use Rattle.products.proofs.place.Tie as tie
 
 abbrev Inv-loop : tie.InvT-loop
-Inv-loop row cells j h₀ i₀ h i = (i ≤ 8) × (h < 0x1000_0000_0000)
+Inv-loop row cells j h₀ i₀ h i = (i ≤ firstEntries) × (h < mixedLimit)
 
 abbrev μ-loop : tie.MeasureT-loop
-μ-loop row cells j h₀ i₀ h i = 8 - i
+μ-loop row cells j h₀ i₀ h i = firstEntries - i
 
 pub place-spec : {M : Type 1} → statement M
 place-spec =
@@ -26,6 +27,7 @@ place-spec =
     (λ c κs. search needs)
     (λ c κs. search needs)
     (λ c κs. search needs)
+    (λ c. search needs)
     (λ c. search needs)
     (λ c. search needs)
     (λ c. search needs)

@@ -4,10 +4,12 @@ use mathlib.Core.Path.{_≡_}
 use Prim.Native.Nat.{_+_, _-_, _*_}
 use borrow.Author.Needs.{needs}
 use native.Mathlib.Omega.{arith}
+use Rattle.spec.specs.Demand3Calls.{rowAt}
 use Rattle.products.proofs.row_at.Statement.{statement}
 use Rattle.products.proofs.row_at.Tie as tie
 
 returns : tie.Need-returns
+unfolding rowAt
 returns c =
     let a = c .before .args in
     let e : a .k * a .v + a .v - a .k * a .v ≡ a .v = omega arith in

@@ -1,0 +1,34 @@
+-- The numbers that the table of confirmed rows goes by, each of which stands once more in src/lib.rt for the program. They decide how often a factor
+-- is found, and nothing else.
+-- Assumes nothing.
+use Prim.Native.Nat.{ℕ, _^_, _<_}
+use Rattle.points.specs.declared.Found.{Found}
+use Rattle.points.specs.declared.Found.the-variants.{At, Nothing}
+
+-- The table has this many places, of which so many in a row are looked at.
+abbrev pub tablePlaces : ℕ
+tablePlaces = 16384
+
+abbrev pub placesTried : ℕ
+placesTried = 4
+
+-- This many of a row's first entries decide its place.
+abbrev pub firstEntries : ℕ
+firstEntries = 8
+
+-- There are this many slots, each but the first with room for one generator.
+abbrev pub slots : ℕ
+slots = 16
+
+-- This number stands in a free place or slot, so that no row with it or a greater one is kept.
+abbrev pub unkept : ℕ
+unkept = 65535
+
+-- Numbers that entries are mixed into stay below this, so that no product wraps.
+abbrev pub mixedLimit : ℕ
+mixedLimit = 2 ^ 44
+
+-- A slot that is found is one of them, and nothing is said where none is found.
+abbrev pub SlotFound : Found → Type 0
+SlotFound (At j) = j < slots
+SlotFound Nothing = Unit
