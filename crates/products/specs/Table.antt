@@ -20,10 +20,6 @@ firstEntries = 8
 abbrev pub slots : ℕ
 slots = 16
 
--- This number stands in a free place or slot, so that no row with it or a greater one is kept.
-abbrev pub unkept : ℕ
-unkept = 65535
-
 -- Numbers that entries are mixed into stay below this, so that no product wraps.
 abbrev pub mixedLimit : ℕ
 mixedLimit = 2 ^ 44

@@ -2,6 +2,8 @@
 // group. So nearly every row of a search is settled by comparing it with a product, and only the others are followed element by element.
 use marks::mark;
 use points::Found;
+use points::lookup::FREE;
+use points::lookup::store;
 use points::wide;
 use ranked::ELEMENTS;
 use ranked::Shape;
@@ -17,15 +19,13 @@ ghost use Rattle.spec.specs.Demand3Calls.{rowAt};
 ghost use Rattle.ranked.specs.Words.{sizeAt, absIn};
 ghost use Rattle.marks.specs.Rows.{markOn};
 ghost use Rattle.products.specs.Products.{composed};
-ghost use Rattle.products.specs.Table.{tablePlaces, slots, unkept, mixedLimit, SlotFound};
+ghost use Rattle.products.specs.Table.{tablePlaces, slots, mixedLimit, SlotFound};
 ghost use Rattle.products.specs.Marking.{marksOn, Markable, Factored};
 
 // The table has this many places.
 const PLACES: usize = 16384;
 // This many places in a row are looked at, from the first one on.
 const TRIES: usize = 4;
-// This is the number that stands in a free place or slot.
-const FREE: u16 = 65535;
 // This many of a row's first entries decide its place.
 const ENTRIES: usize = 8;
 // There are this many slots. Each but slot 0 has room for one generator; slot 0 holds the places of a row's own first entries.
@@ -84,21 +84,6 @@ fn place(row: &[u16], cells: &[u16; CELLS], j: usize) -> usize
     (h % PLACES as u64) as usize
 }
 
-// Writes number k to the first free place, if one of the places that are looked at is free.
-fn store(guesses: &mut [u16; PLACES], from: usize, k: usize)
-    requires { ⌜ (from < tablePlaces) × (k < unkept) ⌝ }
-{
-    let mut i: usize = 0;
-    while i < TRIES {
-        let p = (from + i) % PLACES;
-        if guesses[p] == FREE {
-            guesses[p] = k as u16;
-            return;
-        }
-        i += 1;
-    }
-}
-
 // Adds the row, which has number k and mark m, to the table, if the mark confirms it.
 fn keep(row: &[u16], k: usize, m: u8, cells: &[u16; CELLS], guesses: &mut [u16; PLACES]) {
     if m != 1 {
@@ -108,7 +93,7 @@ fn keep(row: &[u16], k: usize, m: u8, cells: &[u16; CELLS], guesses: &mut [u16; 
         return;
     }
     let from = place(row, cells, 0);
-    store(guesses, from, k);
+    store(guesses, from, TRIES, k);
 }
 
 // Returns the slots before there is any generator.
