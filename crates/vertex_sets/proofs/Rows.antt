@@ -9,7 +9,7 @@ use lib.Seq.{take-set-le, getD-set-same, getD-set-other}
 use borrow.Author.Count.{below-more}
 use Rattle.spec.specs.Mark.{vertices}
 use Rattle.ranked.specs.declared.Shape.{Shape}
-use Rattle.ranked.specs.Words.{firstAt, sizeAt, listsOf, absIn, Held}
+use Rattle.ranked.specs.Words.{sizeAt, listsOf, absIn, Held}
 use Rattle.ranked.specs.Layout.{scratchAt, fingerprintsAt}
 use Rattle.ranked.proofs.Solids.{in-order}
 use Rattle.element_types.proofs.Parts.{getD-kept, take-kept}
@@ -94,9 +94,7 @@ module _ {sh : Shape} {old new : List ℕ} {r : ℕ} (t : Round sh old new r) (h
   }
     where
       before : (q : ℕ) → q < r → (e : ℕ) → e < sizeAt sh q → fingerprintsAt sh q + e < fingerprintsAt sh r
-      before q b e i =
-          let y : firstAt sh (suc q) ≤ firstAt sh r = in-order sh (listsOf sh old) h (suc q) r (omega arith) (omega arith) in
-          omega arith
+      before q b e i = omega (arith, in-order sh (listsOf sh old) h (suc q) r b (omega arith))
 
   pub round-end : sh .rank ≤ r → fingerprintsAt sh (suc (sh .rank)) ≤ length old → Fingerprinted sh new
   round-end k room = record {
