@@ -24,8 +24,7 @@ use Rattle.float.proofs.Written.{Written, none, next, end}
 use Rattle.points.proofs.Parts.{part-at, parts-take, part-end}
 use Rattle.ranked.specs.declared.Shape.{Shape}
 use Rattle.ranked.specs.Words.{sizeAt, absIn, Held}
-use Rattle.ranked.specs.Layout.{coordinates}
-use Rattle.ranked.specs.Bench.{solidOn}
+use Rattle.ranked.specs.Layout.{coordinates, solidOn}
 use Rattle.flag.proofs.Flags.{flag-in}
 use Rattle.candidates.specs.Post.{Turned}
 

@@ -22,8 +22,7 @@ use Rattle.laws.proofs.Counts.{keep-in, in-keep, holds-in}
 use Rattle.points.proofs.Parts.{part-at, parts-take}
 use Rattle.ranked.specs.declared.Shape.{Shape}
 use Rattle.ranked.specs.Words.{sizeAt, absIn, Held}
-use Rattle.ranked.specs.Layout.{coordinates}
-use Rattle.ranked.specs.Bench.{solidOn}
+use Rattle.ranked.specs.Layout.{coordinates, solidOn}
 use Rattle.ranked.specs.Marks.{Front}
 use Rattle.ranked.proofs.Solids.{sizes-are}
 use Rattle.geometry.specs.Reading.{pointAt}

@@ -17,8 +17,7 @@ use Rattle.laws.proofs.Lists.{length-table}
 use Rattle.float.proofs.Written.{range-snoc}
 use Rattle.ranked.specs.declared.Shape.{Shape}
 use Rattle.ranked.specs.Words.{firstAt, sizeAt, absIn, Held}
-use Rattle.ranked.specs.Layout.{proper, before, coordinates, classesAt}
-use Rattle.ranked.specs.Bench.{solidOn}
+use Rattle.ranked.specs.Layout.{proper, before, coordinates, classesAt, solidOn}
 use Rattle.ranked.proofs.Solids.{top-is, sizes-are, in-order}
 use Rattle.distances.specs.Listed.{rankDistances, Grown, Classable, Classed}
 use Rattle.distances.proofs.Grown.{grown-none, grown-more}

@@ -12,8 +12,7 @@ use Rattle.spec.specs.Classes.{distanceOf, distances}
 use Rattle.spec.specs.Solid.{Concrete}
 use Rattle.ranked.specs.declared.Shape.{Shape}
 use Rattle.ranked.specs.Words.{Held}
-use Rattle.ranked.specs.Layout.{proper, before, coordinates, classesAt}
-use Rattle.ranked.specs.Bench.{solidOn}
+use Rattle.ranked.specs.Layout.{proper, before, coordinates, classesAt, solidOn}
 
 -- Gives the list that results when distances join the list l one after another.
 unfoldable pub listAfter : List Float → List Float → List Float

@@ -22,10 +22,10 @@ use Rattle.laws.specs.Passed.{Kept}
 use Rattle.laws.proofs.Exchange.{swap-low, size-same, subs-n, subs-other, elements-same, entries-same, bound-same, every-exchange}
 use Rattle.ranked.specs.declared.Shape.{Shape}
 use Rattle.ranked.specs.Words.{firstAt, sizeAt, total, listsOf, listAt, subsIn, absIn, Held}
-use Rattle.ranked.specs.Layout.{supEntriesAt}
+use Rattle.ranked.specs.Layout.{supEntriesAt, solidIn}
 use Rattle.ranked.specs.Derive.{pairs, Stored}
 use Rattle.ranked.specs.Store.{subEntries, lowOf, baseOf}
-use Rattle.ranked.specs.Bench.{solidIn, Bench, Laid}
+use Rattle.ranked.specs.Bench.{Bench, Laid}
 use Rattle.ranked.proofs.Solids.{top-is, size-is, subs-is}
 use Rattle.ranked.proofs.store.Places.{first-le}
 use Rattle.ranked.proofs.Entries.{pairs-are}

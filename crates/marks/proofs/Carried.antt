@@ -25,8 +25,7 @@ use Rattle.points.specs.declared.Found.{Found}
 use Rattle.points.specs.declared.Found.the-variants.{At, Nothing}
 use Rattle.ranked.specs.declared.Shape.{Shape}
 use Rattle.ranked.specs.Words.{firstAt, sizeAt, total, absIn, Held}
-use Rattle.ranked.specs.Layout.{proper, before, classesAt, classAt}
-use Rattle.ranked.specs.Bench.{solidOn}
+use Rattle.ranked.specs.Layout.{proper, before, classesAt, classAt, solidOn}
 use Rattle.ranked.proofs.Solids.{top-is, size-is, sizes-are, in-order, number-in}
 use Rattle.ranked.proofs.Turns.{Every, range-yes, range-no, range-end}
 use Rattle.geometry.specs.Classes.{sameClass}

@@ -15,8 +15,7 @@ use Rattle.spec.specs.Classes.{distances, classTable, byTable}
 use Rattle.spec.specs.Search.{markOf}
 use Rattle.ranked.specs.declared.Shape.{Shape}
 use Rattle.ranked.specs.Words.{firstAt, sizeAt, total, absIn, Held}
-use Rattle.ranked.specs.Layout.{proper, classesAt}
-use Rattle.ranked.specs.Bench.{solidOn}
+use Rattle.ranked.specs.Layout.{proper, classesAt, solidOn}
 
 -- Tells whether the row's entries are all vertices, of which there are as many as entries, and none is there twice.
 unfoldable pub permutes : List ℕ → Bool

@@ -8,23 +8,14 @@ use mathlib.Core.List.{List}
 use lib.ListN.{length, take}
 use lib.Ieee.{Float}
 use Rattle.spec.specs.Types.{elements}
-use Rattle.spec.specs.Copying.{parts}
-use Rattle.spec.specs.Solid.{Concrete, entries, bound, diamond}
+use Rattle.spec.specs.Solid.{entries, bound, diamond}
 use Rattle.ranked.specs.declared.Shape.{Shape}
-use Rattle.ranked.specs.Words.{sizeAt, listsOf, absIn, Held}
-use Rattle.ranked.specs.Layout.{coordinates}
+use Rattle.ranked.specs.Words.{listsOf, absIn, Held}
 use Rattle.ranked.specs.Derive.{Stored}
 use Rattle.ranked.specs.Store.{lowOf}
 unfoldable pub use Rattle.ranked.specs.Store.{baseOf}
 
--- The solid that the lists w hold, with the coordinates that the floats start with.
-abbrev pub solidOn : Shape → List ℕ → List Float → Concrete
-solidOn sh w fs = record { dimension = sh .dimension; points = parts (sizeAt sh 1) (sh .dimension) (take (coordinates sh) fs); abs = absIn sh w }
-
--- The solid that lies in the workspace, its lists in the first words.
-abbrev pub solidIn : Shape → List ℕ → List Float → Concrete
-solidIn sh ws fs = solidOn sh (listsOf sh ws) fs
-
+-- The solid lies in the words and floats, and the workspace has the room that was asked for.
 pub record Bench (sh : Shape) (ws : List ℕ) (fs : List Float) : Type 0 where
   pub held : Held sh (listsOf sh ws)
   pub low-is : sh .low ≡ lowOf sh (entries (absIn sh (listsOf sh ws)))

@@ -4,7 +4,12 @@
 -- Assumes nothing.
 use Prim.Native.Nat.{ℕ, _+_, _-_, _*_, _/_}
 use Rattle.ranked.specs.declared.Shape.{Shape}
-use Rattle.ranked.specs.Words.{firstAt, sizeAt, total}
+use Rattle.ranked.specs.Words.{firstAt, sizeAt, total, listsOf, absIn}
+use mathlib.Core.List.{List}
+use lib.ListN.{take}
+use lib.Ieee.{Float}
+use Rattle.spec.specs.Copying.{parts}
+use Rattle.spec.specs.Solid.{Concrete}
 
 -- The number of proper elements, which are those from rank 1 on and below the top: "E counts proper elements".
 abbrev pub proper : Shape → ℕ
@@ -45,3 +50,13 @@ classesAt sh = coordinates sh + proper sh
 -- The float that holds the class of element e of rank r.
 abbrev pub classAt : Shape → ℕ → ℕ → ℕ
 classAt sh r e = classesAt sh + (before sh r + e)
+
+-- ---- the solid
+
+-- The solid that the lists w hold, with the coordinates that the floats start with.
+abbrev pub solidOn : Shape → List ℕ → List Float → Concrete
+solidOn sh w fs = record { dimension = sh .dimension; points = parts (sizeAt sh 1) (sh .dimension) (take (coordinates sh) fs); abs = absIn sh w }
+
+-- The solid that lies in the workspace, its lists in the first words.
+abbrev pub solidIn : Shape → List ℕ → List Float → Concrete
+solidIn sh ws fs = solidOn sh (listsOf sh ws) fs

@@ -18,7 +18,8 @@ use Rattle.sheet.specs.declared.Verdict.the-variants.{Accepted, Refused}
 use Rattle.ranked.specs.declared.Shape.{Shape}
 use Rattle.ranked.specs.declared.preflight.Ready.{Ready}
 use Rattle.ranked.specs.Store.{shapeOf, Kept}
-use Rattle.ranked.specs.Bench.{solidIn, Bench}
+use Rattle.ranked.specs.Bench.{Bench}
+use Rattle.ranked.specs.Layout.{solidIn}
 
 -- Gives the verdict by itself.
 unfoldable pub verdictOf : Judged Concrete → Verdict

@@ -19,8 +19,7 @@ use Rattle.spec.specs.Classes.{distances, classTable, byTable}
 use Rattle.laws.proofs.Lists.{map-same, length-table, of-range}
 use Rattle.ranked.specs.declared.Shape.{Shape}
 use Rattle.ranked.specs.Words.{firstAt, sizeAt, total, listsOf, absIn, Held}
-use Rattle.ranked.specs.Layout.{proper, before, typesAt, scratchAt}
-use Rattle.ranked.specs.Bench.{solidIn}
+use Rattle.ranked.specs.Layout.{proper, before, typesAt, scratchAt, solidIn}
 use Rattle.ranked.proofs.Solids.{top-is, size-is, in-order}
 use Rattle.geometry.specs.Classes.{sameClass}
 use Rattle.distances.specs.Solids.{beforeIn}

@@ -11,8 +11,8 @@ use Rattle.spec.specs.Types.{start}
 use Rattle.spec.specs.Classes.{classTable, byTable, typesOf}
 use Rattle.ranked.specs.declared.Shape.{Shape}
 use Rattle.ranked.specs.Words.{listsOf, absIn, Held}
-use Rattle.ranked.specs.Layout.{classesAt, scratchAt}
-use Rattle.ranked.specs.Bench.{solidIn, Bench}
+use Rattle.ranked.specs.Layout.{classesAt, scratchAt, solidIn}
+use Rattle.ranked.specs.Bench.{Bench}
 use Rattle.ranked.proofs.Benches.{rows-in}
 use Rattle.distances.specs.Listed.{Classed}
 use Rattle.distances.proofs.Room.{roomy-floats}

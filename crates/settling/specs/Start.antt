@@ -14,8 +14,7 @@ use Rattle.spec.specs.Hull.{classes}
 use Rattle.spec.specs.Classes.{distances, classTable, byTable}
 use Rattle.ranked.specs.declared.Shape.{Shape}
 use Rattle.ranked.specs.Words.{listsOf, absIn}
-use Rattle.ranked.specs.Layout.{proper, scratchAt}
-use Rattle.ranked.specs.Bench.{solidIn}
+use Rattle.ranked.specs.Layout.{proper, scratchAt, solidIn}
 use Rattle.geometry.specs.Classes.{sameClass}
 use Rattle.element_types.specs.State.{stateIn, Sweepable}
 

@@ -10,8 +10,7 @@ use Rattle.spec.specs.Hull.{classes}
 use Rattle.spec.specs.Classes.{distances, classTable, byTable, typesOf}
 use Rattle.ranked.specs.declared.Shape.{Shape}
 use Rattle.ranked.specs.Words.{listsOf, absIn}
-use Rattle.ranked.specs.Layout.{proper, coordinates, classesAt}
-use Rattle.ranked.specs.Bench.{solidIn}
+use Rattle.ranked.specs.Layout.{proper, coordinates, classesAt, solidIn}
 use Rattle.element_types.specs.State.{stateIn, Countable}
 use Rattle.settling.specs.declared.settled.Ending.{Ending}
 use Rattle.settling.specs.Settle.{Started, endOf}

@@ -11,8 +11,7 @@ use Rattle.spec.specs.Types.{size}
 use Rattle.spec.specs.Copying.{parts}
 use Rattle.ranked.specs.declared.Shape.{Shape}
 use Rattle.ranked.specs.Words.{sizeAt, listsOf, absIn}
-use Rattle.ranked.specs.Layout.{coordinates}
-use Rattle.ranked.specs.Bench.{solidIn}
+use Rattle.ranked.specs.Layout.{coordinates, solidIn}
 use Rattle.ranked.proofs.Solids.{size-is}
 use Rattle.ranked.proofs.Benches.{points-in}
 use Rattle.points.proofs.Parts.{length-parts, parts-take}

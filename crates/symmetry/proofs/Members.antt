@@ -14,7 +14,7 @@ use Rattle.laws.proofs.Shapes.{Fit}
 use Rattle.matrix.proofs.Corner.{length-corner}
 use Rattle.ranked.specs.declared.Shape.{Shape}
 use Rattle.ranked.specs.Words.{sizeAt, listsOf, absIn}
-use Rattle.ranked.specs.Bench.{solidIn}
+use Rattle.ranked.specs.Layout.{solidIn}
 use Rattle.symmetry.specs.declared.listing.Tried.{Tried}
 use Rattle.symmetry.specs.declared.listing.Tried.the-variants.{Skipped, Added, Short}
 use Rattle.symmetry.specs.Tails.{settingOf}

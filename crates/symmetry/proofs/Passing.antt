@@ -14,7 +14,7 @@ use Rattle.spec.specs.Copying.{parts, copyRow}
 use Rattle.spec.specs.Search.{rowOf, examplesGo}
 use Rattle.ranked.specs.declared.Shape.{Shape}
 use Rattle.ranked.specs.Words.{sizeAt, listsOf, absIn}
-use Rattle.ranked.specs.Bench.{solidIn}
+use Rattle.ranked.specs.Layout.{solidIn}
 use Rattle.points.specs.Cells.{Tabled}
 use Rattle.points.proofs.Parts.{length-parts}
 use Rattle.points.proofs.Filled.{all-found, row-read}

@@ -19,7 +19,8 @@ use Rattle.spec.specs.Calls.{Room}
 use Rattle.matrix.specs.Reading.{corner}
 use Rattle.ranked.specs.declared.Shape.{Shape}
 use Rattle.ranked.specs.Words.{sizeAt, listsOf, absIn}
-use Rattle.ranked.specs.Bench.{solidIn, Bench}
+use Rattle.ranked.specs.Bench.{Bench}
+use Rattle.ranked.specs.Layout.{solidIn}
 use Rattle.element_types.specs.State.{stateIn, Countable}
 use Rattle.flag.specs.Reading.{flagIn}
 use Rattle.vertex_sets.specs.Fingerprints.{Fingerprinted}

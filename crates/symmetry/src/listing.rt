@@ -9,7 +9,7 @@ ghost use Rattle.spec.specs.Search.{rowOf};
 ghost use Rattle.matrix.specs.Reading.{corner};
 ghost use Rattle.points.specs.Guesses.{Guesses};
 ghost use Rattle.ranked.specs.Words.{sizeAt, listsOf, absIn};
-ghost use Rattle.ranked.specs.Bench.{solidIn};
+ghost use Rattle.ranked.specs.Layout.{solidIn};
 ghost use Rattle.element_types.specs.State.{stateIn};
 ghost use Rattle.flag.specs.Reading.{flagIn};
 ghost use Rattle.symmetry.specs.Listing.{fits};

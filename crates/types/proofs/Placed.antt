@@ -16,7 +16,8 @@ use Rattle.sheet.specs.declared.Verdict.the-variants as verdict
 use Rattle.ranked.specs.declared.Shape.{Shape}
 use Rattle.ranked.specs.declared.preflight.Ready.{Ready}
 use Rattle.ranked.specs.Words.{listsOf, absIn}
-use Rattle.ranked.specs.Bench.{solidIn, Bench}
+use Rattle.ranked.specs.Bench.{Bench}
+use Rattle.ranked.specs.Layout.{solidIn}
 use Rattle.ranked.specs.Preflight.{verdictOf, Preflighted}
 use Rattle.element_types.specs.State.{stateIn}
 use Rattle.settling.specs.declared.settled.Ending.the-variants.{Settled, Changing}

@@ -12,7 +12,8 @@ ghost use lib.ListN.{length};
 ghost use Rattle.spec.specs.declared.Answer.the-variants.{Done};
 ghost use Rattle.spec.specs.Calls.{typesCall};
 ghost use Rattle.spec.specs.Workspace.{Free};
-ghost use Rattle.ranked.specs.Bench.{solidIn, Bench};
+ghost use Rattle.ranked.specs.Bench.{Bench};
+ghost use Rattle.ranked.specs.Layout.{solidIn};
 ghost use Rattle.types.specs.Call.{answered};
 ghost use Rattle.types.specs.Demand3.{Demand3Cells};
 

@@ -15,7 +15,7 @@ use Rattle.spec.specs.Limits.{maxDimension, maxCount}
 use Rattle.spec.specs.Flags.{Flag, IsFlag}
 use Rattle.points.specs.Guesses.{Guesses}
 use Rattle.ranked.specs.Words.{listsOf, absIn}
-use Rattle.ranked.specs.Bench.{solidIn}
+use Rattle.ranked.specs.Layout.{solidIn}
 use Rattle.flag.specs.Reading.{flagIn, moreOf}
 use Rattle.flag.proofs.Numbered.{nth-first, nth-flag}
 use Rattle.symmetry.specs.declared.listing.Tried.the-variants.{Skipped, Added}

@@ -18,7 +18,7 @@ use Rattle.spec.specs.Search.{rowOf}
 use Rattle.matrix.specs.Reading.{corner}
 use Rattle.ranked.specs.declared.Shape.{Shape}
 use Rattle.ranked.specs.Words.{sizeAt}
-use Rattle.ranked.specs.Bench.{solidIn}
+use Rattle.ranked.specs.Layout.{solidIn}
 use Rattle.element_types.specs.State.{stateIn}
 use Rattle.symmetry.specs.Listing.{fits}
 use Rattle.symmetry.specs.Searching.{passing}

@@ -11,7 +11,7 @@ use Rattle.spec.specs.Solid.{Concrete}
 use Rattle.matrix.specs.Reading.{corner}
 use Rattle.ranked.specs.declared.Shape.{Shape}
 use Rattle.ranked.specs.Words.{sizeAt, listsOf}
-use Rattle.ranked.specs.Bench.{solidIn}
+use Rattle.ranked.specs.Layout.{solidIn}
 use Rattle.element_types.specs.State.{stateIn}
 use Rattle.flag.specs.Reading.{flagIn}
 use Rattle.symmetry.proofs.Bounds.{coordinates-in}
