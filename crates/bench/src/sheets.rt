@@ -13,7 +13,7 @@ const FLOATS: usize = 65600;
 
 // Prints the number of the refusal, or 0, and how many words the solid takes.
 fn print(run: Run, sheet: &[u8], words: &mut [u32], floats: &mut [f64]) -> Run {
-    let ready = ranked::preflight::preflight(sheet, words, floats);
+    let ready = preflight::preflight(sheet, words, floats);
     let verdict = ready.verdict;
     let sh = ready.shape;
     let a = writing::bytes(writing::verdict(run, verdict), b" ");
@@ -24,7 +24,7 @@ fn repeat(sheet: &[u8], words: &mut [u32], floats: &mut [f64], times: u64) -> us
     let mut last: usize = 0;
     let mut left = times;
     while left > 0 {
-        let ready = ranked::preflight::preflight(sheet, words, floats);
+        let ready = preflight::preflight(sheet, words, floats);
         let sh = ready.shape;
         last = sh.low;
         left -= 1;

@@ -10,9 +10,10 @@ use native.Mathlib.Omega.{arith}
 use lib.ListN.{length, getD, take, drop, length-append, length-map, take-append-drop}
 use lib.Seq.{take-at, drop-at, drop-cons, drop-drop, drop-length, drop-append-add, take-append-add, take-append-le, length-take-le}
 use lib.Ieee.{Float}
-use Rattle.spec.specs.Lists.{join}
+use Rattle.spec.specs.Lists.{join, parts, written}
 use Rattle.spec.specs.Matrix.{Vector, Matrix, mulVec}
-use Rattle.spec.specs.Copying.{found, spread, copiesFrom, parts, points, matrices, written}
+use Rattle.spec.specs.Copying.{spread, copiesFrom, points, matrices}
+use Rattle.spec.specs.Points.{found}
 use Rattle.laws.proofs.Lists.{getD-map}
 use Rattle.laws.proofs.CopyLaws.{spread-adds}
 use Rattle.points.proofs.Parts.{length-parts, part-at, parts-more, parts-same, join-parts}

@@ -15,11 +15,11 @@ use Rattle.spec.specs.declared.Refusal.{Refusal}
 use Rattle.spec.specs.declared.Refusal.the-variants.{ShortSheet, Open}
 use Rattle.spec.specs.declared.Answer.the-variants.{Done, Refused}
 use Rattle.spec.specs.Limits.{maxCount}
-use Rattle.spec.specs.Lists.{join, holds}
+use Rattle.spec.specs.Lists.{join, holds, written}
 use Rattle.spec.specs.Matrix.{Vector, Matrix}
 use Rattle.spec.specs.Judged.{refused, passed}
 use Rattle.spec.specs.Copying
-use Rattle.spec.specs.Copying.{copies, matrices, copyTable, written, judgeCopy, copyOut, copyCall}
+use Rattle.spec.specs.Copying.{copies, matrices, copyTable, judgeCopy, copyOut, copyCall}
 use Rattle.laws.proofs.CopyLaws.{table-length}
 use Rattle.points.proofs.Parts.{length-parts}
 use Rattle.copying.proofs.Tables.{filled-is}

@@ -8,9 +8,9 @@ use native.Mathlib.Omega.{arith}
 use lib.ListN.{length, getD, take, drop, length-map, length-replicate, replicate}
 use lib.Seq.{take-at, drop-drop, length-take-le, drop-append-add}
 use borrow.Rule.Slice.PartMut.{midOf, putMid}
-use Rattle.spec.specs.Lists.{join}
+use Rattle.spec.specs.Lists.{join, written}
 use Rattle.spec.specs.Matrix.{Vector, Matrix}
-use Rattle.spec.specs.Copying.{copyRow, copyTable, written}
+use Rattle.spec.specs.Copying.{copyRow, copyTable}
 use Rattle.laws.proofs.Lists.{getD-map}
 use Rattle.laws.proofs.CopyLaws.{Wide, wide-join}
 use Rattle.points.specs.Cells.{Closed, Opened}

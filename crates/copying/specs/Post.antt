@@ -11,9 +11,10 @@ use Rattle.copying.specs.declared.judging.Judgement.the-variants.{Passed
 use Rattle.copying.specs.declared.joining.Room.{Room}
 use Rattle.copying.specs.declared.joining.Room.the-variants as room
 use Rattle.spec.specs.Judged.{Judged, refused, passed}
-use Rattle.spec.specs.Lists.{join}
+use Rattle.spec.specs.Lists.{join, parts, written}
 use Rattle.spec.specs.Matrix.{Vector, Matrix}
-use Rattle.spec.specs.Copying.{found, spread, parts, written}
+use Rattle.spec.specs.Copying.{spread}
+use Rattle.spec.specs.Points.{found}
 
 -- Gives the judgement that an answer of the code stands for.
 abbrev pub judgementOf : Judgement → Judged (Unit {0})

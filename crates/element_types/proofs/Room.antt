@@ -20,10 +20,10 @@ use Rattle.laws.proofs.Counts.{numbers, sum-le, in-keep, once-keep, in-holds}
 use Rattle.laws.proofs.Carry.{rising-once}
 use Rattle.ranked.specs.declared.Shape.{Shape}
 use Rattle.ranked.specs.Words.{firstAt, sizeAt, total, listsOf, absIn, Held}
-use Rattle.ranked.specs.Store.{subEntries, lowOf}
+use Rattle.preflight.specs.Store.{subEntries, lowOf}
 use Rattle.ranked.proofs.Solids.{top-is, size-is}
-use Rattle.ranked.proofs.Entries.{sub-entries-is}
-use Rattle.ranked.proofs.Benches.{proper-few}
+use Rattle.preflight.proofs.Entries.{sub-entries-is}
+use Rattle.preflight.proofs.Benches.{proper-few}
 use Rattle.element_types.specs.State.{entries, needed, Sweepable}
 
 -- ---- sums

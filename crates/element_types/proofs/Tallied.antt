@@ -10,8 +10,7 @@ use lib.Dec.{eqb}
 use lib.ListN.{length, getD, take, drop, length-take, length-drop}
 use lib.Seq.{getD-take, getD-drop}
 use Rattle.spec.specs.Lists.{In, distinct, range, sum}
-use Rattle.spec.specs.Types.{typesAt, properRanks, typeCount}
-use Rattle.spec.specs.Types.{inUse}
+use Rattle.spec.specs.Types.{typesAt, properRanks, typeCount, inUse}
 use Rattle.laws.proofs.Lists.{in-getD, in-place, map-same, getD-table, in-range, of-range}
 use Rattle.laws.proofs.Distinct.{pigeons, in-distinct, of-distinct, once-distinct}
 use Rattle.laws.proofs.Counts.{numbers}

@@ -5,8 +5,7 @@ use Prim.Native.Nat.{ℕ, suc, _+_, _-_, _*_, _^_, _≤_, _<_}
 use lib.ListN.{length, take, drop}
 use Rattle.spec.specs.Limits.{maxRank}
 use Rattle.spec.specs.Lists.{range, renumber, eqList, sum}
-use Rattle.spec.specs.Types.{Solid, size, State, Step, up, down, at, neighbours}
-use Rattle.spec.specs.Types.{Numbered}
+use Rattle.spec.specs.Types.{Solid, size, State, Step, up, down, at, neighbours, Numbered}
 use Rattle.ranked.specs.declared.Shape.{Shape}
 use Rattle.ranked.specs.Words.{firstAt, sizeAt, listsOf, absIn, Held}
 use Rattle.ranked.specs.Layout.{typesAt, scratchAt}

@@ -4,6 +4,7 @@
 pub mod compare;
 pub mod counting;
 pub mod numbering;
+pub mod settling;
 pub mod sorting;
 pub mod stepping;
 pub mod sweeping;

@@ -1,2 +1,4 @@
 pub mod Reading
 pub mod Classes
+pub mod Solids
+pub mod Listed

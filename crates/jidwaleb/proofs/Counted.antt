@@ -14,10 +14,10 @@ use Rattle.spec.specs.declared.Answer.the-variants.{Done, Refused}
 use Rattle.spec.specs.Refusal.{answerCount}
 use Rattle.spec.specs.Limits.{maxCount}
 use Rattle.spec.specs.Judged.{Judged, refused, passed}
-use Rattle.spec.specs.Lists.{holds, join}
+use Rattle.spec.specs.Lists.{holds, join, written}
 use Rattle.spec.specs.Matrix.{Vector, Matrix}
 use Rattle.spec.specs.Calls.{TypesOut, typesCall}
-use Rattle.spec.specs.Copying.{copies, points, matrices, copyTable, written, judgeCopy, copyOut, copyCall}
+use Rattle.spec.specs.Copying.{copies, points, matrices, copyTable, judgeCopy, copyOut, copyCall}
 use Rattle.laws.proofs.Accepted.{le-test}
 use Rattle.types.proofs.Few.{call-count}
 

@@ -13,11 +13,10 @@ use Rattle.spec.specs.declared.Refusal.the-variants.{NotFull, DoubleCorner, Cen
 use Rattle.spec.specs.declared.Answer.the-variants.{Done, Refused}
 use Rattle.spec.specs.Refusal.{answerCount}
 use Rattle.spec.specs.Limits.{maxEntries}
-use Rattle.spec.specs.Lists.{range}
+use Rattle.spec.specs.Lists.{range, noRepeats}
 use Rattle.spec.specs.Types.{top, size}
-use Rattle.spec.specs.Mark.{noRepeats}
 use Rattle.spec.specs.Matrix.{inverse}
-use Rattle.spec.specs.Copying.{near}
+use Rattle.spec.specs.Points.{near}
 use Rattle.spec.specs.Judged as Judging
 use Rattle.spec.specs.Judged.{Judged, refused, passed}
 use Rattle.spec.specs.Solid.{Concrete, entries, preflight}

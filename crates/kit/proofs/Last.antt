@@ -13,12 +13,11 @@ use Rattle.spec.specs.declared.Refusal.the-variants.{Blank, ShortSheet}
 use Rattle.spec.specs.declared.Answer.{Answer}
 use Rattle.spec.specs.declared.Answer.the-variants.{Done, Refused}
 use Rattle.spec.specs.Limits.{maxDimension}
-use Rattle.spec.specs.Lists.{In, sum, join}
+use Rattle.spec.specs.Lists.{In, sum, join, parts}
 use Rattle.spec.specs.Judged.{Judged, refused, passed}
 use Rattle.spec.specs.Sheet.{readSheet}
 use Rattle.spec.specs.Solid.{Concrete}
 use Rattle.spec.specs.Search.{Member}
-use Rattle.spec.specs.Copying.{parts}
 use Rattle.spec.specs.Calls.{Room, Outcome, fitting, keptOf, outcome, membersIn, SearchOut, roomOf, searchWritten, searchCall}
 use Rattle.spec.specs.KitText.{refusedLine, membersLine, lastLine, lent, workWords, workFloats}
 use Rattle.laws.proofs.Accepted.{same, every-passed}

@@ -11,10 +11,9 @@ use Rattle.spec.specs.declared.Refusal.{Refusal}
 use Rattle.spec.specs.declared.Refusal.the-variants.{CutSheet}
 use Rattle.spec.specs.declared.Answer.{Answer}
 use Rattle.spec.specs.declared.Answer.the-variants.{Done, Refused}
-use Rattle.spec.specs.Lists.{join}
+use Rattle.spec.specs.Lists.{join, written}
 use Rattle.spec.specs.Types.{ElementType}
 use Rattle.spec.specs.Judged.{Judged, refused, passed}
-use Rattle.spec.specs.Copying.{written}
 use Rattle.spec.specs.Calls.{Given, typeCells, TypesOut, typesGiven, typesWritten, typesCall, outcome, membersIn}
 use Rattle.spec.specs.KitText.{refusedLine, typesLines, lastLine, afterTypes, kitText, elementCells, typeRecords, lent, workWords, workFloats, longest}
 use Rattle.laws.proofs.CallProofs.{behind}

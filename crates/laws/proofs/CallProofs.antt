@@ -20,14 +20,14 @@ use Rattle.spec.specs.declared.Refusal.the-variants.{CutSheet, Format, OffTheBo
 use Rattle.spec.specs.declared.Answer.{Answer}
 use Rattle.spec.specs.declared.Answer.the-variants.{Done, Refused}
 use Rattle.spec.specs.Limits.{maxDimension, maxCount}
-use Rattle.spec.specs.Lists.{holds, join, every}
+use Rattle.spec.specs.Lists.{holds, join, every, written}
 use Rattle.spec.specs.Float.{inRange}
 use Rattle.spec.specs.Matrix.{Vector, Matrix}
 use Rattle.spec.specs.Types.{State, given, elementTypes}
 use Rattle.spec.specs.Classes.{typesOf}
 use Rattle.spec.specs.Judged as Judging
 use Rattle.spec.specs.Judged.{Judged, refused, passed}
-use Rattle.spec.specs.Copying.{copies, copyTable, points, matrices, written, judgeCopy, copyOut, copyCall}
+use Rattle.spec.specs.Copying.{copies, copyTable, points, matrices, judgeCopy, copyOut, copyCall}
 use Rattle.spec.specs.Solid.{Concrete, preflight}
 use Rattle.spec.specs.Search.{Member}
 use Rattle.spec.specs.Calls.{Given, typeCells, TypesOut, typesGiven, typesWritten, typesCall, Room, Outcome, haveRoom, fitting, keptOf, outcome, membersIn, rotationsIn, SearchOut, roomOf, searchWritten, searchCall, rotationsCall}

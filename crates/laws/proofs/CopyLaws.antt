@@ -10,10 +10,11 @@ use mathlib.Core.List.{List, [], _∷_, _++_, map, append-assoc, append-nil}
 use lib.ListN.{length, getD, take, drop, length-append, length-drop, length-take, length-map}
 use lib.Dec.{eqb}
 use lib.Ieee.{Float}
-use Rattle.spec.specs.Lists.{In, place, holds, join}
+use Rattle.spec.specs.Lists.{In, place, holds, join, parts, written}
 use Rattle.spec.specs.Float.{dot}
 use Rattle.spec.specs.Matrix.{Vector, Matrix, mulVec}
-use Rattle.spec.specs.Copying.{near, found, find, spread, copiesFrom, copies, copyRow, copyTable, parts, points, matrices, written}
+use Rattle.spec.specs.Copying.{spread, copiesFrom, copies, copyRow, copyTable, points, matrices}
+use Rattle.spec.specs.Points.{near, found, find}
 use Rattle.laws.specs.CallLaws.{Closed, NotClosed, EveryFind}
 use Rattle.laws.proofs.Lists.{map-in, in-map}
 use Rattle.laws.proofs.Counts.{holds-in, in-holds}

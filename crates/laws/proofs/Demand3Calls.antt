@@ -11,12 +11,11 @@ use lib.ListN.{length, getD, take, drop, length-map, List·getD-append}
 use lib.Seq.{take-at, drop-append-add}
 use lib.Dec.{ltb}
 use Rattle.spec.specs.declared.Answer.the-variants.{Done}
-use Rattle.spec.specs.Lists.{In, join}
+use Rattle.spec.specs.Lists.{In, join, written}
 use Rattle.spec.specs.Types.{State, start, play}
 use Rattle.spec.specs.Mark.{marked}
 use Rattle.spec.specs.Demand.{Agree}
 use Rattle.spec.specs.Judged.{Judged, refused, passed}
-use Rattle.spec.specs.Copying.{written}
 use Rattle.spec.specs.Solid.{Concrete, preflight}
 use Rattle.spec.specs.Classes.{classTable, byTable, typesOf}
 use Rattle.spec.specs.Search.{Member}

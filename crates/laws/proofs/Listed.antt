@@ -11,11 +11,11 @@ use lib.ListN.{length}
 use lib.Dec.{ltb}
 use Rattle.spec.specs.declared.Refusal.the-variants.{NotFull, DoubleCorner, Centred, Flat, ShortSheet, Unsettled}
 use Rattle.spec.specs.declared.Answer.the-variants.{Done, Refused}
-use Rattle.spec.specs.Lists.{In, range, every}
+use Rattle.spec.specs.Lists.{In, range, every, noRepeats}
 use Rattle.spec.specs.Types.{Solid, top, size, Classes}
-use Rattle.spec.specs.Mark.{noRepeats, marked}
+use Rattle.spec.specs.Mark.{marked}
 use Rattle.spec.specs.Matrix.{Matrix, inverse}
-use Rattle.spec.specs.Copying.{near}
+use Rattle.spec.specs.Points.{near}
 use Rattle.spec.specs.Judged as Judging
 use Rattle.spec.specs.Judged.{Judged, refused, passed}
 use Rattle.spec.specs.Solid.{Concrete, preflight}

@@ -13,7 +13,7 @@ use lib.Ieee.{Float, binary64, toBits}
 use borrow.Author.Tests.{lt-ltb, le-ltb, le-leb, lt-leb}
 use Rattle.spec.specs.Limits.{maxDimension}
 use Rattle.spec.specs.declared.Refusal.the-variants.{NotFull}
-use Rattle.spec.specs.Lists.{In, range, every, sum, join}
+use Rattle.spec.specs.Lists.{In, range, every, sum, join, written}
 use Rattle.spec.specs.Types.{Solid, State, typesAt, top, size, properRanks, elements, given, elementTypesAt, elementTypes}
 use Rattle.spec.specs.Judged as Judging
 use Rattle.spec.specs.Judged.{refused, passed}
@@ -21,7 +21,6 @@ use Rattle.spec.specs.Sheet.{Parsed, vertexCount, readSheet}
 use Rattle.spec.specs.Pack.{bitsOf, pointBits, rankBits, packBits}
 use Rattle.spec.specs.Solid.{Concrete, solidOf, entries, roomy, bound, diamond, preflight}
 use Rattle.spec.specs.Classes.{typesOf}
-use Rattle.spec.specs.Copying.{written}
 use Rattle.spec.specs.Search.{full, setting, search}
 use Rattle.spec.specs.Calls.{typesGiven, typesWritten, typesCall, outcome, membersIn, rotationsIn, searchWritten, searchCall, rotationsCall}
 use Rattle.spec.specs.Ascii.{ascii}

@@ -9,10 +9,10 @@ use native.Mathlib.Omega.{arith}
 use native.Mathlib.Nat.{not-suc-le-zero}
 use lib.ListN.{length, getD}
 use lib.Dec.{T, eqb, ltb, ltb→lt}
-use Rattle.spec.specs.Lists.{In, holds, place, eqList, range, keep, every}
-use Rattle.spec.specs.Types.{Solid, top, size, subs, properRanks, isProper, Classes}
+use Rattle.spec.specs.Lists.{In, holds, place, eqList, range, keep, every, noRepeats, inOrder}
+use Rattle.spec.specs.Types.{Solid, top, size, subs, properRanks, isProper, Classes, reach, vertices, vertexSets}
 use Rattle.spec.specs.Demand.{Sound, Proper, Carries}
-use Rattle.spec.specs.Mark.{noRepeats, inOrder, reach, vertices, vertexSets, setsApart, image, goes, carriesElement, marked}
+use Rattle.spec.specs.Mark.{setsApart, image, goes, carriesElement, marked}
 use Rattle.laws.proofs.Distinct.{Test, Once, Split, split, in?, place-at}
 use Rattle.laws.proofs.Lists.{in-getD, map-in, in-map, in-range, of-range, getD-table, length-table}
 use Rattle.laws.proofs.Counts.{numbers, lists, keep-in, in-keep, holds-in, in-holds}

@@ -17,14 +17,14 @@ use Rattle.spec.specs.declared.Answer.{Answer}
 use Rattle.spec.specs.declared.Answer.the-variants.{Done, Refused}
 use Rattle.spec.specs.Refusal.{number}
 use Rattle.spec.specs.Bits.{field}
-use Rattle.spec.specs.Lists.{holds, join}
+use Rattle.spec.specs.Lists.{holds, join, written}
 use Rattle.spec.specs.Matrix.{Vector, Matrix}
 use Rattle.spec.specs.Judged as Judging
 use Rattle.spec.specs.Judged.{Judged, refused, passed}
 use Rattle.spec.specs.Sheet.{Parsed, Reader, _>>=_, _>>_, done, judge, times, bits, rank, dimension, count, coordinate, subList, list, listsAt, lists, end, sheet, readSheet, vertexCount}
 use Rattle.spec.specs.Solid.{Concrete, preflight}
 use Rattle.spec.specs.Classes.{byTable, classTable, typesOf}
-use Rattle.spec.specs.Copying.{copyTable, written, judgeCopy, copyOut, copyCall}
+use Rattle.spec.specs.Copying.{copyTable, judgeCopy, copyOut, copyCall}
 use Rattle.spec.specs.Search.{Member, setting, search}
 use Rattle.spec.specs.Calls.{Given, TypesOut, typesGiven, typesWritten, typesCall, Room, Outcome, keptOf, outcome, membersIn, rotationsIn, roomOf, searchWritten, searchCall, rotationsCall}
 use Rattle.laws.specs.TypeLaws.{NotUnsettled, NeverUnsettled}

@@ -14,12 +14,11 @@ use lib.Ieee.{eq}
 use Rattle.spec.specs.declared.Refusal.{Refusal}
 use Rattle.spec.specs.declared.Refusal.the-variants.{NotFull, DoubleCorner, Centred, Flat, ShortSheet, Unsettled}
 use Rattle.spec.specs.declared.Answer.the-variants.{Done, Refused}
-use Rattle.spec.specs.Lists.{In, range, join, every}
+use Rattle.spec.specs.Lists.{In, range, join, every, noRepeats}
 use Rattle.spec.specs.Types.{ElementType, top, size}
-use Rattle.spec.specs.Mark.{noRepeats}
 use Rattle.spec.specs.Float.{zeroF, zip, dot}
 use Rattle.spec.specs.Matrix.{Matrix, Vector, row, entry, columns, mulMat, identity, Work, pivotRow, swapRows, clear, column, eliminate, gaussJordan, inverse}
-use Rattle.spec.specs.Copying.{near}
+use Rattle.spec.specs.Points.{near}
 use Rattle.spec.specs.Judged as Judging
 use Rattle.spec.specs.Judged.{Judged, refused, passed}
 use Rattle.spec.specs.Solid.{Concrete, preflight}

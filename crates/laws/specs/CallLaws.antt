@@ -15,7 +15,7 @@ use Rattle.spec.specs.declared.Refusal.the-variants.{NotFull, ShortSheet, Open}
 use Rattle.spec.specs.declared.Answer.{Answer}
 use Rattle.spec.specs.declared.Answer.the-variants.{Done, Refused}
 use Rattle.spec.specs.Limits.{maxCount}
-use Rattle.spec.specs.Lists.{In, join}
+use Rattle.spec.specs.Lists.{In, join, written}
 use Rattle.spec.specs.Types.{State, given, elementTypes}
 use Rattle.spec.specs.Matrix.{Vector, Matrix, mulVec}
 use Rattle.spec.specs.Judged.{Judged, passed}
@@ -23,7 +23,8 @@ use Rattle.spec.specs.Sheet.{Parsed, readSheet}
 use Rattle.spec.specs.Solid.{Concrete, preflight}
 use Rattle.spec.specs.Classes.{typesOf}
 use Rattle.spec.specs.Search.{Member}
-use Rattle.spec.specs.Copying.{near, found, find, copies, copyTable, points, matrices, written, copyCall}
+use Rattle.spec.specs.Copying.{copies, copyTable, points, matrices, copyCall}
+use Rattle.spec.specs.Points.{near, found, find}
 use Rattle.spec.specs.Calls.{Given, typeCells, TypesOut, typesCall, haveRoom, membersIn, rotationsIn, SearchOut, roomOf, searchCall, rotationsCall}
 use Rattle.spec.specs.Workspace.{SameLength}
 

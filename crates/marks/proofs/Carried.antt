@@ -11,12 +11,12 @@ use lib.Seq.{getD-take, getD-drop, getD-set-same, getD-set-other}
 use lib.Dec.{eqb}
 use lib.Ieee.{Float, nan}
 use Rattle.spec.specs.Limits.{maxRank, maxCount}
-use Rattle.spec.specs.Lists.{eqList, range, every}
-use Rattle.spec.specs.Types.{size, properRanks, Classes}
+use Rattle.spec.specs.Lists.{eqList, range, every, noRepeats}
+use Rattle.spec.specs.Types.{size, properRanks, Classes, vertexSets}
 use Rattle.spec.specs.Demand.{Proper}
 use Rattle.spec.specs.Hull.{classes}
 use Rattle.spec.specs.Classes.{distances}
-use Rattle.spec.specs.Mark.{noRepeats, vertexSets, goes, carriesElement}
+use Rattle.spec.specs.Mark.{goes, carriesElement}
 use Rattle.laws.proofs.Distinct.{Once}
 use Rattle.laws.proofs.Counts.{lists}
 use Rattle.laws.proofs.Result.{proper-rank}
@@ -29,8 +29,8 @@ use Rattle.ranked.specs.Layout.{proper, before, classesAt, classAt, solidOn}
 use Rattle.ranked.proofs.Solids.{top-is, size-is, sizes-are, in-order, number-in}
 use Rattle.ranked.proofs.Turns.{Every, range-yes, range-no, range-end}
 use Rattle.geometry.specs.Classes.{sameClass}
-use Rattle.distances.specs.Solids.{beforeIn}
-use Rattle.distances.proofs.ClassCells.{same-class-at, before-is}
+use Rattle.geometry.specs.Solids.{beforeIn}
+use Rattle.geometry.proofs.elements.ClassCells.{same-class-at, before-is}
 use Rattle.marks.specs.Rises.{risesTo, Reached, Landed}
 use Rattle.marks.specs.Rows.{classesOn, ClassesIn, Row, Images, Rank}
 use Rattle.marks.proofs.Rises.{vertex-reached, reached}

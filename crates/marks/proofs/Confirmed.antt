@@ -7,9 +7,9 @@ use Prim.Native.Nat.{ℕ}
 use lib.ListN.{length}
 use lib.Dec.{eqb, ltb}
 use borrow.Author.Tests.{eq-eqb}
-use Rattle.spec.specs.Lists.{range, every}
+use Rattle.spec.specs.Lists.{range, every, noRepeats}
 use Rattle.spec.specs.Types.{Solid, size, properRanks, Classes}
-use Rattle.spec.specs.Mark.{noRepeats, setsApart, carriesElement, marked}
+use Rattle.spec.specs.Mark.{setsApart, carriesElement, marked}
 use Rattle.spec.specs.Search.{markOf}
 use Rattle.marks.specs.Rows.{permutes}
 

@@ -10,10 +10,10 @@ use native.Mathlib.Nat.{not-suc-le-zero}
 use lib.ListN.{length, getD}
 use lib.Dec.{eqb, ltb}
 use borrow.Author.Tests.{lt-ltb}
-use Rattle.spec.specs.Lists.{In, place, eqList, keep}
-use Rattle.spec.specs.Types.{Solid, size, subs, sups, Classes}
+use Rattle.spec.specs.Lists.{In, place, eqList, keep, inOrder}
+use Rattle.spec.specs.Types.{Solid, size, subs, sups, Classes, reach, vertices, vertexSets}
 use Rattle.spec.specs.Demand.{Rising, Sound, Proper}
-use Rattle.spec.specs.Mark.{inOrder, reach, vertices, vertexSets, image, goes, carriesElement}
+use Rattle.spec.specs.Mark.{image, goes, carriesElement}
 use Rattle.laws.proofs.Distinct.{Once}
 use Rattle.laws.proofs.Lists.{in-getD, map-in, in-map, map-same, once-map}
 use Rattle.laws.proofs.Counts.{lists, keep-in, in-keep}

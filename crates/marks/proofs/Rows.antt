@@ -10,8 +10,7 @@ use lib.ListN.{length, getD, set, replicate, length-set, length-replicate}
 use lib.Seq.{getD-set-same, getD-set-other}
 use lib.Dec.{eqb, ltb}
 use borrow.Author.Tests.{lt-ltb}
-use Rattle.spec.specs.Lists.{In, place, holds, every}
-use Rattle.spec.specs.Mark.{noRepeats}
+use Rattle.spec.specs.Lists.{In, place, holds, every, noRepeats}
 use Rattle.laws.proofs.Distinct.{Once}
 use Rattle.laws.proofs.Lists.{in-getD, in-place}
 use Rattle.laws.proofs.Counts.{numbers, in-holds}

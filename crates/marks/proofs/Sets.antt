@@ -9,9 +9,8 @@ use native.Mathlib.Omega.{arith}
 use native.Mathlib.Nat.{le-antisymm}
 use lib.ListN.{length, length-map}
 use lib.Dec.{eqb}
-use Rattle.spec.specs.Lists.{In, holds, range, keep, every}
+use Rattle.spec.specs.Lists.{In, holds, range, keep, every, inOrder}
 use Rattle.spec.specs.Demand.{RisingAbove, Rising}
-use Rattle.spec.specs.Mark.{inOrder}
 use Rattle.laws.proofs.Distinct.{Once, pigeons, in?}
 use Rattle.laws.proofs.Lists.{map-in, in-map}
 use Rattle.laws.proofs.Counts.{numbers, holds-in, in-holds}

@@ -7,9 +7,9 @@ use mathlib.Core.List.{List}
 use lib.ListN.{length, getD, take, drop}
 use lib.Dec.{eqb, ltb}
 use lib.Ieee.{Float}
-use Rattle.spec.specs.Lists.{range, every}
+use Rattle.spec.specs.Lists.{range, every, noRepeats}
 use Rattle.spec.specs.Types.{size, Classes}
-use Rattle.spec.specs.Mark.{noRepeats, setsApart, goes, carriesElement}
+use Rattle.spec.specs.Mark.{setsApart, goes, carriesElement}
 use Rattle.spec.specs.Hull.{classes}
 use Rattle.spec.specs.Classes.{distances, classTable, byTable}
 use Rattle.spec.specs.Search.{markOf}

@@ -25,6 +25,8 @@ use ranked::Shape;
 use ranked::lists;
 use spec::MAX_COUNT;
 
+pub mod products;
+
 // This is the mark of a confirmed row: "The mark (added) is confirmed, 1".
 const CONFIRMED: u8 = 1;
 

@@ -11,9 +11,10 @@ use lib.ListN.{length, getD, set, take, drop, length-map, take-append-drop}
 use lib.Seq.{take-at, drop-at, take-add, take-length, drop-cons, drop-drop, set-split, length-take-le}
 use lib.Dec.{eqb, ltb}
 use borrow.Author.Tests.{eq-eqb, ne-eqb, lt-ltb, le-ltb}
-use Rattle.spec.specs.Lists.{holds, every}
+use Rattle.spec.specs.Lists.{holds, every, written}
 use Rattle.spec.specs.Matrix.{Vector, Matrix, mulVec}
-use Rattle.spec.specs.Copying.{find, found, copyRow, written}
+use Rattle.spec.specs.Copying.{copyRow}
+use Rattle.spec.specs.Points.{find, found}
 use Rattle.laws.proofs.Lists.{getD-map}
 use Rattle.laws.proofs.CopyLaws.{found-near, not-found}
 use Rattle.points.specs.Cells.{Closed, Opened, Tabled}

@@ -9,7 +9,7 @@ use lib.ListN.{length}
 use lib.Dec.{ltb}
 use borrow.Author.Tests.{lt-ltb, le-ltb, ltb-true, ltb-false}
 use Rattle.spec.specs.Matrix.{Vector}
-use Rattle.spec.specs.Copying.{found, find}
+use Rattle.spec.specs.Points.{found, find}
 use Rattle.laws.proofs.CopyLaws.{found-near, not-found}
 use Rattle.points.specs.declared.Found.{Found}
 use Rattle.points.specs.declared.Found.the-variants.{At, Nothing}

@@ -9,7 +9,8 @@ use native.Mathlib.Omega.{arith}
 use lib.ListN.{length, getD, take, drop}
 use lib.Ieee.{Float}
 use Rattle.spec.specs.Matrix.{Vector}
-use Rattle.spec.specs.Copying.{near, find, parts}
+use Rattle.spec.specs.Points.{near, find}
+use Rattle.spec.specs.Lists.{parts}
 use Rattle.points.specs.Guesses.{Lone}
 use Rattle.points.proofs.Parts.{length-parts, part-at, part-long}
 use Rattle.points.proofs.Nearness.{FoundFrom, found-none, found-on, found-here}

@@ -11,7 +11,7 @@ use borrow.Author.Count.{below-more}
 use Rattle.spec.specs.Limits.{maxCount}
 use Rattle.spec.specs.Float.{absF, minus}
 use Rattle.spec.specs.Matrix.{Vector}
-use Rattle.spec.specs.Copying.{parts}
+use Rattle.spec.specs.Lists.{parts}
 use Rattle.points.proofs.Parts.{length-parts, part-at}
 use Rattle.points.proofs.Nearness.{part-wide}
 use Rattle.points.specs.Guesses.{wideF, within, Clear, Lone, places, free, Guesses}

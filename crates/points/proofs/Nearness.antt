@@ -11,10 +11,10 @@ use lib.ListN.{length, getD, take, drop, length-drop}
 use lib.Seq.{drop-cons, drop-length, getD-take, getD-drop, length-take-le}
 use lib.Ieee.{Float, nan, inf, fin, ofBits, le}
 use Rattle.spec.specs.Limits.{maxMagnitude}
-use Rattle.spec.specs.Lists.{place}
+use Rattle.spec.specs.Lists.{place, parts}
 use Rattle.spec.specs.Float.{eps, absF, minus, finite, inRange}
 use Rattle.spec.specs.Matrix.{Vector}
-use Rattle.spec.specs.Copying.{near, find, parts}
+use Rattle.spec.specs.Points.{near, find}
 
 -- What is not finite is not at most the largest magnitude.
 pub in-range-is : (x : Float) → le (absF x) maxMagnitude ≡ inRange x

@@ -7,8 +7,7 @@ use native.Mathlib.Nat.{zero-mul, suc-mul, add-comm, add-mul, mul-assoc, mul-le-
 use native.Mathlib.Omega.{arith}
 use lib.ListN.{length, getD, take, drop, length-drop}
 use lib.Seq.{ext-getD, take-add, take-take, drop-drop, length-take-le}
-use Rattle.spec.specs.Lists.{join, range}
-use Rattle.spec.specs.Copying.{parts}
+use Rattle.spec.specs.Lists.{join, range, parts}
 use Rattle.laws.proofs.Lists.{getD-table, length-table}
 use Rattle.float.proofs.Written.{drop-take}
 

@@ -8,7 +8,7 @@ use native.Mathlib.Omega.{arith}
 use lib.ListN.{length, getD, set, take, drop, length-append, length-drop, drop-of-length-le}
 use lib.Seq.{take-all, take-suc, drop-cons, drop-drop, take-append-seam, drop-append-seam, set-at, append-snoc, length-take-le}
 use borrow.Rule.Slice.PartMut.{midOf, postOf, putMid}
-use Rattle.spec.specs.Copying.{written}
+use Rattle.spec.specs.Lists.{written}
 
 module _ {A : Type 0} (l ys : List A) (k : ℕ) (h : k ≤ length l) where
   pub tail-is : midOf k (length l - k) l ≡ drop k l

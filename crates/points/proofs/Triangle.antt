@@ -18,7 +18,7 @@ use lib.Ieee.Positive.{num, den, den-pos, positive, between, le-trans-positive}
 use lib.Ieee.Scale.{finite}
 use Rattle.spec.specs.Float.{eps, absF, minus}
 use Rattle.spec.specs.Matrix.{Vector}
-use Rattle.spec.specs.Copying.{near}
+use Rattle.spec.specs.Points.{near}
 use Rattle.points.specs.Guesses.{wideF, within}
 
 -- Tells whether the magnitude of the float x - y is at most w.

@@ -6,8 +6,7 @@ use mathlib.Core.List.{List}
 use Prim.Native.Nat.{ℕ}
 use lib.ListN.{length, drop}
 use lib.Dec.{eqb}
-use Rattle.spec.specs.Lists.{holds}
-use Rattle.spec.specs.Copying.{written}
+use Rattle.spec.specs.Lists.{holds, written}
 
 -- The numbers `new` are a buffer's first cells, and none of them is x.
 pub record Closed (x : ℕ) (new before after : List ℕ) : Type 0 where

@@ -6,5 +6,3 @@ pub mod Parts
 pub mod Between
 pub mod Judged
 pub mod Walked
-pub mod Entries
-pub mod Benches

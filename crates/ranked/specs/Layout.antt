@@ -8,7 +8,7 @@ use Rattle.ranked.specs.Words.{firstAt, sizeAt, total, listsOf, absIn}
 use mathlib.Core.List.{List}
 use lib.ListN.{take}
 use lib.Ieee.{Float}
-use Rattle.spec.specs.Copying.{parts}
+use Rattle.spec.specs.Lists.{parts}
 use Rattle.spec.specs.Solid.{Concrete}
 
 -- The number of proper elements, which are those from rank 1 on and below the top: "E counts proper elements".

@@ -167,8 +167,5 @@ impl Shape {
     }
 }
 
-mod check;
 pub mod lists;
-pub mod preflight;
-pub mod store;
 pub mod vertices;

@@ -15,7 +15,7 @@ const FLOATS: usize = 16448;
 // Reads a sheet that just fills its slice, and judges it.
 fn judge(run: Run, sheet: &mut [u8], words: &mut [u32], floats: &mut [f64]) -> Run {
     io::read_full(run.from, sheet);
-    let ready = ranked::preflight::preflight(sheet, words, floats);
+    let ready = preflight::preflight(sheet, words, floats);
     let verdict = ready.verdict;
     writing::bytes(writing::verdict(run, verdict), b"\n")
 }

@@ -16,16 +16,16 @@ use Rattle.laws.proofs.Lists.{map-same, of-range}
 use Rattle.laws.proofs.Exchange.{exchange-twice}
 use Rattle.ranked.specs.declared.Shape.{Shape}
 use Rattle.ranked.specs.Words.{firstAt, sizeAt, total, absIn}
-use Rattle.ranked.specs.Bench.{solidAt, Bench}
-use Rattle.ranked.proofs.Benches.{rows-in, elements-few, bench-kept}
-use Rattle.distances.specs.Listed.{Classed}
-use Rattle.distances.proofs.Ranks.{in-order}
-use Rattle.distances.proofs.Room.{roomy-floats}
+use Rattle.preflight.specs.Bench.{solidAt, Bench}
+use Rattle.preflight.proofs.Benches.{rows-in, elements-few, bench-kept}
+use Rattle.geometry.specs.Listed.{Classed}
+use Rattle.geometry.proofs.elements.Ranks.{in-order}
+use Rattle.geometry.proofs.elements.Room.{roomy-floats}
 use Rattle.element_types.specs.State.{typesIn, stateIn, Countable}
 use Rattle.element_types.proofs.Parts.{run-take, take-kept}
-use Rattle.vertex_sets.specs.Prints.{Printed, Ready}
+use Rattle.symmetry.specs.Prints.{Printed, Ready}
 use Rattle.symmetry.specs.Searching.{Parted, Searching}
-use Rattle.products.specs.Marking.{Markable}
+use Rattle.marks.specs.Marking.{Markable}
 use Rattle.search.proofs.Tested.{facets-are, solid-kept}
 
 -- ---- the exchange

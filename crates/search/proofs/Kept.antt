@@ -10,7 +10,7 @@ use lib.Ieee.{Float}
 use Rattle.spec.specs.declared.Answer.{Answer}
 use Rattle.spec.specs.Types.{size}
 use Rattle.spec.specs.Matrix.{Matrix}
-use Rattle.spec.specs.Copying.{parts, written}
+use Rattle.spec.specs.Lists.{parts, written}
 use Rattle.spec.specs.Judged.{passed}
 use Rattle.spec.specs.Solid.{Concrete}
 use Rattle.spec.specs.Flags.{flags}
@@ -19,16 +19,16 @@ use Rattle.spec.specs.Calls.{SearchOut, roomOf}
 use Rattle.points.proofs.Parts.{length-parts}
 use Rattle.ranked.specs.declared.Shape.{Shape}
 use Rattle.ranked.specs.Words.{sizeAt, total, absIn}
-use Rattle.ranked.specs.Bench.{solidAt, Bench, Laid}
+use Rattle.preflight.specs.Bench.{solidAt, Bench, Laid}
 use Rattle.ranked.proofs.Solids.{size-is}
-use Rattle.ranked.proofs.Benches.{bench-kept}
+use Rattle.preflight.proofs.Benches.{bench-kept}
 use Rattle.element_types.specs.State.{stateIn, Countable}
-use Rattle.exchange.proofs.Exchanged.{bench-exchanged, solid-exchanged}
-use Rattle.vertex_sets.specs.Prints.{Printed}
+use Rattle.symmetry.proofs.exchange.Exchanged.{bench-exchanged, solid-exchanged}
+use Rattle.symmetry.specs.Prints.{Printed}
 use Rattle.symmetry.specs.declared.listing.Listing.{Listing}
 use Rattle.symmetry.specs.Tails.{settingOf, ends, outOf}
 use Rattle.symmetry.specs.Listing.{Listed, answerOf}
-use Rattle.products.specs.Marking.{markIn}
+use Rattle.marks.specs.Marking.{markIn}
 use Rattle.search.proofs.Tested.{solid-kept}
 use Rattle.search.proofs.Benched.{state-kept, lists-kept}
 use Rattle.search.proofs.Steps.{end-none, marks-in, end-some}

@@ -10,9 +10,8 @@ use native.Mathlib.Omega.{arith}
 use lib.ListN.{length, length-map}
 use lib.Seq.{take-at, drop-at}
 use lib.Dec.{ltb}
-use Rattle.spec.specs.Lists.{In, join, every}
+use Rattle.spec.specs.Lists.{In, join, every, parts, written}
 use Rattle.spec.specs.Matrix.{Matrix}
-use Rattle.spec.specs.Copying.{parts, written}
 use Rattle.spec.specs.Solid.{Concrete}
 use Rattle.spec.specs.Flags.{Flag}
 use Rattle.spec.specs.Search.{Member, Setting, candidate, sameTypes, rowOf, examplesGo, markOf, tested, membersOf}
@@ -22,7 +21,7 @@ use Rattle.laws.proofs.Listed.{Marked, member-mark, rotation-in, fitting-in}
 use Rattle.laws.proofs.Shapes.{Holds, none-held, fits-holds}
 use Rattle.symmetry.specs.Tails.{wantedOf}
 use Rattle.symmetry.specs.Listing.{given, rowCells, keptIn}
-use Rattle.products.specs.Marking.{markIn}
+use Rattle.marks.specs.Marking.{markIn}
 
 -- Rows of v cells each, one after another, are cut where they were joined.
 parts-join : {A : Type 0} (d : ℕ) (ls : List (List A)) (rest : List A) → ((x : List A) → In x ls → length x ≡ d) → parts (length ls) d (join ls ++ rest) ≡ ls

@@ -14,11 +14,10 @@ use Rattle.spec.specs.declared.Refusal.{Refusal}
 use Rattle.spec.specs.declared.Refusal.the-variants.{NotFull, DoubleCorner, Centred, Flat, Unsettled}
 use Rattle.spec.specs.declared.Answer.{Answer}
 use Rattle.spec.specs.declared.Answer.the-variants.{Refused}
-use Rattle.spec.specs.Lists.{range}
+use Rattle.spec.specs.Lists.{range, parts, written, noRepeats}
 use Rattle.spec.specs.Types.{top, size, State}
-use Rattle.spec.specs.Mark.{noRepeats}
 use Rattle.spec.specs.Matrix.{Matrix, inverse}
-use Rattle.spec.specs.Copying.{near, parts, written}
+use Rattle.spec.specs.Points.{near}
 use Rattle.spec.specs.Judged.{Judged, refused, passed}
 use Rattle.spec.specs.Solid.{Concrete, preflight}
 use Rattle.spec.specs.Flags.{firstFlag, flags}
@@ -31,19 +30,19 @@ use Rattle.matrix.specs.Reading.{ifRegular}
 use Rattle.points.proofs.Parts.{parts-take}
 use Rattle.sheet.specs.declared.Verdict.the-variants as verdict
 use Rattle.ranked.specs.declared.Shape.{Shape}
-use Rattle.ranked.specs.declared.preflight.Ready.{Ready}
+use Rattle.preflight.specs.declared.Ready.{Ready}
 use Rattle.ranked.specs.Words.{sizeAt, absIn}
-use Rattle.ranked.specs.Bench.{solidAt, Bench, Laid}
-use Rattle.ranked.specs.Preflight.{verdictOf, Preflighted}
+use Rattle.preflight.specs.Bench.{solidAt, Bench, Laid}
+use Rattle.preflight.specs.Preflight.{verdictOf, Preflighted}
 use Rattle.ranked.proofs.Solids.{size-is}
-use Rattle.ranked.proofs.Benches.{bench-kept}
-use Rattle.distances.specs.Solids.{solidOn}
+use Rattle.preflight.proofs.Benches.{bench-kept}
+use Rattle.geometry.specs.Solids.{solidOn}
 use Rattle.element_types.specs.State.{stateIn}
-use Rattle.settling.specs.declared.settled.Ending.{Ending}
-use Rattle.settling.specs.declared.settled.Ending.the-variants.{Settled, Changing}
-use Rattle.settling.specs.Settle.{endOf}
-use Rattle.settling.specs.Typed.{Typed}
-use Rattle.exchange.proofs.Exchanged.{bench-exchanged, solid-exchanged}
+use Rattle.element_types.specs.declared.settling.settled.Ending.{Ending}
+use Rattle.element_types.specs.declared.settling.settled.Ending.the-variants.{Settled, Changing}
+use Rattle.element_types.specs.Settle.{endOf}
+use Rattle.element_types.specs.Typed.{Typed}
+use Rattle.symmetry.proofs.exchange.Exchanged.{bench-exchanged, solid-exchanged}
 use Rattle.symmetry.specs.declared.listing.Listing.{Listing}
 use Rattle.symmetry.specs.Tails.{settingOf, from9, from10, from15, from11, ends, outOf}
 use Rattle.symmetry.specs.Searching.{Parted}
@@ -53,7 +52,7 @@ use Rattle.symmetry.proofs.Running.{ends-listed}
 use Rattle.search.specs.declared.judging.Far.{Far}
 use Rattle.search.specs.declared.judging.Far.the-variants.{Facet, Nothing}
 use Rattle.search.specs.Reading.{farOf, regular, callOf}
-use Rattle.products.specs.Marking.{markIn}
+use Rattle.marks.specs.Marking.{markIn}
 use Rattle.search.proofs.Tested.{solid-on, solid-kept, full-is, facets-are, far-low}
 use Rattle.search.proofs.Benched.{exchanged-back}
 use Rattle.search.proofs.Marked.{kept-room, kept-marks}

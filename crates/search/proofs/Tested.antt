@@ -22,9 +22,9 @@ use Rattle.laws.proofs.Lists.{length-range, getD-range, of-range}
 use Rattle.points.proofs.Parts.{parts-take}
 use Rattle.ranked.specs.declared.Shape.{Shape}
 use Rattle.ranked.specs.Words.{sizeAt, absIn}
-use Rattle.ranked.specs.Bench.{solidAt}
+use Rattle.preflight.specs.Bench.{solidAt}
 use Rattle.ranked.proofs.Solids.{top-is, size-is}
-use Rattle.distances.specs.Solids.{solidOn, coordinates}
+use Rattle.geometry.specs.Solids.{solidOn, coordinates}
 
 -- ---- the solid in words and floats
 

@@ -1,11 +1,11 @@
 // This module has the tests behind refusals 8, 10 and 11.
-use candidates::all_finite;
-use candidates::columns;
-use distances::element_distance;
 use flag::Flag;
 use float::DIMENSION;
 use float::tolerance::Tolerance;
+use geometry::elements::element_distance;
 use ranked::Shape;
+use symmetry::candidates::all_finite;
+use symmetry::candidates::columns;
 ghost use mathlib.Core.Path.{_≡_};
 ghost use mathlib.Core.Bool.{true, _&&_};
 ghost use Prim.Native.Nat.{_-_, _≤_};
@@ -19,7 +19,7 @@ ghost use Rattle.spec.specs.Flags.{firstFlag};
 ghost use Rattle.spec.specs.Search.{firstFar, flagColumns};
 ghost use Rattle.matrix.specs.Reading.{corner, ifRegular};
 ghost use Rattle.ranked.specs.Words.{sizeAt, absIn, Held};
-ghost use Rattle.distances.specs.Solids.{solidOn, coordinates};
+ghost use Rattle.geometry.specs.Solids.{solidOn, coordinates};
 ghost use Rattle.search.specs.Reading.{farOf, regular};
 
 // This is the first facet that is further than EPS from the origin, or the answer that there is none.

@@ -9,6 +9,7 @@ ghost use Rattle.spec.specs.Workspace.{Free};
 ghost use Rattle.symmetry.specs.Tails.{outOf};
 ghost use Rattle.search.specs.Demand3.{Demand3Told};
 
+pub mod both_calls;
 mod driver;
 mod judging;
 mod marking;

@@ -1,19 +1,19 @@
 // "Members come in flag order with matrix and row", and each has a mark, which follows the rule for the solid as it was read.
-use distances::all_classes;
-use products::mark_rows;
+use geometry::elements::all_classes;
+use marks::products::mark_rows;
 use ranked::ELEMENTS;
 use ranked::Shape;
-use vertex_sets::apart::are_apart;
-use vertex_sets::printing::write_prints;
+use symmetry::vertex_sets::apart::are_apart;
+use symmetry::vertex_sets::printing::write_prints;
 ghost use mathlib.Core.Path.{_≡_};
 ghost use mathlib.Core.List.{map};
 ghost use Prim.Native.Nat.{_*_, _≤_};
 ghost use lib.ListN.{length, take};
 ghost use Rattle.spec.specs.Types.{size};
-ghost use Rattle.spec.specs.Copying.{parts, written};
+ghost use Rattle.spec.specs.Lists.{parts, written};
 ghost use Rattle.ranked.specs.Words.{absIn};
-ghost use Rattle.ranked.specs.Bench.{solidAt, Bench};
-ghost use Rattle.products.specs.Marking.{markIn};
+ghost use Rattle.preflight.specs.Bench.{solidAt, Bench};
+ghost use Rattle.marks.specs.Marking.{markIn};
 
 // Writes the marks of n rows, in the solid that lies in the words and floats. Its distance classes and its vertex sets' prints are worked out for
 // them. What the words hold behind the solid, and the floats behind the coordinates, is free.

@@ -9,10 +9,9 @@ use lib.Ieee.{Float}
 use Rattle.spec.specs.declared.Refusal.the-variants.{Blank, ShortSheet, Unsettled}
 use Rattle.spec.specs.declared.Answer.{Answer}
 use Rattle.spec.specs.declared.Answer.the-variants.{Done, Refused}
-use Rattle.spec.specs.Lists.{join}
+use Rattle.spec.specs.Lists.{join, written}
 use Rattle.spec.specs.Types.{ElementType, given, elementTypes}
 use Rattle.spec.specs.Judged.{Judged, refused, passed, _>>=_, _>>_, judge, wanted}
-use Rattle.spec.specs.Copying.{written}
 use Rattle.spec.specs.Solid.{Concrete, preflight}
 use Rattle.spec.specs.Classes.{typesOf}
 use Rattle.spec.specs.Search.{Member, rotationsOf, search}

@@ -6,8 +6,7 @@ use mathlib.Core.List.{List, [], _∷_, map}
 use lib.ListN.{getD, take, drop}
 use lib.Ieee.{Float}
 use Rattle.spec.specs.Lists.{range, join}
-use Rattle.spec.specs.Types.{size, properRanks, Classes, State, result}
-use Rattle.spec.specs.Mark.{vertices}
+use Rattle.spec.specs.Types.{size, properRanks, Classes, State, result, vertices}
 use Rattle.spec.specs.Matrix.{Vector}
 use Rattle.spec.specs.Hull.{hullOf, distance, classNumbers}
 use Rattle.spec.specs.Solid.{Concrete}

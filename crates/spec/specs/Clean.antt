@@ -13,7 +13,8 @@ use Rattle.spec.specs.Lists.{distinct, count, range, join, every}
 use Rattle.spec.specs.Float.{zeroF}
 use Rattle.spec.specs.Matrix.{Vector, Matrix, mulVec}
 use Rattle.spec.specs.Hull.{nearer, listing}
-use Rattle.spec.specs.Copying.{near, found, spread, copies}
+use Rattle.spec.specs.Copying.{spread, copies}
+use Rattle.spec.specs.Points.{near, found}
 use Rattle.spec.specs.Judged.{refused, passed}
 use Rattle.spec.specs.Solid.{Concrete}
 use Rattle.spec.specs.Flags.{Flag, flags}

@@ -1,35 +1,20 @@
 -- This file has section 7: copying, with its answers and outputs.
 -- Assumes nothing.
-use Prim.Native.Nat.{ℕ, zero, suc, _-_, _*_, _/_, _%_, _^_, min}
-use mathlib.Core.Bool.{Bool, true, false, _&&_}
+use Prim.Native.Nat.{ℕ, _-_, _*_, _/_, _%_, _^_, min}
+use mathlib.Core.Bool.{true, false, _&&_}
 use mathlib.Core.List.{List, [], _∷_, _++_, map}
-use lib.ListN.{length, getD, take, drop, replicate}
+use lib.ListN.{length, take, replicate}
 use lib.Dec.{eqb, leb, ltb}
-use lib.Ieee.{Float, le, neg}
+use lib.Ieee.{Float, neg}
 use Rattle.spec.specs.declared.Refusal.the-variants.{CutSheet, Format, OffTheBoard, Blank, ShortSheet, Open}
 use Rattle.spec.specs.declared.Answer.{Answer}
 use Rattle.spec.specs.declared.Answer.the-variants.{Done, Refused}
 use Rattle.spec.specs.Limits.{maxDimension, maxCount}
 use Rattle.spec.specs.Judged.{Judged, refused, passed, _>>_, judge}
-use Rattle.spec.specs.Lists.{place, holds, range, join, every}
-use Rattle.spec.specs.Float.{eps, zeroF, oneF, minus, absF, inRange, zip}
+use Rattle.spec.specs.Lists.{holds, range, join, every, parts, written}
+use Rattle.spec.specs.Float.{zeroF, oneF, inRange, zip}
 use Rattle.spec.specs.Matrix.{Vector, Matrix, mulVec}
-
--- ---- finding
-
--- Tells whether two points are "within EPS, EPS included, .. on every axis" of each other.
-unfoldable pub near : Vector → Vector → Bool
-near [] ys = true
-near (x ∷ xs) [] = true
-near (x ∷ xs) (y ∷ ys) = elim (le (absF (minus x y)) eps) [ true ↦ near xs ys | false ↦ false ]
-
--- Tells whether the point q is found among ps.
-unfoldable pub found : List Vector → Vector → Bool
-found ps q = holds near q ps
-
--- This is the number of the point that is found, "lowest number taken", or how many points there are where none is near.
-unfoldable pub find : List Vector → Vector → ℕ
-find ps q = place near q ps
+use Rattle.spec.specs.Points.{found, find}
 
 -- ---- copying
 
@@ -77,21 +62,12 @@ axisOrders = join (map (λ o. map (axisOrder o) (range 0 8)) orders)
 
 -- ---- the call
 
--- Gives the list l cut into k parts of n cells each.
-unfoldable pub parts : {A : Type 0} → ℕ → ℕ → List A → List (List A)
-parts zero n l = []
-parts (suc k) n l = take n l ∷ parts k n (drop n l)
-
 -- These are the points of a buffer, and below them its matrices, which are stored row by row.
 unfoldable pub points : ℕ → List Float → List Vector
 points d l = parts (length l / d) d l
 
 unfoldable pub matrices : ℕ → List Float → List Matrix
 matrices d l = map (parts d d) (parts (length l / (d * d)) (d * d) l)
-
--- This is the buffer after new values are written from its first cell on: "Cells past the answer never change".
-unfoldable pub written : {A : Type 0} → List A → List A → List A
-written new old = new ++ drop (length new) old
 
 -- These are the refusals of copying that look at the input alone. They are the first four of "copying goes 2, 1, 3, 12, 13, 14".
 unfoldable pub judgeCopy : ℕ → List Float → List Float → Judged (Unit {0})

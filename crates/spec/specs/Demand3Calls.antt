@@ -7,12 +7,11 @@ use mathlib.Core.List.{List, map}
 use lib.ListN.{length, getD, take, drop}
 use Rattle.spec.specs.declared.Answer.{Answer}
 use Rattle.spec.specs.Refusal.{answerCount}
-use Rattle.spec.specs.Lists.{join}
+use Rattle.spec.specs.Lists.{join, written}
 use Rattle.spec.specs.Types.{Solid, size, State, typeOf, start, Step, play, given, elementTypes}
 use Rattle.spec.specs.Mark.{goes}
 use Rattle.spec.specs.Demand.{AllProper, Agree}
 use Rattle.spec.specs.Judged.{passed}
-use Rattle.spec.specs.Copying.{written}
 use Rattle.spec.specs.Solid.{Concrete, preflight}
 use Rattle.spec.specs.Classes.{classTable, byTable, typesOf}
 use Rattle.spec.specs.Calls.{typeCells, TypesOut, typesCall, SearchOut, searchCall, rotationsCall}

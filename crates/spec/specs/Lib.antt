@@ -5,6 +5,7 @@ pub mod Float
 pub mod Root
 pub mod Matrix
 pub mod Hull
+pub mod Points
 pub mod Copying
 pub mod NumberExamples
 pub mod Types

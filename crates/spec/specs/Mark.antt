@@ -1,33 +1,12 @@
 -- This file has section 6's "The mark", the rule by which a row is confirmed. The row gives the vertex that each vertex goes to.
 -- Assumes nothing.
-use Prim.Native.Nat.{ℕ, zero, suc, pred}
-use mathlib.Core.Bool.{Bool, true, false, not, _&&_}
-use mathlib.Core.List.{List, [], _∷_, map}
+use Prim.Native.Nat.{ℕ, pred}
+use mathlib.Core.Bool.{Bool, true, false, _&&_}
+use mathlib.Core.List.{List, map}
 use lib.ListN.{length, getD}
 use lib.Dec.{eqb, ltb}
-use Rattle.spec.specs.Lists.{holds, place, eqList, range, keep, join, every}
-use Rattle.spec.specs.Types.{Solid, size, subs, properRanks, isProper, Classes}
-
-unfoldable pub noRepeats : {A : Type 0} → (A → A → Bool) → List A → Bool
-noRepeats same [] = true
-noRepeats same (x ∷ l) = not (holds same x l) && noRepeats same l
-
--- Lists the numbers below n that l holds, each once and rising, because vertices are "used in rising order".
-unfoldable pub inOrder : ℕ → List ℕ → List ℕ
-inOrder n l = keep (λ v. holds eqb v l) (range 0 n)
-
--- "An element's vertices are those met by going down its subs rank by rank until vertices are reached. They are used in rising order."
-unfoldable pub reach : Solid → ℕ → ℕ → List ℕ
-reach s zero e = []
-reach s (suc zero) e = e ∷ []
-reach s (suc (suc r)) e = join (map (λ f. reach s (suc r) f) (subs s (suc (suc r)) e))
-
-unfoldable pub vertices : Solid → ℕ → ℕ → List ℕ
-vertices s r e = inOrder (size s 1) (reach s r e)
-
--- Lists the vertex sets of a rank's elements.
-unfoldable pub vertexSets : Solid → ℕ → List (List ℕ)
-vertexSets s r = map (vertices s r) (range 0 (size s r))
+use Rattle.spec.specs.Lists.{place, eqList, range, every, noRepeats, inOrder}
+use Rattle.spec.specs.Types.{Solid, size, subs, properRanks, isProper, Classes, vertices, vertexSets}
 
 -- Tells whether "no two elements of a rank have one vertex set".
 abbrev pub setsApart : Solid → Bool

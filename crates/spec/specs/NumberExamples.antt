@@ -8,13 +8,14 @@ use lib.ListN.{replicate}
 use lib.Ieee.{Float, binary64, size, units, neg, add, sub, mul, div, lt, le, eq, ofBits, toBits}
 use Rattle.spec.specs.declared.Refusal.the-variants.{CutSheet, Format, OffTheBoard, Blank, ShortSheet, Open}
 use Rattle.spec.specs.declared.Answer.the-variants.{Done, Refused}
-use Rattle.spec.specs.Lists.{place, holds, range, join, every, distinct, without, renumber}
+use Rattle.spec.specs.Lists.{place, holds, range, join, every, distinct, without, renumber, parts, written}
 use Rattle.spec.specs.Limits.{maxMagnitude}
 use Rattle.spec.specs.Float.{eps, zeroF, oneF, absF, finite, inRange, zip, addOn, total, dot, rootDown, rootUnits, root, norm}
 use Rattle.spec.specs.Matrix.{Matrix, columns, mulVec, mulMat, unit, identity, scan, pivotRow, swapRows, divided, cleared, clear, column, eliminate, gaussJordan, inverse, timesOn, product, determinant}
 use Rattle.spec.specs.Hull.{joined, nothing, along, project, rest, joins, addAll, hullOf, origin, distance, nearer, smaller, listedFor, listing, classesFrom, classes, classNumbers}
 use Rattle.spec.specs.Hull.{add as addPoint}
-use Rattle.spec.specs.Copying.{near, found, find, spread, copiesFrom, copies, copyRow, copyTable, orders, signed, axisOrder, axisOrders, parts, points, matrices, written, judgeCopy, copyOut, copyCall}
+use Rattle.spec.specs.Copying.{spread, copiesFrom, copies, copyRow, copyTable, orders, signed, axisOrder, axisOrders, points, matrices, judgeCopy, copyOut, copyCall}
+use Rattle.spec.specs.Points.{near, found, find}
 use Rattle.spec.specs.Judged.{_>>_, judge}
 
 -- This name on an `unfolding` line opens every definition of sections 1, 3 and 7, except the last ones of copying.

@@ -8,12 +8,12 @@ use lib.ListN.{length, getD, set}
 use lib.Dec.{leb, ltb, eqb}
 use lib.Ieee.{Float, lt}
 use Rattle.spec.specs.declared.Refusal.the-variants.{NotFull, DoubleCorner, Centred, Flat, Unsettled}
-use Rattle.spec.specs.Lists.{holds, eqList, range, every}
-use Rattle.spec.specs.Types.{Solid, top, size, properRanks, State, Classes, typeOf, elementTypesAt}
-use Rattle.spec.specs.Mark.{noRepeats, vertices, vertexSets, marked}
+use Rattle.spec.specs.Lists.{holds, eqList, range, every, noRepeats}
+use Rattle.spec.specs.Types.{Solid, top, size, properRanks, State, Classes, typeOf, elementTypesAt, vertices, vertexSets}
+use Rattle.spec.specs.Mark.{marked}
 use Rattle.spec.specs.Float.{eps, zeroF, finite}
 use Rattle.spec.specs.Matrix.{Matrix, columns, mulVec, mulMat, inverse, determinant}
-use Rattle.spec.specs.Copying.{near, find}
+use Rattle.spec.specs.Points.{near, find}
 use Rattle.spec.specs.Judged.{Judged, _>>=_, _>>_, judge, passed, wanted}
 use Rattle.spec.specs.Solid.{Concrete}
 use Rattle.spec.specs.Flags.{Flag, elementAt, firstFlag, flags, change}

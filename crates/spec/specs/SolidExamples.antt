@@ -5,9 +5,9 @@ use mathlib.Core.Bool.{true, false}
 use mathlib.Core.Option.{some}
 use mathlib.Core.List.{[], _∷_}
 use lib.ListN.{getD}
-use Rattle.spec.specs.Lists.{distinct, renumber, count, holds, eqList, range, keep, sum, without, place, join, every}
-use Rattle.spec.specs.Mark.{noRepeats, inOrder, reach, vertices, vertexSets, image, goes, carriesElement, marked}
-use Rattle.spec.specs.Types.{Solid, Classes, subs, sups, properRanks, elements, typeCount, startAt, start, key, keys, step, play, sweepSteps, sweep, settle, result, elementTypesAt, elementTypes}
+use Rattle.spec.specs.Lists.{distinct, renumber, count, holds, eqList, range, keep, sum, without, place, join, every, noRepeats, inOrder}
+use Rattle.spec.specs.Mark.{image, goes, carriesElement, marked}
+use Rattle.spec.specs.Types.{reach, vertices, vertexSets, Solid, Classes, subs, sups, properRanks, elements, typeCount, startAt, start, key, keys, step, play, sweepSteps, sweep, settle, result, elementTypesAt, elementTypes}
 use Rattle.spec.specs.Flags.{flags, flagsTo}
 
 abbrev pub alike : Classes

@@ -7,7 +7,7 @@ use mathlib.Core.Option.{Option, none, some}
 use mathlib.Core.List.{List, [], _∷_, _++_, map, reverse}
 use lib.ListN.{length, getD, set, replicate}
 use lib.Dec.{eqb, ltb}
-use Rattle.spec.specs.Lists.{distinct, place, renumber, count, holds, eqList, range, keep, sum, join}
+use Rattle.spec.specs.Lists.{distinct, place, renumber, count, holds, eqList, range, keep, sum, join, inOrder}
 
 -- ---- solids
 
@@ -38,6 +38,19 @@ properRanks s = range 1 (top s - 1)
 -- This is the number E: "E counts proper elements".
 unfoldable pub elements : Solid → ℕ
 elements s = sum (map (λ r. size s r) (properRanks s))
+
+-- "An element's vertices are those met by going down its subs rank by rank until vertices are reached. They are used in rising order."
+unfoldable pub reach : Solid → ℕ → ℕ → List ℕ
+reach s zero e = []
+reach s (suc zero) e = e ∷ []
+reach s (suc (suc r)) e = join (map (λ f. reach s (suc r) f) (subs s (suc (suc r)) e))
+
+unfoldable pub vertices : Solid → ℕ → ℕ → List ℕ
+vertices s r e = inOrder (size s 1) (reach s r e)
+
+-- Lists the vertex sets of a rank's elements.
+unfoldable pub vertexSets : Solid → ℕ → List (List ℕ)
+vertexSets s r = map (vertices s r) (range 0 (size s r))
 
 -- This is the distance class of each element (section 3) as a number, by rank and then by element. Only those of proper elements are read.
 abbrev pub Classes : Type 0

@@ -8,12 +8,12 @@ use lib.ListN.{length, take}
 use lib.Ieee.{Float}
 use Rattle.spec.specs.Limits.{maxCount}
 use Rattle.spec.specs.Types.{size}
-use Rattle.spec.specs.Copying.{parts}
+use Rattle.spec.specs.Lists.{parts}
 use Rattle.ranked.specs.declared.Shape.{Shape}
 use Rattle.ranked.specs.Words.{sizeAt, listsOf, absIn}
 use Rattle.ranked.specs.Layout.{coordinates, solidIn}
 use Rattle.ranked.proofs.Solids.{size-is}
-use Rattle.ranked.proofs.Benches.{points-in}
+use Rattle.preflight.proofs.Benches.{points-in}
 use Rattle.points.proofs.Parts.{length-parts, parts-take}
 use Rattle.symmetry.specs.Searching.{Searching}
 

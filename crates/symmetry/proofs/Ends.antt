@@ -9,7 +9,7 @@ use lib.ListN.{length}
 use lib.Dec.{ltb}
 use lib.Ieee.{Float}
 use borrow.Author.Tests.{le-ltb}
-use Rattle.spec.specs.Copying.{written}
+use Rattle.spec.specs.Lists.{written}
 use Rattle.spec.specs.Flags.{Flag}
 use Rattle.spec.specs.Search.{Member, Setting}
 use Rattle.spec.specs.Calls.{Room, fitting}

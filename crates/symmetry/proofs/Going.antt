@@ -13,8 +13,7 @@ use borrow.Rule.Slice.PartMut.{midOf, putMid, put-same}
 use native.Mathlib.Nat.{suc-mul}
 use lib.Dec.{leb, ltb}
 use lib.Ieee.{Float}
-use Rattle.spec.specs.Lists.{join}
-use Rattle.spec.specs.Copying.{written}
+use Rattle.spec.specs.Lists.{join, written}
 use Rattle.spec.specs.Flags.{Flag}
 use Rattle.spec.specs.Search.{Member, Setting, candidate, sameTypes, tested, isRotation}
 use Rattle.spec.specs.Calls.{Room, haveRoom, fitting}

@@ -7,10 +7,10 @@ use Prim.Native.Nat.{ℕ}
 use lib.ListN.{length, take}
 use lib.Dec.{ltb}
 use lib.Ieee.{Float}
-use Rattle.spec.specs.Lists.{every}
+use Rattle.spec.specs.Lists.{every, parts}
 use Rattle.spec.specs.Types.{Solid, size, State}
 use Rattle.spec.specs.Matrix.{Matrix, Vector}
-use Rattle.spec.specs.Copying.{parts, copyRow}
+use Rattle.spec.specs.Copying.{copyRow}
 use Rattle.spec.specs.Search.{rowOf, examplesGo}
 use Rattle.ranked.specs.declared.Shape.{Shape}
 use Rattle.ranked.specs.Words.{sizeAt, listsOf, absIn}

@@ -9,7 +9,7 @@ use lib.Seq.{take-suc}
 use lib.Ieee.{Float}
 use Rattle.spec.specs.Lists.{join}
 use Rattle.matrix.specs.Reading.{leading}
-use Rattle.ranked.proofs.store.Listing.{join-append}
+use Rattle.preflight.proofs.store.Listing.{join-append}
 
 -- One row more joins those before it.
 pub rows-next : (d i : ℕ) (m : List (List Float)) → i < length m → join (leading i d m) ++ take d (getD m i []) ≡ join (leading (i + 1) d m)

@@ -11,7 +11,7 @@ use native.Mathlib.Numerals.{add-one}
 use native.Mathlib.Nat.{zero-mul}
 use lib.Dec.{ltb}
 use borrow.Author.Tests.{lt-ltb, ltb-false}
-use Rattle.ranked.proofs.store.Listing.{join-append}
+use Rattle.preflight.proofs.store.Listing.{join-append}
 use Rattle.spec.specs.Lists.{join}
 use Rattle.spec.specs.declared.Refusal.the-variants.{ShortSheet}
 use Rattle.spec.specs.declared.Answer.the-variants.{Done, Refused}

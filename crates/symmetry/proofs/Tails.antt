@@ -9,8 +9,7 @@ use Rattle.spec.specs.declared.Refusal.{Refusal}
 use Rattle.spec.specs.declared.Refusal.the-variants.{NotFull}
 use Rattle.spec.specs.declared.Answer.{Answer}
 use Rattle.spec.specs.declared.Answer.the-variants.{Refused}
-use Rattle.spec.specs.Lists.{join}
-use Rattle.spec.specs.Copying.{written}
+use Rattle.spec.specs.Lists.{join, written}
 use Rattle.spec.specs.Judged.{Judged, refused, passed, _>>=_, _>>_, judge, wanted}
 use Rattle.spec.specs.Solid.{Concrete, preflight}
 use Rattle.spec.specs.Search.{Member, Setting, full, setting, search, rotationsOf}

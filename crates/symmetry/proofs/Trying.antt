@@ -10,11 +10,10 @@ use lib.ListN.{length}
 use lib.Dec.{leb, ltb}
 use lib.Ieee.{Float, lt}
 use borrow.Author.Tests.{leb-true}
-use Rattle.spec.specs.Lists.{range, join}
+use Rattle.spec.specs.Lists.{range, join, written}
 use Rattle.spec.specs.Types.{State}
 use Rattle.spec.specs.Float.{zeroF}
 use Rattle.spec.specs.Matrix.{Matrix, mulMat, determinant}
-use Rattle.spec.specs.Copying.{written}
 use Rattle.spec.specs.Solid.{Concrete}
 use Rattle.spec.specs.Flags.{Flag, IsFlag, firstFlag}
 use Rattle.spec.specs.Search.{Member, flagColumns, candidate, sameTypes, rowOf, markOf, tested, isRotation}
@@ -23,7 +22,7 @@ use Rattle.laws.proofs.Marked.{both}
 use Rattle.laws.proofs.FlagList.{every-first}
 use Rattle.ranked.specs.declared.Shape.{Shape}
 use Rattle.ranked.specs.Words.{sizeAt, listsOf, subsIn, absIn}
-use Rattle.candidates.specs.Post.{typesAgree}
+use Rattle.symmetry.specs.Post.{typesAgree}
 use Rattle.symmetry.specs.declared.listing.Tried.{Tried}
 use Rattle.symmetry.specs.declared.listing.Tried.the-variants.{Skipped, Added, Short}
 use Rattle.symmetry.specs.Tails.{settingOf}

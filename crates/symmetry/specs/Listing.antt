@@ -11,8 +11,7 @@ use lib.Ieee.{Float}
 use Rattle.spec.specs.declared.Refusal.the-variants.{Blank, ShortSheet}
 use Rattle.spec.specs.declared.Answer.{Answer}
 use Rattle.spec.specs.declared.Answer.the-variants.{Done, Refused}
-use Rattle.spec.specs.Lists.{join}
-use Rattle.spec.specs.Copying.{written}
+use Rattle.spec.specs.Lists.{join, written}
 use Rattle.spec.specs.Flags.{Flag}
 use Rattle.spec.specs.Search.{Member, Setting, candidate, sameTypes, tested, membersOf, isRotation}
 use Rattle.spec.specs.Calls.{Room, fitting, SearchOut}

@@ -7,11 +7,10 @@ use mathlib.Core.List.{List}
 use lib.ListN.{length}
 use lib.Dec.{ltb}
 use lib.Ieee.{Float}
-use Rattle.spec.specs.Lists.{every}
+use Rattle.spec.specs.Lists.{every, noRepeats}
 use Rattle.spec.specs.Types.{State}
 use Rattle.spec.specs.Matrix.{Matrix}
-use Rattle.spec.specs.Mark.{noRepeats}
-use Rattle.spec.specs.Copying.{near}
+use Rattle.spec.specs.Points.{near}
 use Rattle.spec.specs.Solid.{Concrete}
 use Rattle.spec.specs.Flags.{flags}
 use Rattle.spec.specs.Search.{Setting, rowOf, examplesGo, tested}
@@ -19,11 +18,11 @@ use Rattle.spec.specs.Calls.{Room}
 use Rattle.matrix.specs.Reading.{corner}
 use Rattle.ranked.specs.declared.Shape.{Shape}
 use Rattle.ranked.specs.Words.{sizeAt, listsOf, absIn}
-use Rattle.ranked.specs.Bench.{Bench}
+use Rattle.preflight.specs.Bench.{Bench}
 use Rattle.ranked.specs.Layout.{solidIn}
 use Rattle.element_types.specs.State.{stateIn, Countable}
 use Rattle.flag.specs.Reading.{flagIn}
-use Rattle.vertex_sets.specs.Fingerprints.{Fingerprinted}
+use Rattle.symmetry.specs.Fingerprints.{Fingerprinted}
 use Rattle.symmetry.specs.declared.listing.Tried.{Tried}
 use Rattle.symmetry.specs.declared.listing.Trial.{Trial}
 use Rattle.symmetry.specs.declared.listing.Members.{Members}

@@ -7,11 +7,10 @@ use mathlib.Core.List.{List}
 use lib.Ieee.{Float}
 use Rattle.spec.specs.declared.Refusal.the-variants.{DoubleCorner, Centred, Flat, Unsettled}
 use Rattle.spec.specs.declared.Answer.{Answer}
-use Rattle.spec.specs.Lists.{range}
+use Rattle.spec.specs.Lists.{range, noRepeats}
 use Rattle.spec.specs.Types.{top, size, State}
-use Rattle.spec.specs.Mark.{noRepeats}
 use Rattle.spec.specs.Matrix.{Matrix, inverse}
-use Rattle.spec.specs.Copying.{near}
+use Rattle.spec.specs.Points.{near}
 use Rattle.spec.specs.Judged.{Judged, passed, _>>=_, _>>_, judge, wanted}
 use Rattle.spec.specs.Solid.{Concrete}
 use Rattle.spec.specs.Flags.{firstFlag, flags}

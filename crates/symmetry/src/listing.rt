@@ -14,10 +14,11 @@ ghost use Rattle.element_types.specs.State.{stateIn};
 ghost use Rattle.flag.specs.Reading.{flagIn};
 ghost use Rattle.symmetry.specs.Listing.{fits};
 ghost use Rattle.symmetry.specs.Searching.{Searching, passing, CandidateTried, FlagTried, SolidListed};
+use crate::candidates::candidate;
+use crate::candidates::same_types;
+use crate::vertex_sets::examples::examples_go;
 use crate::writing::put_entries;
 use crate::writing::put_matrix;
-use candidates::candidate;
-use candidates::same_types;
 use flag::Advance;
 use flag::Flag;
 use float::DIMENSION;
@@ -26,7 +27,6 @@ use points::lookup::places;
 use points::lookup::row_of;
 use ranked::Shape;
 use spec::MAX_COUNT;
-use vertex_sets::examples::examples_go;
 
 // This is what trying a flag came to: it gives no member that is listed, its member was written, or there is no room for it.
 pub enum Tried {

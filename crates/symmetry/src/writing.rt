@@ -3,8 +3,7 @@ ghost use mathlib.Core.Path.{_≡_};
 ghost use Prim.Native.Nat.{_*_, _≤_};
 ghost use lib.ListN.{length, take};
 ghost use Rattle.spec.specs.Limits.{maxDimension};
-ghost use Rattle.spec.specs.Lists.{join};
-ghost use Rattle.spec.specs.Copying.{written};
+ghost use Rattle.spec.specs.Lists.{join, written};
 ghost use Rattle.matrix.specs.Reading.{corner};
 use float::DIMENSION;
 

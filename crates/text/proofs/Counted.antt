@@ -10,10 +10,9 @@ use native.Mathlib.Omega.{arith}
 use lib.ListN.{length, getD, take, drop, length-map}
 use lib.Ieee.{Float, lt}
 use lib.Seq.{take-suc}
-use Rattle.spec.specs.Lists.{sum}
+use Rattle.spec.specs.Lists.{sum, parts}
 use Rattle.spec.specs.Float.{zeroF}
 use Rattle.spec.specs.Matrix.{Matrix, determinant}
-use Rattle.spec.specs.Copying.{parts}
 use Rattle.spec.specs.Search.{Member, isRotation, rotationsOf}
 use Rattle.spec.specs.KitText.{membersLine}
 use Rattle.points.proofs.Parts.{parts-more, length-parts}

@@ -7,10 +7,9 @@ use Prim.Native.Nat.{ℕ, suc, _*_}
 use lib.ListN.{length, take, drop, length-map}
 use lib.Seq.{take-at, drop-at}
 use lib.Ieee.{Float}
-use Rattle.spec.specs.Lists.{In, sum, join}
+use Rattle.spec.specs.Lists.{In, sum, join, parts, written}
 use Rattle.spec.specs.Types.{ElementType}
 use Rattle.spec.specs.Matrix.{Matrix}
-use Rattle.spec.specs.Copying.{parts, written}
 use Rattle.spec.specs.Search.{Member, rotationsOf}
 use Rattle.spec.specs.Calls.{typeCells}
 use Rattle.spec.specs.KitText.{membersLine}

@@ -11,11 +11,11 @@ use Rattle.spec.specs.declared.Refusal.the-variants.{ShortSheet, Open}
 use Rattle.spec.specs.declared.Answer.{Answer}
 use Rattle.spec.specs.declared.Answer.the-variants.{Done, Refused}
 use Rattle.spec.specs.Limits.{maxCount}
-use Rattle.spec.specs.Lists.{join, holds}
+use Rattle.spec.specs.Lists.{join, holds, written}
 use Rattle.spec.specs.Float.{zeroF}
 use Rattle.spec.specs.Judged.{Judged, refused, passed}
 use Rattle.spec.specs.Matrix.{Vector, Matrix}
-use Rattle.spec.specs.Copying.{copies, points, matrices, copyTable, written, judgeCopy, copyOut, copyCall}
+use Rattle.spec.specs.Copying.{copies, points, matrices, copyTable, judgeCopy, copyOut, copyCall}
 
 abbrev Out : Type 0
 Out = Answer × List Float × List ℕ

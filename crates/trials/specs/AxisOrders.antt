@@ -11,11 +11,11 @@ use lib.IntN.{pos}
 use Rattle.spec.specs.declared.Refusal.the-variants.{Open}
 use Rattle.spec.specs.declared.Answer.{Answer}
 use Rattle.spec.specs.declared.Answer.the-variants.{Done, Refused}
-use Rattle.spec.specs.Lists.{join, range, place, eqList, every, holds}
+use Rattle.spec.specs.Lists.{join, range, place, eqList, every, holds, written, noRepeats}
 use Rattle.spec.specs.Float.{zeroF, oneF, zip, dot}
-use Rattle.spec.specs.Mark.{noRepeats}
 use Rattle.spec.specs.Matrix.{Vector, Matrix, columns, mulVec, mulMat}
-use Rattle.spec.specs.Copying.{orders, signed, axisOrder, axisOrders, find, copyCall, copyRow, copyTable, copyOut, written}
+use Rattle.spec.specs.Copying.{orders, signed, axisOrder, axisOrders, copyCall, copyRow, copyTable, copyOut}
+use Rattle.spec.specs.Points.{find}
 use Rattle.spec.specs.NumberExamples.{most, all}
 
 -- ---- the numbers

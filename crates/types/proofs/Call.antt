@@ -13,11 +13,10 @@ use Rattle.spec.specs.declared.Refusal.{Refusal}
 use Rattle.spec.specs.declared.Refusal.the-variants.{ShortSheet, Unsettled}
 use Rattle.spec.specs.declared.Answer.{Answer}
 use Rattle.spec.specs.declared.Answer.the-variants.{Done, Refused}
-use Rattle.spec.specs.Lists.{distinct, sum, join}
+use Rattle.spec.specs.Lists.{distinct, sum, join, written}
 use Rattle.spec.specs.Types.{Solid, State, typesAt, size, properRanks, elements, typeCount, given, elementTypesAt, elementTypes}
 use Rattle.spec.specs.Judged as Judging
 use Rattle.spec.specs.Judged.{refused, passed}
-use Rattle.spec.specs.Copying.{written}
 use Rattle.spec.specs.Solid.{Concrete, preflight}
 use Rattle.spec.specs.Classes.{typesOf}
 use Rattle.spec.specs.Calls.{Given, typeCells, TypesOut, typesGiven, typesWritten, typesCall}
@@ -26,7 +25,7 @@ use Rattle.laws.proofs.Counts.{sum-le}
 use Rattle.ranked.specs.declared.Shape.{Shape}
 use Rattle.ranked.specs.Words.{listsOf, absIn}
 use Rattle.ranked.specs.Layout.{proper}
-use Rattle.distances.proofs.Room.{proper-is}
+use Rattle.geometry.proofs.elements.Room.{proper-is}
 use Rattle.element_types.specs.State.{stateIn, Countable}
 use Rattle.types.specs.Call.{handedOut, answered}
 use Rattle.types.proofs.Rows.{many-few}

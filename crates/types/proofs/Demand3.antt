@@ -9,17 +9,16 @@ use lib.ListN.{length, getD, drop, List·getD-append}
 use lib.Seq.{getD-append-add}
 use Rattle.spec.specs.declared.Answer.{Answer}
 use Rattle.spec.specs.declared.Answer.the-variants.{Done}
-use Rattle.spec.specs.Lists.{range, sum, join}
+use Rattle.spec.specs.Lists.{range, sum, join, written}
 use Rattle.spec.specs.Mark.{goes}
 use Rattle.spec.specs.Types.{Solid, top, size, properRanks, State, typesAt, typeOf, given}
 use Rattle.spec.specs.Demand.{Proper}
-use Rattle.spec.specs.Copying.{written}
 use Rattle.spec.specs.Calls.{TypesOut, typesCall}
 use Rattle.spec.specs.Demand3Calls.{Demand3Call}
 use Rattle.laws.proofs.Lists.{map-same}
 use Rattle.laws.proofs.TypeLaws.{type-laws}
 use Rattle.laws.proofs.Demand3Calls.{demand3-calls}
-use Rattle.distances.specs.Solids.{beforeIn}
+use Rattle.geometry.specs.Solids.{beforeIn}
 use Rattle.types.specs.Demand3.{typeCell, Demand3Cells, Demand3Outputs}
 
 -- Where lists stand one after another, member e of list k stands behind all members of the lists before it.

@@ -14,15 +14,15 @@ use Rattle.spec.specs.Solid.{Concrete, preflight}
 use Rattle.spec.specs.Calls.{TypesOut, typesCall}
 use Rattle.sheet.specs.declared.Verdict.the-variants as verdict
 use Rattle.ranked.specs.declared.Shape.{Shape}
-use Rattle.ranked.specs.declared.preflight.Ready.{Ready}
+use Rattle.preflight.specs.declared.Ready.{Ready}
 use Rattle.ranked.specs.Words.{listsOf, absIn}
-use Rattle.ranked.specs.Bench.{Bench}
+use Rattle.preflight.specs.Bench.{Bench}
 use Rattle.ranked.specs.Layout.{solidIn}
-use Rattle.ranked.specs.Preflight.{verdictOf, Preflighted}
+use Rattle.preflight.specs.Preflight.{verdictOf, Preflighted}
 use Rattle.element_types.specs.State.{stateIn}
-use Rattle.settling.specs.declared.settled.Ending.the-variants.{Settled, Changing}
-use Rattle.settling.specs.Settle.{endOf}
-use Rattle.settling.specs.Typed.{Typed}
+use Rattle.element_types.specs.declared.settling.settled.Ending.the-variants.{Settled, Changing}
+use Rattle.element_types.specs.Settle.{endOf}
+use Rattle.element_types.specs.Typed.{Typed}
 use Rattle.types.specs.Call.{handedOut, answered}
 use Rattle.types.proofs.Call.{call-refused, call-passed, unsettled, settled}
 

@@ -11,10 +11,8 @@ use lib.Dec.{eqb}
 use lib.ListN.{length, getD, take, drop, set, length-append, length-take, length-drop, length-map}
 use lib.Seq.{sets, length-sets, take-add, take-suc, take-all, drop-drop, getD-take, getD-drop, length-take-le}
 use Rattle.spec.specs.Limits.{maxCount}
-use Rattle.spec.specs.Lists.{In, distinct, range, join}
-use Rattle.spec.specs.Types.{Solid, State, typesAt, properRanks, elements, typeCount, given, ElementType, elementTypesAt, elementTypes}
-use Rattle.spec.specs.Types.{inUse}
-use Rattle.spec.specs.Copying.{written}
+use Rattle.spec.specs.Lists.{In, distinct, range, join, written}
+use Rattle.spec.specs.Types.{Solid, State, typesAt, properRanks, elements, typeCount, given, ElementType, elementTypesAt, elementTypes, inUse}
 use Rattle.laws.proofs.Lists.{in-getD, map-same, of-range, getD-table}
 use Rattle.laws.proofs.FlagList.{in-either}
 use Rattle.laws.proofs.Shapes.{type-cells}
@@ -23,7 +21,7 @@ use Rattle.ranked.specs.Words.{firstAt, sizeAt, listsOf, absIn}
 use Rattle.ranked.specs.Layout as layout
 use Rattle.ranked.specs.Layout.{proper}
 use Rattle.ranked.proofs.Solids.{top-is, size-is, in-order}
-use Rattle.distances.proofs.Room.{proper-is}
+use Rattle.geometry.proofs.elements.Room.{proper-is}
 use Rattle.element_types.specs.State.{typesIn, stateIn, Countable}
 use Rattle.element_types.proofs.Scanned.{table-snoc}
 use Rattle.element_types.proofs.Tallied.{counts-all, Tally, tally-first, run-in, run-numbered, tally-next, tally-end}

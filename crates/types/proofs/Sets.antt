@@ -7,8 +7,7 @@ use native.Mathlib.Omega.{arith}
 use native.Mathlib.Nat.{add-zero}
 use lib.ListN.{length, getD, take, drop, set, length-append, List·getD-append}
 use lib.Seq.{sets, sets-eq, set-set, set-comm, getD-append-add, length-take-le}
-use Rattle.spec.specs.Lists.{join}
-use Rattle.spec.specs.Copying.{written}
+use Rattle.spec.specs.Lists.{join, written}
 
 module _ {A : Type 0} where
   pub join-append : (a b : List (List A)) → join (a ++ b) ≡ join a ++ join b

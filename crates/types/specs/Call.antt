@@ -9,9 +9,8 @@ use lib.Dec.{leb}
 use Rattle.spec.specs.declared.Refusal.the-variants.{ShortSheet, Unsettled}
 use Rattle.spec.specs.declared.Answer.{Answer}
 use Rattle.spec.specs.declared.Answer.the-variants.{Done, Refused}
-use Rattle.spec.specs.Lists.{join}
+use Rattle.spec.specs.Lists.{join, written}
 use Rattle.spec.specs.Types.{Solid, State, given, elementTypes}
-use Rattle.spec.specs.Copying.{written}
 use Rattle.spec.specs.Solid.{Concrete}
 use Rattle.spec.specs.Classes.{typesOf}
 use Rattle.spec.specs.Calls.{typeCells, TypesOut}

@@ -14,7 +14,7 @@ use Rattle.spec.specs.Demand.{Proper, AllProper, Steady}
 use Rattle.spec.specs.Solid.{Concrete, preflight}
 use Rattle.spec.specs.Classes.{classTable, byTable}
 use Rattle.spec.specs.Calls.{TypesOut, typesCall}
-use Rattle.distances.specs.Solids.{beforeIn}
+use Rattle.geometry.specs.Solids.{beforeIn}
 
 -- Gives the cell that holds the type of element e of rank r. The elements have their cells "by rising rank and index".
 abbrev pub typeCell : Solid → List ℕ → ℕ → ℕ → ℕ

@@ -1,8 +1,8 @@
 // This crate has the types call (conc/element_types.rs): a sheet's elements by their types, and the table of the types.
+use element_types::settling::settled::Ending;
+use element_types::settling::types_of;
+use preflight::preflight;
 use ranked::Shape;
-use ranked::preflight::preflight;
-use settling::settled::Ending;
-use settling::types_of;
 use sheet::Verdict;
 use spec::Answer;
 use spec::Refusal;
@@ -12,7 +12,7 @@ ghost use lib.ListN.{length};
 ghost use Rattle.spec.specs.declared.Answer.the-variants.{Done};
 ghost use Rattle.spec.specs.Calls.{typesCall};
 ghost use Rattle.spec.specs.Workspace.{Free};
-ghost use Rattle.ranked.specs.Bench.{Bench};
+ghost use Rattle.preflight.specs.Bench.{Bench};
 ghost use Rattle.ranked.specs.Layout.{solidIn};
 ghost use Rattle.types.specs.Call.{answered};
 ghost use Rattle.types.specs.Demand3.{Demand3Cells};

@@ -9,7 +9,8 @@ use lib.ListN.{length, replicate}
 use borrow.Author.Needs.{needs}
 use Rattle.spec.specs.Limits.{maxCount}
 use Rattle.spec.specs.Matrix.{Vector, Matrix}
-use Rattle.spec.specs.Copying.{copies, points, matrices, copyOut, copyTable, written}
+use Rattle.spec.specs.Copying.{copies, points, matrices, copyOut, copyTable}
+use Rattle.spec.specs.Lists.{written}
 use Rattle.points.specs.Cells.{Tabled}
 use Rattle.copying.specs.Post.{filling, Fitting}
 use Rattle.copying.proofs.Squares.{square, square-pos}

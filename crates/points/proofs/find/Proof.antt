@@ -7,7 +7,8 @@ use native.Mathlib.Omega.{arith}
 use lib.ListN.{getD, take}
 use borrow.Author.Needs.{needs}
 use Rattle.spec.specs.Matrix.{Vector}
-use Rattle.spec.specs.Copying.{near, parts}
+use Rattle.spec.specs.Points.{near}
+use Rattle.spec.specs.Lists.{parts}
 use Rattle.points.proofs.Parts.{length-parts, part-at, part-end}
 use Rattle.points.proofs.Nearness.{FoundFrom, found-none, found-here, found-on, found-end, find-flat}
 use Rattle.points.proofs.Finding.{at-is, nothing-is}

@@ -10,7 +10,8 @@ use lib.ListN.{length, take, length-drop}
 use lib.Seq.{length-take-le}
 use borrow.Author.Needs.{needs}
 use Rattle.spec.specs.Limits.{maxDimension}
-use Rattle.spec.specs.Copying.{found, parts}
+use Rattle.spec.specs.Points.{found}
+use Rattle.spec.specs.Lists.{parts}
 use Rattle.points.proofs.Parts.{length-parts, part-end}
 use Rattle.points.proofs.Finding.{is-found, is-missing}
 use Rattle.points.proofs.Tails.{tail-is, tail-written}

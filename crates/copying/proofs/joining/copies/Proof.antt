@@ -8,7 +8,8 @@ use native.Mathlib.Omega.{arith}
 use lib.ListN.{length, getD, take}
 use borrow.Author.Needs.{needs}
 use Rattle.spec.specs.Matrix.{Vector}
-use Rattle.spec.specs.Copying.{copiesFrom, copies, parts, points, matrices}
+use Rattle.spec.specs.Copying.{copiesFrom, copies, points, matrices}
+use Rattle.spec.specs.Lists.{parts}
 use Rattle.laws.proofs.CopyLaws.{copies-add}
 use Rattle.copying.specs.Post.{Kept, withPoint}
 use Rattle.copying.proofs.Growth.{Grown, grown-first, grown-next, grown-full, grown-end, Done, done-first, done-next, done-longer, done-end, copies-nothing, copies-turn, point-is, length-points, point-longer}

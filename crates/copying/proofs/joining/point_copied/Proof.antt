@@ -5,7 +5,8 @@ use native.Mathlib.Nat.{mul-le-mul-right}
 use native.Mathlib.Omega.{arith}
 use lib.ListN.{take}
 use borrow.Author.Needs.{needs}
-use Rattle.spec.specs.Copying.{parts, matrices}
+use Rattle.spec.specs.Copying.{matrices}
+use Rattle.spec.specs.Lists.{parts}
 use Rattle.points.proofs.Parts.{length-parts}
 use Rattle.points.proofs.Finding.{is-found, is-missing}
 use Rattle.copying.proofs.Growth.{grown-first, grown-end, point-old, point-new}

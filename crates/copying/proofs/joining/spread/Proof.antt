@@ -9,7 +9,8 @@ use native.Mathlib.Omega.{arith}
 use lib.ListN.{length, getD, take}
 use borrow.Author.Needs.{needs}
 use Rattle.spec.specs.Matrix.{Matrix, Vector, mulVec}
-use Rattle.spec.specs.Copying.{spread, parts, matrices}
+use Rattle.spec.specs.Copying.{spread, matrices}
+use Rattle.spec.specs.Lists.{parts}
 use Rattle.points.proofs.Parts.{length-parts}
 use Rattle.matrix.proofs.Padded.{take-image}
 use Rattle.copying.proofs.Growth.{Grown, grown-first, grown-next, grown-full, grown-end, Done, done-first, done-next, done-longer, done-end, spread-nothing, spread-turn, matrix-is, length-matrices, image-longer}

@@ -9,7 +9,8 @@ use native.Mathlib.Omega.{arith}
 use lib.ListN.{length, getD, length-drop}
 use borrow.Author.Needs.{needs}
 use borrow.Rule.Slice.PartMut.{same-len-mid}
-use Rattle.spec.specs.Copying.{parts, matrices, copyRow, copyTable}
+use Rattle.spec.specs.Copying.{matrices, copyRow, copyTable}
+use Rattle.spec.specs.Lists.{parts}
 use Rattle.laws.proofs.CopyLaws.{table-length}
 use Rattle.matrix.specs.Reading.{corner}
 use Rattle.points.proofs.Parts.{length-parts, part-end}

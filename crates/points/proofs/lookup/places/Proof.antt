@@ -6,7 +6,7 @@ use native.Mathlib.Omega.{arith}
 use lib.ListN.{length}
 use borrow.Author.Needs.{needs}
 use borrow.Author.Tests.{not-false}
-use Rattle.spec.specs.Copying.{parts}
+use Rattle.spec.specs.Lists.{parts}
 use Rattle.points.specs.Guesses.{Lone, places}
 use Rattle.points.proofs.Parts.{length-parts, part-end}
 use Rattle.points.proofs.Lone.{guesses-none}

@@ -8,7 +8,9 @@ use lib.ListN.{length, getD, length-set}
 use borrow.Author.Needs.{needs}
 use Rattle.spec.specs.Limits.{maxDimension}
 use Rattle.spec.specs.Matrix.{Vector, mulVec}
-use Rattle.spec.specs.Copying.{find, parts, copyRow}
+use Rattle.spec.specs.Copying.{copyRow}
+use Rattle.spec.specs.Points.{find}
+use Rattle.spec.specs.Lists.{parts}
 use Rattle.laws.proofs.CopyLaws.{not-found}
 use Rattle.matrix.specs.Reading.{corner}
 use Rattle.points.specs.Finding.{foundAt}

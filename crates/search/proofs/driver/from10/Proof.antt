@@ -6,7 +6,7 @@ use mathlib.Core.Path.{sym}
 use Prim.Native.Nat.{_-_, _<_}
 use lib.Seq.{length-take-le}
 use Rattle.ranked.specs.Words.{sizeAt}
-use Rattle.ranked.proofs.Benches.{points-in, laid}
+use Rattle.preflight.proofs.Benches.{points-in, laid}
 use Rattle.symmetry.specs.Tails.{outOf}
 use Rattle.search.proofs.Steps.{centred, facet-low, exchanged-bench, exchanged-parted, far-off}
 use Rattle.search.proofs.driver.from10.Statement.{statement}

@@ -5,7 +5,7 @@ use borrow.Author.Tests.{not-true, not-false}
 use native.Mathlib.Omega.{arith}
 use mathlib.Core.Path.{sym}
 use lib.Seq.{length-take-le}
-use Rattle.ranked.proofs.Benches.{points-in}
+use Rattle.preflight.proofs.Benches.{points-in}
 use Rattle.symmetry.specs.Tails.{outOf}
 use Rattle.search.proofs.Steps.{flat, not-flat}
 use Rattle.search.proofs.driver.from11.Statement.{statement}

@@ -7,7 +7,7 @@ use Prim.Native.Nat.{_*_, _≤_}
 use lib.ListN.{length, take}
 use Rattle.ranked.specs.Words.{sizeAt}
 use Rattle.ranked.proofs.Solids.{size-is}
-use Rattle.ranked.proofs.Benches.{points-in}
+use Rattle.preflight.proofs.Benches.{points-in}
 use Rattle.symmetry.specs.Tails.{outOf}
 use Rattle.search.proofs.Steps.{doubled, not-doubled, parted}
 use Rattle.search.proofs.driver.from9.Statement.{statement}

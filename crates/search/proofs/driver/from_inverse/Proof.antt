@@ -5,7 +5,7 @@ use native.Mathlib.Omega.{arith}
 use mathlib.Core.Path.{refl}
 use Rattle.spec.specs.Calls.{roomOf}
 use Rattle.matrix.specs.Reading.{corner}
-use Rattle.ranked.proofs.Benches.{laid}
+use Rattle.preflight.proofs.Benches.{laid}
 use Rattle.symmetry.specs.Tails.{outOf}
 use Rattle.symmetry.specs.Listing.{answerOf}
 use Rattle.search.proofs.Benched.{after-types, prints-in, searching}

@@ -10,7 +10,7 @@ use lib.Ieee.{ofBits}
 use Rattle.spec.specs.Float.{eps}
 use Rattle.ranked.specs.declared.Shape.{Shape}
 use Rattle.ranked.specs.Words.{firstAt, sizeAt}
-use Rattle.distances.specs.Solids.{solidOn}
+use Rattle.geometry.specs.Solids.{solidOn}
 use Rattle.search.specs.Reading.{farOf}
 use Rattle.search.proofs.Tested.{Left, far-found, far-next, far-end, test-is}
 use Rattle.search.proofs.judging.first_far.Statement.{statement}

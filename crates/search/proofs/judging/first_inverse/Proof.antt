@@ -8,7 +8,7 @@ use Rattle.spec.specs.Flags.{IsFlag}
 use Rattle.spec.specs.Search.{flagColumns}
 use Rattle.laws.proofs.FlagList.{every-first}
 use Rattle.ranked.specs.Words.{absIn}
-use Rattle.distances.specs.Solids.{solidOn}
+use Rattle.geometry.specs.Solids.{solidOn}
 use Rattle.flag.specs.Reading.{flagIn}
 use Rattle.search.proofs.judging.first_inverse.Statement.{statement}
 use Rattle.search.proofs.judging.first_inverse.Tie as tie

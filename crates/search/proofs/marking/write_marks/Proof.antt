@@ -7,10 +7,10 @@ use mathlib.Core.List.{map}
 use Prim.Native.Nat.{_≤_}
 use lib.ListN.{length, take}
 use lib.Seq.{length-take-le}
-use Rattle.spec.specs.Copying.{parts, written}
+use Rattle.spec.specs.Lists.{parts, written}
 use Rattle.spec.specs.Solid.{Concrete}
-use Rattle.distances.proofs.Room.{roomy-floats}
-use Rattle.products.specs.Marking.{markIn}
+use Rattle.geometry.proofs.elements.Room.{roomy-floats}
+use Rattle.marks.specs.Marking.{markIn}
 use Rattle.search.proofs.Benched.{after-types, prints-in, lists-kept, ready, markable, classed-solid}
 use Rattle.search.proofs.marking.write_marks.Statement.{statement}
 use Rattle.search.proofs.marking.write_marks.Tie as tie

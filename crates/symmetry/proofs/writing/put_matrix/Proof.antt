@@ -13,8 +13,7 @@ use denote.Floats.{FloatOf}
 use borrow.Author.Needs.{needs}
 use borrow.Rule.Slice.PartMut.{same-len-mid}
 use Rattle.spec.specs.Limits.{maxDimension}
-use Rattle.spec.specs.Lists.{join}
-use Rattle.spec.specs.Copying.{written}
+use Rattle.spec.specs.Lists.{join, written}
 use Rattle.matrix.specs.Reading.{leading, corner}
 use Rattle.points.proofs.Parts.{part-end}
 use Rattle.matrix.proofs.Sized.{wide}

@@ -7,7 +7,7 @@ use native.Mathlib.Omega.{arith}
 use lib.ListN.{length, take, drop}
 use borrow.Author.Needs.{needs}
 use Rattle.spec.specs.Matrix.{Matrix}
-use Rattle.spec.specs.Copying.{parts}
+use Rattle.spec.specs.Lists.{parts}
 use Rattle.points.proofs.Parts.{part-end}
 use Rattle.text.specs.Members.{rotationCount}
 use Rattle.text.proofs.Counted.{counted, counted-next, counted-most}

@@ -1,2 +1,0 @@
-pub mod Solids
-pub mod Listed

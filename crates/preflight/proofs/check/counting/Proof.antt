@@ -1,0 +1,70 @@
+-- What was met and what is left to be met are all there are.
+-- Assumes nothing.
+use borrow.Author.Needs.{needs}
+use native.Mathlib.Omega.{arith}
+use mathlib.Core.Path.{_≡_, sym, _∙_}
+use mathlib.Core.Bool.{Bool}
+use mathlib.Core.List.{List}
+use Prim.Native.Nat.{ℕ, _+_, _*_, _≤_, _-_}
+use lib.ListN.{length}
+use lib.Dec.{eqb}
+use Rattle.spec.specs.Lists.{holds}
+use Rattle.ranked.specs.Words.{listAt}
+use Rattle.ranked.specs.Reading.{Lies, holding}
+use Rattle.ranked.proofs.Turns.{entry-in, Met, met-yes, met-no, met-end}
+use Rattle.preflight.proofs.check.counting.Statement.{statement}
+use Rattle.preflight.proofs.check.counting.Tie as tie
+
+abbrev p : List ℕ → ℕ → ℕ → ℕ → Bool
+p w base x y = holds eqb x (listAt w (base + 4 * y))
+
+abbrev Inv : tie.InvT-loop
+Inv w i base x n m₀ k₀ m k = (k ≤ n) × (m ≤ k) × (n ≡ length (listAt w i)) × Met (p w base x) (listAt w i) k m
+
+abbrev μ : tie.MeasureT-loop
+μ w i base x n m₀ k₀ m k = n - k
+
+-- The entry's list lies within the words.
+lies : (c : tie.After-entry-at Inv μ) → let a = c .before .before .before .before .before .args in Lies (a .lists .now) (a .base + 4 * c .entry-at .result)
+lies c =
+    let l = c .before .before in
+    let s = l .before .before .before in
+    let a = s .args in
+    s .pre .1 (c .entry-at .result) (entry-in (listAt (a .lists .now) (a .i)) (l .loop .k) _ (omega (arith, c .before .loop-test .taken, l .loop .inv .2)) (c .entry-at .ensures))
+
+pub counting-spec : {M : Type 1} → statement M
+unfolding holding
+counting-spec =
+    tie.close
+    (tie.spec Inv μ
+    (λ c κs. search needs)
+    -- The needs are loop-holds, entry-at-requires and add-k.
+    (λ c. (search needs, search needs, c .count-at .ensures, omega arith))
+    (λ c κs. (search needs, search needs))
+    (λ c. search needs)
+    -- The needs are mul-holds-at, add-holds-at and holds-at-requires.
+    (λ c. omega (arith, lies c))
+    (λ c. omega (arith, lies c))
+    (λ c κs. lies c)
+    -- The needs are add-m, loop-less and loop-again.
+    (λ c. search needs)
+    (λ c. search needs)
+    (λ c. let l = c .before .before .before .before in
+    let k = c .before .before .before .loop-test .taken in (
+      search needs,
+      search needs,
+      l .loop .inv .2,
+      met-yes _ _ (l .loop .k) (l .loop .m) (omega (arith, k, l .loop .inv .2)) (l .loop .inv .3)
+          (rw (c .before .before .entry-at .ensures) at (sym (c .before .holds-at .ensures) ∙ c .if1 .taken)),
+    ))
+    -- The needs are loop-less-2, loop-again-2 and returns.
+    (λ c. search needs)
+    (λ c. let l = c .before .before .before .before in
+    let k = c .before .before .before .loop-test .taken in (
+      search needs,
+      search needs,
+      l .loop .inv .2,
+      met-no _ _ (l .loop .k) (l .loop .m) (omega (arith, k, l .loop .inv .2)) (l .loop .inv .3)
+          (rw (c .before .before .entry-at .ensures) at (sym (c .before .holds-at .ensures) ∙ c .if1 .left)),
+    ))
+    (λ c. let l = c .before .loop in met-end _ _ (l .k) (l .m) (omega (arith, c .loop-test .left, l .inv .2)) (l .inv .3)))

@@ -1,0 +1,4 @@
+pub mod Derive
+pub mod Store
+pub mod Bench
+pub mod Preflight

@@ -1,0 +1,173 @@
+-- This file is about storing a sheet: what its bits say, field by field, and how the subs of a solid come to stand in the words.
+-- Assumes nothing.
+use mathlib.Core.Path.{_≡_}
+use Prim.Native.Nat.{ℕ, zero, suc, _+_, _-_, _*_, _≤_, _<_}
+use mathlib.Core.Bool.{true, false}
+use mathlib.Core.List.{List, [], _∷_, _++_, map}
+use lib.ListN.{length, getD, take, replicate}
+use lib.Dec.{leb, ltb}
+use lib.Ieee.{Float, binary64, ofBits}
+use Rattle.spec.specs.Limits.{maxRank, maxElements}
+use Rattle.spec.specs.Lists.{join, range}
+use Rattle.spec.specs.Bits.{field}
+use Rattle.spec.specs.Types.{Solid, top, size}
+use Rattle.spec.specs.Judged.{refused, passed}
+use Rattle.spec.specs.Sheet.{Parsed, readSheet}
+use Rattle.spec.specs.Solid.{solidOf, entries, Concrete}
+use Rattle.ranked.specs.declared.Shape.{Shape}
+use Rattle.ranked.specs.Words.{firstAt, sizeAt, total, listsOf, listAt, absIn, Held}
+use Rattle.preflight.specs.Derive.{running, Stored}
+
+-- ---- fields
+
+-- Lists the n numbers of w bits each that stand from bit i on.
+unfoldable pub fieldsAt : List ℕ → ℕ → ℕ → ℕ → List ℕ
+fieldsAt b i w zero = []
+fieldsAt b i w (suc n) = field b i w ∷ fieldsAt b (i + w) w n
+
+-- Lists the n coordinates that stand from bit i on, "64 bits each (binary64)".
+unfoldable pub floatsAt : List ℕ → ℕ → ℕ → List Float
+floatsAt b i n = map (ofBits binary64) (fieldsAt b i 64 n)
+
+-- ---- the lists of a sheet
+
+-- These are the list that stands at bit i, and then the bit after the list: "each element's list: length, 12 bits; subs, 11 each".
+unfoldable pub rawList : List ℕ → ℕ → List ℕ
+rawList b i = fieldsAt b (i + 12) 11 (field b i 12)
+
+unfoldable pub bitPast : List ℕ → ℕ → ℕ
+bitPast b i = i + 12 + 11 * field b i 12
+
+-- These are the bit after the n lists that stand from bit i on, and then those lists.
+unfoldable pub bitAfter : List ℕ → ℕ → ℕ → ℕ
+bitAfter b i zero = i
+bitAfter b i (suc n) = bitPast b (bitAfter b i n)
+
+unfoldable pub rawLists : List ℕ → ℕ → ℕ → List (List ℕ)
+rawLists b i zero = []
+rawLists b i (suc n) = rawLists b i n ++ (rawList b (bitAfter b i n) ∷ [])
+
+-- These are the bit after the lists of n ranks that stand from bit i on, one rank after another, and then those lists. The function c says how many
+-- elements each rank has.
+unfoldable pub bitRanks : List ℕ → ℕ → (ℕ → ℕ) → ℕ → ℕ
+bitRanks b i c zero = i
+bitRanks b i c (suc n) = bitAfter b (bitRanks b i c n) (c n)
+
+unfoldable pub rawRanks : List ℕ → ℕ → (ℕ → ℕ) → ℕ → List (List ℕ)
+rawRanks b i c zero = []
+rawRanks b i c (suc n) = rawRanks b i c n ++ rawLists b (bitRanks b i c n) (c n)
+
+-- ---- lists in the words
+
+-- The lists ls of the elements 0, 1, .. stand in the words ws, with all entries behind the starts and lengths of n elements.
+pub record Listed (n : ℕ) (ls : List (List ℕ)) (ws : List ℕ) : Type 0 where
+  pub starts : (g : ℕ) → g < length ls → 4 * n ≤ getD ws (4 * g) 0
+  pub ends : (g : ℕ) → g < length ls → getD ws (4 * g) 0 + getD ws (suc (4 * g)) 0 ≤ 4 * n + length (join ls)
+  pub at : (g : ℕ) → g < length ls → listAt ws (4 * g) ≡ getD ls g []
+
+-- The words ws′ are ws with the lists ls added, which are those of element g and of the elements after it, with their entries from `end` on.
+pub record Adds (g end : ℕ) (ls : List (List ℕ)) (ws ws′ : List ℕ) : Type 0 where
+  pub listed : (n : ℕ) (old : List (List ℕ)) → length old ≡ g → end ≡ 4 * n + length (join old) → g + length ls ≤ n → Listed n old ws → Listed n (old ++ ls) ws′
+
+-- ---- the subs of a solid
+
+-- The shape is as section 2 allows it.
+pub record Shaped (sh : Shape) : Type 0 where
+  pub tall : sh .rank ≤ maxRank
+  pub start : firstAt sh 0 ≡ 0
+  pub least : firstAt sh 1 ≡ 1
+  pub some : (r : ℕ) → r ≤ sh .rank → firstAt sh r < firstAt sh (suc r)
+  -- A solid has so many elements at most.
+  pub small : total sh ≤ maxElements
+
+-- Counts the elements of the ranks 2, 3, .. that have lists.
+abbrev pub listSizes : Shape → ℕ → ℕ
+listSizes sh k = sizeAt sh (suc (suc k))
+
+-- Gives the lists that stand from bit i on, and "the top has all of rank R−1", where R is two or more.
+unfoldable pub upperLists : List ℕ → ℕ → Shape → ℕ → List (List ℕ)
+upperLists b i sh zero = []
+upperLists b i sh (suc k) = rawRanks b i (listSizes sh) k ++ (range 0 (sizeAt sh (suc k)) ∷ [])
+
+-- Gives the subs of all elements: none for the least, "A vertex has the least element as sub", and those above. Where R = 0 the least element is the
+-- top, and where R = 1 the vertex is.
+unfoldable pub subLists : List ℕ → ℕ → Shape → List (List ℕ)
+subLists b i sh = elim (sh .rank) [ zero ↦ [] ∷ [] | suc q ↦ [] ∷ (replicate (sizeAt sh 1) (0 ∷ []) ++ upperLists b i sh q) ]
+
+-- ---- the shape
+
+-- Counts the elements of rank r: one in ranks 0 and R, and in the proper ranks as many as the sheet counts.
+unfoldable pub sizeIn : ℕ → List ℕ → ℕ → ℕ
+sizeIn R counts zero = 1
+sizeIn R counts (suc k) = elim (ltb (suc k) R) [ true ↦ getD counts k 0 | false ↦ 1 ]
+
+-- V is "rank 1's count, but 1 where R = 1 and 0 where R = 0".
+unfoldable pub verticesIn : ℕ → List ℕ → ℕ
+verticesIn zero counts = 0
+verticesIn (suc q) counts = sizeIn (suc q) counts 1
+
+-- Gives the bit at which the coordinates start: "R, 3 bits; dimension D, 3; for each proper rank its count, 12".
+abbrev pub pointsBit : ℕ → ℕ
+pointsBit R = 6 + 12 * (R - 1)
+
+-- The shape is that of a sheet with this R, this D and these counts.
+pub record Counted (R D : ℕ) (counts : List ℕ) (sh : Shape) : Type 0 where
+  pub rank : sh .rank ≡ R
+  pub dimension : sh .dimension ≡ D
+  pub ranks : length (sh .first) ≡ maxRank + 2
+  pub firsts : (r : ℕ) → r ≤ suc R → firstAt sh r ≡ running 0 (sizeIn R counts) r
+  pub rest : (r : ℕ) → suc R < r → firstAt sh r ≡ 0
+
+-- Counts the elements of s in the ranks below r, up to the rank above the top. The starts after that one are 0.
+unfoldable pub startIn : Solid → ℕ → ℕ
+startIn s r = elim (leb r (suc (top s))) [ true ↦ running 0 (λ q. size s q) r | false ↦ 0 ]
+
+-- Counts the subs that all elements have together, where the sheet's lists have I entries: each vertex has one, and the top has the rank below it.
+unfoldable pub subEntries : Shape → ℕ → ℕ
+subEntries sh I = elim (sh .rank) [ zero ↦ 0 | suc q ↦ elim q [ zero ↦ 1 | suc z ↦ sizeAt sh 1 + I + sizeAt sh (suc z) ] ]
+
+-- Counts the words that the solid takes: four for each element, and one for each entry of its subs and of its sups, of which there are as many.
+unfoldable pub lowOf : Shape → ℕ → ℕ
+lowOf sh I = 4 * total sh + 2 * subEntries sh I
+
+-- Gives the word where the sups' entries start, which is after the starts and lengths, and after the subs' entries.
+unfoldable pub baseOf : Shape → ℕ → ℕ
+baseOf sh I = 4 * total sh + subEntries sh I
+
+-- The shape with the number of its words, where the sheet's lists have I entries.
+unfoldable pub sized : Shape → ℕ → Shape
+sized sh I = record { rank = sh .rank; dimension = sh .dimension; first = sh .first; low = lowOf sh I }
+
+-- Gives the shape of a solid.
+unfoldable pub shapeOf : Concrete → Shape
+shapeOf c =
+    let first = map (startIn (c .abs)) (range 0 (maxRank + 2)) in
+    sized (record { rank = top (c .abs); dimension = c .dimension; first = first; low = 0 }) (entries (c .abs))
+
+-- ---- a whole sheet
+
+-- Gives what a sheet says, if it was read, and otherwise the record of an empty one.
+unfoldable pub parsedOf : List ℕ → Parsed
+parsedOf b = elim (readSheet b) [ refused why ↦ record { rank = 0; dimension = 0; counts = []; points = []; lists = [] } | passed p ↦ p ]
+
+-- Gives the solid that a sheet says.
+abbrev pub said : Parsed → Concrete
+said p = record { dimension = p .dimension; points = p .points; abs = solidOf p }
+
+-- The words ws hold the solid of the sheet p, and the floats fs start with its vertices' coordinates.
+pub record Kept (p : Parsed) (sh : Shape) (ws : List ℕ) (fs : List Float) : Type 0 where
+  pub rank : sh .rank ≡ p .rank
+  pub dimension : sh .dimension ≡ p .dimension
+  pub shape : sh ≡ shapeOf (said p)
+  -- A solid has so many elements at most.
+  pub small : total sh ≤ maxElements
+  -- The part of the words and of the floats that is read lies within them.
+  pub low : sh .low ≡ lowOf sh (entries (solidOf p))
+  pub words-in : sh .low ≤ length ws
+  pub floats-in : size (solidOf p) 1 * p .dimension ≤ length fs
+  pub held : Held sh (listsOf sh ws)
+  pub solid : absIn sh (listsOf sh ws) ≡ solidOf p
+  -- The subs stand by themselves below the sups' entries.
+  pub stored : Stored sh (take (baseOf sh (entries (solidOf p))) ws)
+  pub subs-alone : absIn sh (take (baseOf sh (entries (solidOf p))) ws) ≡ solidOf p
+  pub points : take (size (solidOf p) 1 * p .dimension) fs ≡ join (p .points)

@@ -1,0 +1,167 @@
+// This module judges refusals 5, "loose", and 6, "mitre", of a solid that lies in lent words: the sups that lie beside the lists say what an element
+// is in.
+use ranked::Shape;
+use ranked::lists::count_at;
+use ranked::lists::entry_at;
+use ranked::lists::holds_at;
+use ranked::lists::subs_at;
+use ranked::lists::sups_at;
+ghost use mathlib.Core.Path.{_≡_};
+ghost use Prim.Native.Nat.{ℕ, _+_, _*_, _≤_, _<_};
+ghost use lib.ListN.{length};
+ghost use Rattle.spec.specs.Lists.{In};
+ghost use Rattle.spec.specs.Solid.{bound, diamond};
+ghost use Rattle.ranked.specs.Words.{listAt, absIn, Held};
+ghost use Rattle.ranked.specs.Reading.{Lies, supsWord, boundIn, Each, holding, Fork, twoUnder, Tier, twoAt, twoRank, twoFrom};
+
+// Tells whether each of the n elements of a rank that starts at `first` is in a list.
+fn bound_rank(lists: &[u32], first: usize, n: usize) -> bool
+    requires { ⌜ ((e : ℕ) → e < n → Lies (now lists) (supsWord first e)) ⌝ }
+    ensures { λ res. ⌜ res ≡ boundIn (now (lists .entry)) first n ⌝ }
+{
+    let mut e: usize = 0;
+    while e < n {
+        if count_at(lists, sups_at(first, e)) == 0 {
+            return false;
+        }
+        e += 1;
+    }
+    true
+}
+
+// Tells whether refusal 5 is not met: every proper element below rank R - 1 is in a list.
+pub fn is_bound(lists: &[u32], sh: Shape) -> bool
+    requires { ⌜ Held sh (now lists) ⌝ }
+    ensures { λ res. ⌜ res ≡ bound (absIn sh (now (lists .entry))) ⌝ }
+{
+    let rank = sh.rank;
+    let mut k: usize = 0;
+    while k + 2 < rank {
+        let first = sh.first[k + 1];
+        let next = sh.first[k + 2];
+        if !bound_rank(lists, first, next - first) {
+            return false;
+        }
+        k += 1;
+    }
+    true
+}
+
+// Counts the entries y of the list at word i that have x in their list at word base + 4 * y.
+fn counting(lists: &[u32], i: usize, base: usize, x: usize) -> usize
+    requires { ⌜ Lies (now lists) i ⌝ }
+    requires { ⌜ Each (now lists) i base ⌝ }
+    ensures { λ res. ⌜ res ≡ length (holding (now (lists .entry)) i base x) ⌝ }
+{
+    let n = count_at(lists, i);
+    let mut m: usize = 0;
+    let mut k: usize = 0;
+    while k < n {
+        let y = entry_at(lists, i, k);
+        k += 1;
+        if holds_at(lists, base + 4 * y, x) {
+            m += 1;
+        }
+    }
+    m
+}
+
+// Counts the elements between g, whose subs are at word i, and h, whose sups are at word j. The shorter of the two lists is gone through.
+fn between(lists: &[u32], i: usize, j: usize, base: usize, g: usize, h: usize) -> usize
+    requires { ⌜ Fork (now lists) i j base g h ⌝ }
+    ensures { λ res. ⌜ res ≡ length (holding (now (lists .entry)) i base h) ⌝ }
+{
+    if count_at(lists, i) <= count_at(lists, j) {
+        counting(lists, i, base, h)
+    } else {
+        counting(lists, j, base + 2, g)
+    }
+}
+
+// Tells whether exactly two elements lie between g, whose subs are at word i, and each entry of the list at word j, of the rank that starts at
+// `below`.
+fn diamond_under(lists: &[u32], i: usize, j: usize, base: usize, below: usize, g: usize) -> bool
+    requires { ⌜ Lies (now lists) j ⌝ }
+    requires { ⌜ ((h : ℕ) → In h (listAt (now lists) j) → Fork (now lists) i (supsWord below h) base g h) ⌝ }
+    ensures { λ res. ⌜ res ≡ twoUnder (now (lists .entry)) i j base ⌝ }
+{
+    let n = count_at(lists, j);
+    let mut k: usize = 0;
+    while k < n {
+        let h = entry_at(lists, j, k);
+        if between(lists, i, sups_at(below, h), base, g, h) != 2 {
+            return false;
+        }
+        k += 1;
+    }
+    true
+}
+
+// Tells whether exactly two elements lie between g and every sub of its subs. The three ranks start at `below`, `middle` and `above`.
+fn diamond_at(lists: &[u32], below: usize, middle: usize, above: usize, g: usize) -> bool
+    requires { ⌜ Tier (now lists) below middle above g ⌝ }
+    ensures { λ res. ⌜ res ≡ twoAt (now (lists .entry)) middle above g ⌝ }
+{
+    let i = subs_at(above, g);
+    let base = subs_at(middle, 0);
+    let n = count_at(lists, i);
+    let mut k: usize = 0;
+    while k < n {
+        let f = entry_at(lists, i, k);
+        if !diamond_under(lists, i, subs_at(middle, f), base, below, g) {
+            return false;
+        }
+        k += 1;
+    }
+    true
+}
+
+// Tells whether the same holds for each of the n elements of the uppermost rank.
+fn diamond_rank(lists: &[u32], below: usize, middle: usize, above: usize, n: usize) -> bool
+    requires { ⌜ ((g : ℕ) → g < n → Tier (now lists) below middle above g) ⌝ }
+    ensures { λ res. ⌜ res ≡ twoRank (now (lists .entry)) middle above n ⌝ }
+{
+    let mut g: usize = 0;
+    while g < n {
+        if !diamond_at(lists, below, middle, above, g) {
+            return false;
+        }
+        g += 1;
+    }
+    true
+}
+
+// Tells whether the same holds for the ranks above `from` and the one after it, from the bottom up.
+fn diamond_from(lists: &[u32], sh: Shape, from: usize) -> bool
+    requires { ⌜ (Held sh (now lists)) × (from ≤ sh .rank) ⌝ }
+    ensures { λ res. ⌜ res ≡ twoFrom sh (now (lists .entry)) from ⌝ }
+{
+    let rank = sh.rank;
+    let mut r = from;
+    while r + 1 < rank {
+        let below = sh.first[r];
+        let middle = sh.first[r + 1];
+        let above = sh.first[r + 2];
+        let next = sh.first[r + 3];
+        if !diamond_rank(lists, below, middle, above, next - above) {
+            return false;
+        }
+        r += 1;
+    }
+    true
+}
+
+// Tells whether refusal 6 is not met: exactly two elements lie between every element and every sub of its subs, the least and the top included. The
+// top comes first: once every ridge is known to lie in just two facets, what the ranks below cost is bounded by the sheet's length.
+pub fn is_diamond(lists: &[u32], sh: Shape) -> bool
+    requires { ⌜ Held sh (now lists) ⌝ }
+    ensures { λ res. ⌜ res ≡ diamond (absIn sh (now (lists .entry))) ⌝ }
+{
+    let rank = sh.rank;
+    if rank >= 2 {
+        if !diamond_from(lists, sh, rank - 2) {
+            return false;
+        }
+    }
+    diamond_from(lists, sh, 0)
+}

@@ -1,3 +1,0 @@
-pub mod Start
-pub mod Settle
-pub mod Typed
