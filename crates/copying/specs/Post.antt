@@ -6,10 +6,10 @@ use mathlib.Core.Bool.{true, false}
 use mathlib.Core.List.{List, [], _∷_, _++_}
 use lib.ListN.{length, take}
 use lib.Ieee.{Float}
-use Rattle.copying.specs.declared.judging.Judgement.{Judgement}
-use Rattle.copying.specs.declared.judging.Judgement.the-variants.{Passed, Refused}
-use Rattle.copying.specs.declared.joining.Room.{Room}
-use Rattle.copying.specs.declared.joining.Room.the-variants as room
+use Rattle.copying.specs.declared.judging.CopyJudgement.{CopyJudgement}
+use Rattle.copying.specs.declared.judging.CopyJudgement.the-variants.{Passed, Refused}
+use Rattle.copying.specs.declared.joining.CopyRoom.{CopyRoom}
+use Rattle.copying.specs.declared.joining.CopyRoom.the-variants as room
 use Rattle.spec.specs.Judged.{Judged, refused, passed}
 use Rattle.spec.specs.Lists.{join, parts, written}
 use Rattle.spec.specs.Matrix.{Vector, Matrix}
@@ -17,7 +17,7 @@ use Rattle.spec.specs.Copying.{spread}
 use Rattle.spec.specs.Points.{found}
 
 -- Gives the judgement that an answer of the code stands for.
-abbrev pub judgementOf : Judgement → Judged (Unit {0})
+abbrev pub judgementOf : CopyJudgement → Judged (Unit {0})
 judgementOf Passed = passed tt
 judgementOf (Refused why) = refused why
 
@@ -45,6 +45,6 @@ pub record Overfull (limit : ℕ) (all : List Vector) (before after : List Float
   pub is : after ≡ written (join (take limit all)) before
 
 -- Says what a buffer holds by the answer, where `all` are the copies and at most `limit` are kept.
-abbrev pub Kept : (d limit : ℕ) (all : List Vector) (before after : List Float) → Room → Type 0
-Kept d limit all before after (room.Fits n) = Fitting d limit all before after n
-Kept d limit all before after room.Full = Overfull limit all before after
+abbrev pub CopiesKept : (d limit : ℕ) (all : List Vector) (before after : List Float) → CopyRoom → Type 0
+CopiesKept d limit all before after (room.Fits n) = Fitting d limit all before after n
+CopiesKept d limit all before after room.Full = Overfull limit all before after

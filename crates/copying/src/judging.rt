@@ -8,7 +8,7 @@ use float::DIMENSION;
 use spec::Refusal;
 
 // This says whether the points and matrices can be copied, or by which refusal they are turned down.
-pub enum Judgement {
+pub enum CopyJudgement {
     Passed,
     Refused(Refusal),
 }
@@ -29,32 +29,32 @@ fn all_in_range(s: &[f64]) -> bool
 }
 
 // Makes the four judgements, in their order. A refusal ends them, so each test may rely on the ones before it.
-pub fn judged(d: usize, from: &[f64], turns: &[f64]) -> Judgement
+pub fn judged(d: usize, from: &[f64], turns: &[f64]) -> CopyJudgement
     ensures { λ r. ⌜ judgementOf r ≡ judgeCopy d (now (from .entry)) (now (turns .entry)) ⌝ }
 {
     if d < 1 {
-        return Judgement::Refused(Refusal::Format);
+        return CopyJudgement::Refused(Refusal::Format);
     }
     if DIMENSION < d {
-        return Judgement::Refused(Refusal::Format);
+        return CopyJudgement::Refused(Refusal::Format);
     }
     if from.len() % d != 0 {
-        return Judgement::Refused(Refusal::CutSheet);
+        return CopyJudgement::Refused(Refusal::CutSheet);
     }
     if turns.len() % (d * d) != 0 {
-        return Judgement::Refused(Refusal::CutSheet);
+        return CopyJudgement::Refused(Refusal::CutSheet);
     }
     if !all_in_range(from) {
-        return Judgement::Refused(Refusal::OffTheBoard);
+        return CopyJudgement::Refused(Refusal::OffTheBoard);
     }
     if !all_in_range(turns) {
-        return Judgement::Refused(Refusal::OffTheBoard);
+        return CopyJudgement::Refused(Refusal::OffTheBoard);
     }
     if from.len() == 0 {
-        return Judgement::Refused(Refusal::Blank);
+        return CopyJudgement::Refused(Refusal::Blank);
     }
     if turns.len() == 0 {
-        return Judgement::Refused(Refusal::Blank);
+        return CopyJudgement::Refused(Refusal::Blank);
     }
-    Judgement::Passed
+    CopyJudgement::Passed
 }

@@ -14,8 +14,8 @@ mod joining;
 mod judging;
 mod rows;
 
-use joining::Room;
-use judging::Judgement;
+use joining::CopyRoom;
+use judging::CopyJudgement;
 
 // Tells how many points of d floats there is room for, but never more than 2,048, since "copies over 2,048" are refused.
 fn room(floats: usize, d: usize) -> usize
@@ -38,7 +38,7 @@ fn copied(d: usize, from: &[f64], turns: &[f64], out: &mut [f64], table: &mut [u
         (copiesOf (matrices d (now (turns .entry))) (pointsOf d (now (from .entry)))) (now (out .entry)) (now (table .entry)) ⌝ }
 {
     let limit = room(out.len(), d);
-    let Room::Fits(n) = joining::copies(from, turns, d, limit, out) else {
+    let CopyRoom::Fits(n) = joining::copies(from, turns, d, limit, out) else {
         return Answer::Refused(Refusal::ShortSheet, limit);
     };
     let count = turns.len() / (d * d);
@@ -64,7 +64,7 @@ pub fn copy(
         ≡ copyCall dimension (now (points .entry)) (now (turns .entry)) (now (copies .entry)) (now (table .entry)) ⌝ }
 {
     match judging::judged(dimension, points, turns) {
-        Judgement::Refused(why) => Answer::Refused(why, 0),
-        Judgement::Passed => copied(dimension, points, turns, copies, table),
+        CopyJudgement::Refused(why) => Answer::Refused(why, 0),
+        CopyJudgement::Passed => copied(dimension, points, turns, copies, table),
     }
 }

@@ -13,7 +13,7 @@ use Rattle.ranked.specs.declared.Shape.{Shape}
 use Rattle.ranked.specs.Words.{sizeAt}
 use Rattle.ranked.specs.Layout.{typesAt, scratchAt}
 use Rattle.element_types.specs.Runs.{over}
-use Rattle.element_types.specs.Numbers.{Ready, Numbered, keysTo}
+use Rattle.element_types.specs.Numbers.{Numberable, NumbersWritten, keysTo}
 use Rattle.element_types.specs.State.{Stepping, steppedAt}
 use Rattle.element_types.proofs.Parts.{over-front}
 
@@ -50,7 +50,7 @@ module _ (w : List ℕ) (to from n : ℕ) (apart : to + n ≤ from) (room : from
 
 -- ---- a step at a rank
 
-module _ (w v : List ℕ) (lists n base from out : ℕ) (r : Ready w lists n base from out) (d : Numbered w v lists n base from out) where
+module _ (w v : List ℕ) (lists n base from out : ℕ) (r : Numberable w lists n base from out) (d : NumbersWritten w v lists n base from out) where
   stepped : (x : List ℕ) → x ≡ over v from (from + n) (slice out (out + n) v)
       → take out x ≡ over (take out w) from (from + n) (renumber eqList (keysTo w lists base from out n))
   stepped x e =
@@ -62,10 +62,10 @@ module _ (w v : List ℕ) (lists n base from out : ℕ) (r : Ready w lists n bas
 -- In the code's terms, n, from and out are what it read of the shape.
 module _ (sh : Shape) (w : List ℕ) (r lists base : ℕ) (s : Stepping sh w r lists base) (n from out : ℕ) (en : n ≡ sizeAt sh r) (ef : from ≡ typesAt sh r)
     (eo : out ≡ scratchAt sh) where
-  pub numbers-ready : Ready w lists n base from out
+  pub numbers-ready : Numberable w lists n base from out
   numbers-ready = rw (en, ef, eo) (s .ready)
 
-  pub stepped-at : (v : List ℕ) → Numbered w v lists n base from out → (x : List ℕ) → x ≡ over v from (from + n) (slice out (out + n) v)
+  pub stepped-at : (v : List ℕ) → NumbersWritten w v lists n base from out → (x : List ℕ) → x ≡ over v from (from + n) (slice out (out + n) v)
       → take (scratchAt sh) x ≡ steppedAt sh w r lists base
   unfolding steppedAt
   stepped-at v d x e = rw (en, ef, eo) at (stepped w v lists n base from out numbers-ready d x e)

@@ -16,7 +16,7 @@ use Rattle.laws.proofs.Scan.{renumber-snoc, distinct-new, distinct-old, place-o
 use Rattle.ranked.specs.Words.{listAt}
 use Rattle.ranked.specs.Reading.{Lies}
 use Rattle.element_types.specs.Runs.{keyOf, keyAt, repKeys, under, Writable, writtenAt}
-use Rattle.element_types.specs.Numbers.{numberOf, noted, Open, keyIn, keysTo, spaceTo, Ready, Numbered}
+use Rattle.element_types.specs.Numbers.{numberOf, noted, Open, keyIn, keysTo, spaceTo, Numberable, NumbersWritten}
 use Rattle.element_types.proofs.Parts.{getD-kept, take-kept, list-kept}
 use Rattle.element_types.proofs.Compared.{length-keys}
 use Rattle.element_types.proofs.Written.{under-kept, length-written, written-low, written-count, written-key}
@@ -90,7 +90,7 @@ abbrev pub Sums : List ℕ → ℕ → ℕ → ℕ → ℕ → ℕ → Type 0
 Sums w lists from out q e =
     (q + 2 + length (listAt (take out w) (lists + 4 * e)) ≤ length w) × (lists + 4 * e < length w) × (from + e < length w) × (out + e < length w)
 
-module _ (w : List ℕ) (lists n base from out : ℕ) (r : Ready w lists n base from out) where
+module _ (w : List ℕ) (lists n base from out : ℕ) (r : Numberable w lists n base from out) where
   pub scan-first : Scan w lists n base from out w 0 (out + n + n) 0
   unfolding keysTo repKeys spaceTo renumber distinct range
   scan-first = record {
@@ -105,7 +105,7 @@ module _ (w : List ℕ) (lists n base from out : ℕ) (r : Ready w lists n base 
     high = omega arith;
   }
 
-  pub scan-end : (v : List ℕ) (m q e : ℕ) → Scan w lists n base from out v m q e → n ≤ e → Numbered w v lists n base from out
+  pub scan-end : (v : List ℕ) (m q e : ℕ) → Scan w lists n base from out v m q e → n ≤ e → NumbersWritten w v lists n base from out
   scan-end v m q e s h =
       let g : e ≡ n = omega (arith, s .bound) in
       record { long = s .long; kept = s .kept; numbers = rw g at (s .numbers) }

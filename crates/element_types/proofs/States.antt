@@ -24,7 +24,7 @@ use Rattle.ranked.specs.Layout as layout
 use Rattle.ranked.specs.Reading.{Lies, subsWord, supsWord}
 use Rattle.ranked.proofs.Solids.{size-is, in-order, number-in, subs-lie, sups-lie, subs-listed, sups-listed, sub-in, sup-in}
 use Rattle.element_types.specs.Runs.{over, under, keyOf}
-use Rattle.element_types.specs.Numbers.{keyIn, keysTo, spaceTo, Ready}
+use Rattle.element_types.specs.Numbers.{keyIn, keysTo, spaceTo, Numberable}
 use Rattle.element_types.specs.State.{typesIn, stateIn, entries, needed, Steppable, Stepping, steppedAt}
 use Rattle.element_types.proofs.Keys.{Typed, key-same}
 use Rattle.element_types.proofs.Parts.{run-take, list-kept, length-over, take-over, drop-here, drop-past}
@@ -146,7 +146,7 @@ module _ (sh : Shape) (w : List ℕ) (x : Step) (t : Steppable sh w x) (listing 
   unfolding needed
   need-is = omega (arith, count-is, space-is (take out w) listing n)
 
-  ready : Ready w listing n base from out
+  ready : Numberable w listing n base from out
   ready = record {
     lie = λ e h. list-here e h .0;
     members = λ e y h m. omega (arith, number-in sh (listsOf sh w) (t .held) (next x) y (o .next-in) (o .inside e y h (rw (list-here e h .1) at m)));

@@ -50,7 +50,7 @@ spaceTo l lists (suc e) = spaceTo l lists e + (2 + length (listAt l (lists + 4 *
 
 -- The lists of the n elements, the types of their neighbours and their own stand below word `out`. From there on there is room for n numbers, n places
 -- and the keys.
-pub record Ready (w : List ℕ) (lists n base from out : ℕ) : Type 0 where
+pub record Numberable (w : List ℕ) (lists n base from out : ℕ) : Type 0 where
   pub lie : (e : ℕ) → e < n → Lies (take out w) (lists + 4 * e)
   pub members : (e y : ℕ) → e < n → In y (listAt (take out w) (lists + 4 * e)) → base + y < out
   pub own : from + n ≤ out
@@ -58,7 +58,7 @@ pub record Ready (w : List ℕ) (lists n base from out : ℕ) : Type 0 where
   pub small : out + n + n + spaceTo (take out w) lists n < 2 ^ 32
 
 -- Nothing below `out` has changed, and the numbers stand from there on.
-pub record Numbered (w v : List ℕ) (lists n base from out : ℕ) : Type 0 where
+pub record NumbersWritten (w v : List ℕ) (lists n base from out : ℕ) : Type 0 where
   pub long : length v ≡ length w
   pub kept : take out v ≡ take out w
   pub numbers : slice out (out + n) v ≡ renumber eqList (keysTo w lists base from out n)

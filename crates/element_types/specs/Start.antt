@@ -33,7 +33,7 @@ abbrev pub Shares : List Float → ℕ → ℕ → (ℕ → ℕ) → Type 0
 Shares cells from n cls = (e g : ℕ) → e < n → g < n → eqb (cls e) (cls g) ≡ sameClass (cellAt cells from e) (cellAt cells from g)
 
 -- There is room for n numbers from word `to` on and for n elements from word `reps` on, and there are n cells from cell `from` on.
-pub record Fitting (w : List ℕ) (to reps n : ℕ) (cells : List Float) (from : ℕ) : Type 0 where
+pub record ClassesFit (w : List ℕ) (to reps n : ℕ) (cells : List Float) (from : ℕ) : Type 0 where
   pub apart : to + n ≤ reps
   pub room : reps + n ≤ length w
   pub inside : from + n ≤ length cells

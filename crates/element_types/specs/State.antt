@@ -10,7 +10,7 @@ use Rattle.ranked.specs.declared.Shape.{Shape}
 use Rattle.ranked.specs.Words.{firstAt, sizeAt, listsOf, absIn, Held}
 use Rattle.ranked.specs.Layout.{typesAt, scratchAt}
 use Rattle.element_types.specs.Runs.{over}
-use Rattle.element_types.specs.Numbers.{Ready, keysTo}
+use Rattle.element_types.specs.Numbers.{Numberable, keysTo}
 
 -- Lists the types of the elements of rank r.
 unfoldable pub typesIn : Shape → List ℕ → ℕ → List ℕ
@@ -42,7 +42,7 @@ pub record Stepping (sh : Shape) (w : List ℕ) (r lists base : ℕ) : Type 0 wh
   pub tall : sh .rank ≤ maxRank
   pub within : r ≤ sh .rank
   pub some : firstAt sh r < firstAt sh (suc r)
-  pub ready : Ready w lists (sizeAt sh r) base (typesAt sh r) (scratchAt sh)
+  pub ready : Numberable w lists (sizeAt sh r) base (typesAt sh r) (scratchAt sh)
 
 -- Gives the words below the free ones after that step: the elements of rank r have the numbers of their keys as types.
 unfoldable pub steppedAt : Shape → List ℕ → ℕ → ℕ → ℕ → List ℕ

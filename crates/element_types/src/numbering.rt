@@ -3,7 +3,7 @@ use crate::compare::find_key;
 use crate::sorting::write_key;
 ghost use mathlib.Core.Path.{_≡_};
 ghost use Prim.Native.Nat.{_+_, _<_};
-ghost use Rattle.element_types.specs.Numbers.{Open, numberOf, noted, Ready, Numbered};
+ghost use Rattle.element_types.specs.Numbers.{Open, numberOf, noted, Numberable, NumbersWritten};
 
 // Numbers the element whose key stands at word q: its number, to word `cell`, is the key's place among the m that stand where the words from `reps`
 // say. A new key's place joins them.
@@ -24,8 +24,8 @@ fn number_one(words: &mut [u32], cell: usize, reps: usize, m: usize, q: usize) -
 // Numbers the n elements of a rank, to the words from `out`. Element e's list is at word lists + 4 * e, its type at word from + e; its neighbours'
 // types stand from word `base`.
 pub fn number_rank(words: &mut [u32], lists: usize, n: usize, base: usize, from: usize, out: usize)
-    requires { ⌜ Ready (now words) lists n base from out ⌝ }
-    ensures { λ _. ⌜ Numbered (now (words .entry)) (now (words .exit)) lists n base from out ⌝ }
+    requires { ⌜ Numberable (now words) lists n base from out ⌝ }
+    ensures { λ _. ⌜ NumbersWritten (now (words .entry)) (now (words .exit)) lists n base from out ⌝ }
 {
     let reps = out + n;
     let mut q = reps + n;

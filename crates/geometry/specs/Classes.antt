@@ -10,7 +10,7 @@ use lib.Ieee.{Float, eq, isNan}
 use Rattle.spec.specs.Hull.{listing}
 use Rattle.geometry.specs.declared.classes.Nearest.{Nearest}
 use Rattle.geometry.specs.declared.classes.Nearest.the-variants.{Listed, Nothing}
-use Rattle.geometry.specs.declared.classes.Listing.{Listing}
+use Rattle.geometry.specs.declared.classes.ListedValue.{ListedValue}
 
 -- Gives the listed value that was found, if any.
 unfoldable pub nearestOf : Nearest → Option Float
@@ -18,7 +18,7 @@ nearestOf (Listed y) = some y
 nearestOf Nothing = none
 
 -- Taking x gives a value, and the list afterwards is the first `count` cells, of which one may be new. The other cells are as before.
-pub record Takes (before after : List Float) (n : ℕ) (x : Float) (r : Listing) : Type 0 where
+pub record Takes (before after : List Float) (n : ℕ) (x : Float) (r : ListedValue) : Type 0 where
   pub is : _≡_ {A = Float × List Float} (r .value, take (r .count) after) (listing (take n before) x)
   pub room : r .count ≤ n + 1
   pub rest : drop (r .count) after ≡ drop (r .count) before

@@ -14,7 +14,7 @@ pub enum Nearest {
 }
 
 // These are the value that a distance takes, and the length of the list afterwards.
-pub struct Listing {
+pub struct ListedValue {
     pub value: f64,
     pub count: usize,
 }
@@ -62,15 +62,15 @@ pub fn listed_for(listed: &[f64], n: usize, x: f64) -> Nearest
 }
 
 // "A distance takes the smallest listed value strictly nearer than EPS, else joins the list."
-pub fn list_distance(listed: &mut [f64], n: usize, x: f64) -> Listing
+pub fn list_distance(listed: &mut [f64], n: usize, x: f64) -> ListedValue
     requires { ⌜ n < length (now listed) ⌝ }
     ensures { λ r. ⌜ Takes (now (listed .entry)) (now (listed .exit)) n x r ⌝ }
 {
     match listed_for(listed, n, x) {
-        Nearest::Listed(y) => Listing { value: y, count: n },
+        Nearest::Listed(y) => ListedValue { value: y, count: n },
         Nearest::Nothing => {
             listed[n] = x;
-            Listing {
+            ListedValue {
                 value: x,
                 count: n + 1,
             }

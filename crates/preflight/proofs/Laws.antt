@@ -28,8 +28,8 @@ use Rattle.sheet.proofs.Laws.{elements-is, entries-is, header-small}
 use Rattle.ranked.specs.declared.Shape.{Shape}
 use Rattle.preflight.specs.declared.Ready.{Ready}
 use Rattle.ranked.specs.Words.{listsOf, absIn}
-use Rattle.preflight.specs.Store.{parsedOf, shapeOf, said, Kept}
-use Rattle.preflight.specs.Preflight.{verdictOf, unreadyOf, readyOf, checksOf, Placed, Settled, Preflighted}
+use Rattle.preflight.specs.Store.{parsedOf, shapeOf, said, StoredSheet}
+use Rattle.preflight.specs.Preflight.{verdictOf, unreadyOf, readyOf, checksOf, OnBench, SheetJudged, Preflighted}
 use Rattle.ranked.proofs.Solids.{sizes-are}
 use Rattle.preflight.proofs.store.Reading.{allowed}
 use Rattle.preflight.proofs.store.Whole.{room-in}
@@ -132,7 +132,7 @@ module _ (b : List ℕ) (p : Parsed) (e : readSheet b ≡ passed p) where
 
     -- ---- the stored solid
 
-    module _ {sh : Shape} {ws : List ℕ} {fs : List Float} (k : Kept p sh ws fs) where
+    module _ {sh : Shape} {ws : List ℕ} {fs : List Float} (k : StoredSheet p sh ws fs) where
       pub low-length : sh .low ≡ length (listsOf sh ws)
       low-length = sym (length-take-le (sh .low) ws (k .words-in))
 
@@ -140,14 +140,14 @@ module _ (b : List ℕ) (p : Parsed) (e : readSheet b ≡ passed p) where
         checks-are : checksOf (solidOf p) ≡ v
         checks-are = sym (ev ∙ ap checksOf (k .solid))
 
-        pub settled : v ≡ Accepted → Settled p (record { verdict = v; shape = sh }) ws fs
+        pub settled : v ≡ Accepted → SheetJudged p (record { verdict = v; shape = sh }) ws fs
         settled a = record {
           unready = λ why q. absurd (not-both why (sym q ∙ checks-are ∙ a));
           verdict = sym checks-are;
           kept = λ q. k;
         }
 
-        pub unsettled : (why : Refusal) → v ≡ Refused why → (r : Ready) → r ≡ unreadyOf why → Settled p r ws fs
+        pub unsettled : (why : Refusal) → v ≡ Refused why → (r : Ready) → r ≡ unreadyOf why → SheetJudged p r ws fs
         unsettled why a r er = record {
           unready = λ other q. er ∙ ap unreadyOf (which why other (sym a ∙ sym checks-are ∙ q));
           verdict = ap (λ (x : Ready). x .verdict) er ∙ sym (checks-are ∙ a);
@@ -184,11 +184,11 @@ module _ (b : List ℕ) (n m : ℕ) (r : Ready) (ws : List ℕ) (fs : List Float
     cramped-in q v = refusal Bench (cramped b n m p e (sym room ∙ q)) v
 
     -- Refusals 5 and 6, or none, come from judging the stored solid.
-    pub settled-in : t ≡ true → Settled (parsedOf b) r ws fs → Preflighted b n m r ws fs
+    pub settled-in : t ≡ true → SheetJudged (parsedOf b) r ws fs → Preflighted b n m r ws fs
     unfolding verdictOf readyOf
     settled-in q z = from (rw (← parsed-is b p e) at z)
       where
-        place : Passed b (said p) → Kept p (r .shape) ws fs → Placed (said p) (r .shape) ws fs
+        place : Passed b (said p) → StoredSheet p (r .shape) ws fs → OnBench (said p) (r .shape) ws fs
         place v k = record {
           bench = record {
             held = k .held;
@@ -210,7 +210,7 @@ module _ (b : List ℕ) (n m : ℕ) (r : Ready) (ws : List ℕ) (fs : List Float
             space : (16 * (elements (solidOf p) + entries (solidOf p) + 4) ≤ n) × (8 * (elements (solidOf p) + 8) ≤ m)
             space = room-in (solidOf p) n m (sym room ∙ q)
 
-        from : Settled p r ws fs → Preflighted b n m r ws fs
+        from : SheetJudged p r ws fs → Preflighted b n m r ws fs
         from z = record {
           answer = go (preflight b n m) refl;
           verdict = z .verdict ∙ sym checks;

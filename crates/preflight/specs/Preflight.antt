@@ -17,7 +17,7 @@ use Rattle.sheet.specs.declared.Verdict.{Verdict}
 use Rattle.sheet.specs.declared.Verdict.the-variants.{Accepted, Refused}
 use Rattle.ranked.specs.declared.Shape.{Shape}
 use Rattle.preflight.specs.declared.Ready.{Ready}
-use Rattle.preflight.specs.Store.{shapeOf, Kept}
+use Rattle.preflight.specs.Store.{shapeOf, StoredSheet}
 use Rattle.preflight.specs.Bench.{Bench}
 use Rattle.ranked.specs.Layout.{solidIn}
 
@@ -40,15 +40,15 @@ unfoldable pub checksOf : Solid → Verdict
 checksOf s = elim (bound s) [ true ↦ elim (diamond s) [ true ↦ Accepted | false ↦ Refused Mitre ] | false ↦ Refused Loose ]
 
 -- The solid c lies in the workspace.
-pub record Placed (c : Concrete) (sh : Shape) (ws : List ℕ) (fs : List Float) : Type 0 where
+pub record OnBench (c : Concrete) (sh : Shape) (ws : List ℕ) (fs : List Float) : Type 0 where
   pub bench : Bench sh ws fs
   pub is : solidIn sh ws fs ≡ c
 
 -- The sheet p, for which there is room, has been stored, and its solid has been judged.
-pub record Settled (p : Parsed) (r : Ready) (ws : List ℕ) (fs : List Float) : Type 0 where
+pub record SheetJudged (p : Parsed) (r : Ready) (ws : List ℕ) (fs : List Float) : Type 0 where
   pub unready : (why : Refusal) → checksOf (solidOf p) ≡ Refused why → r ≡ unreadyOf why
   pub verdict : r .verdict ≡ checksOf (solidOf p)
-  pub kept : checksOf (solidOf p) ≡ Accepted → Kept p (r .shape) ws fs
+  pub kept : checksOf (solidOf p) ≡ Accepted → StoredSheet p (r .shape) ws fs
 
 -- For the sheet b in n words and m floats, preflight gives the answer, and the solid's place where it passes. Everything else that the words and
 -- floats hold is free, and they keep their lengths.
@@ -56,4 +56,4 @@ pub record Preflighted (b : List ℕ) (n m : ℕ) (r : Ready) (ws : List ℕ) (f
   pub answer : r ≡ readyOf (preflight b n m)
   pub verdict : r .verdict ≡ verdictOf (preflight b n m)
   pub lengths : (length ws ≡ n) × (length fs ≡ m)
-  pub placed : (c : Concrete) → preflight b n m ≡ passed c → Placed c (r .shape) ws fs
+  pub placed : (c : Concrete) → preflight b n m ≡ passed c → OnBench c (r .shape) ws fs

@@ -60,14 +60,14 @@ rawRanks b i c (suc n) = rawRanks b i c n ++ rawLists b (bitRanks b i c n) (c n)
 -- ---- lists in the words
 
 -- The lists ls of the elements 0, 1, .. stand in the words ws, with all entries behind the starts and lengths of n elements.
-pub record Listed (n : ℕ) (ls : List (List ℕ)) (ws : List ℕ) : Type 0 where
+pub record ListsIn (n : ℕ) (ls : List (List ℕ)) (ws : List ℕ) : Type 0 where
   pub starts : (g : ℕ) → g < length ls → 4 * n ≤ getD ws (4 * g) 0
   pub ends : (g : ℕ) → g < length ls → getD ws (4 * g) 0 + getD ws (suc (4 * g)) 0 ≤ 4 * n + length (join ls)
   pub at : (g : ℕ) → g < length ls → listAt ws (4 * g) ≡ getD ls g []
 
 -- The words ws′ are ws with the lists ls added, which are those of element g and of the elements after it, with their entries from `end` on.
 pub record Adds (g end : ℕ) (ls : List (List ℕ)) (ws ws′ : List ℕ) : Type 0 where
-  pub listed : (n : ℕ) (old : List (List ℕ)) → length old ≡ g → end ≡ 4 * n + length (join old) → g + length ls ≤ n → Listed n old ws → Listed n (old ++ ls) ws′
+  pub listed : (n : ℕ) (old : List (List ℕ)) → length old ≡ g → end ≡ 4 * n + length (join old) → g + length ls ≤ n → ListsIn n old ws → ListsIn n (old ++ ls) ws′
 
 -- ---- the subs of a solid
 
@@ -111,7 +111,7 @@ abbrev pub pointsBit : ℕ → ℕ
 pointsBit R = 6 + 12 * (R - 1)
 
 -- The shape is that of a sheet with this R, this D and these counts.
-pub record Counted (R D : ℕ) (counts : List ℕ) (sh : Shape) : Type 0 where
+pub record ShapeCounted (R D : ℕ) (counts : List ℕ) (sh : Shape) : Type 0 where
   pub rank : sh .rank ≡ R
   pub dimension : sh .dimension ≡ D
   pub ranks : length (sh .first) ≡ maxRank + 2
@@ -155,7 +155,7 @@ abbrev pub said : Parsed → Concrete
 said p = record { dimension = p .dimension; points = p .points; abs = solidOf p }
 
 -- The words ws hold the solid of the sheet p, and the floats fs start with its vertices' coordinates.
-pub record Kept (p : Parsed) (sh : Shape) (ws : List ℕ) (fs : List Float) : Type 0 where
+pub record StoredSheet (p : Parsed) (sh : Shape) (ws : List ℕ) (fs : List Float) : Type 0 where
   pub rank : sh .rank ≡ p .rank
   pub dimension : sh .dimension ≡ p .dimension
   pub shape : sh ≡ shapeOf (said p)

@@ -18,7 +18,7 @@ ghost use Rattle.spec.specs.Solid.{solidOf, roomy};
 ghost use Rattle.sheet.specs.Judge.{headerOf};
 ghost use Rattle.ranked.specs.Words.{absIn, Held};
 ghost use Rattle.preflight.specs.Store.{parsedOf};
-ghost use Rattle.preflight.specs.Preflight.{unreadyOf, checksOf, Settled, Preflighted};
+ghost use Rattle.preflight.specs.Preflight.{unreadyOf, checksOf, SheetJudged, Preflighted};
 
 mod check;
 pub mod store;
@@ -74,7 +74,7 @@ fn settle(sheet: &[u8], header: Header, words: &mut [u32], floats: &mut [f64]) -
     requires { ⌜ readSheet (now sheet) ≡ passed (parsedOf (now sheet)) ⌝ }
     requires { ⌜ header ≡ headerOf (parsedOf (now sheet)) ⌝ }
     requires { ⌜ roomy (solidOf (parsedOf (now sheet))) (length (now words)) (length (now floats)) ≡ true ⌝ }
-    ensures { λ r. ⌜ Settled (parsedOf (now (sheet .entry))) r (now (words .exit)) (now (floats .exit)) ⌝ }
+    ensures { λ r. ⌜ SheetJudged (parsedOf (now (sheet .entry))) r (now (words .exit)) (now (floats .exit)) ⌝ }
 {
     let counts = header.counts;
     let sh = store(

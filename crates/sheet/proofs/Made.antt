@@ -21,9 +21,9 @@ use Rattle.spec.specs.Judged.{Judged, refused, passed}
 use Rattle.laws.proofs.Accepted.{times-read, times-each, count-read}
 use Rattle.spec.specs.Sheet.{Parsed, Reader, _>>=_, _>>_, done, times, count, coordinate, lists, end, vertexCount, rank, dimension, sheet, readSheet}
 use Rattle.sheet.specs.declared.Place.the-variants as place
-use Rattle.sheet.specs.declared.Counted.{Counted}
-use Rattle.sheet.specs.declared.Listed.{Listed}
-use Rattle.sheet.specs.declared.Listed.the-variants as listed
+use Rattle.sheet.specs.declared.CountsRead.{CountsRead}
+use Rattle.sheet.specs.declared.ListsRead.{ListsRead}
+use Rattle.sheet.specs.declared.ListsRead.the-variants as listed
 use Rattle.sheet.specs.declared.Verdict.the-variants as verdict
 use Rattle.sheet.specs.declared.Judgement.{Judgement}
 use Rattle.sheet.specs.Judge.{proper, padded, allEntries, headerOf, judgementOf}
@@ -38,27 +38,27 @@ unfolding countedOf placeOf
 place-of (refused why) = refl
 place-of (passed x) = refl
 
-pub uncounted : (why : Refusal) (o : Judged (List ℕ × ℕ)) (r : Counted) → r ≡ countedOf o → r .place ≡ place.Refused why → o ≡ refused why
-uncounted why o r e f = place-refused why o (sym f ∙ ap (λ (z : Counted). z .place) e ∙ place-of o)
+pub uncounted : (why : Refusal) (o : Judged (List ℕ × ℕ)) (r : CountsRead) → r ≡ countedOf o → r .place ≡ place.Refused why → o ≡ refused why
+uncounted why o r e f = place-refused why o (sym f ∙ ap (λ (z : CountsRead). z .place) e ∙ place-of o)
 
 -- The counts that were read are a list, and the array and the sum are told by it.
-pub record Counts (b : List ℕ) (n i p : ℕ) (r : Counted) : Type 0 where
+pub record Counts (b : List ℕ) (n i p : ℕ) (r : CountsRead) : Type 0 where
   pub list : List ℕ
   pub read : times n (count b) i ≡ passed (list, p)
   pub array : r .counts ≡ padded list
   pub total : r .elements ≡ sum list
 
-pub counted : (b : List ℕ) (n i p : ℕ) (r : Counted) → r ≡ countedOf (times n (count b) i) → r .place ≡ place.At p → Counts b n i p r
+pub counted : (b : List ℕ) (n i p : ℕ) (r : CountsRead) → r ≡ countedOf (times n (count b) i) → r .place ≡ place.At p → Counts b n i p r
 unfolding countedOf
 counted b n i p r e f =
     let o = times n (count b) i in
-    let x = place-at p o (sym f ∙ ap (λ (z : Counted). z .place) e ∙ place-of o) in
+    let x = place-at p o (sym f ∙ ap (λ (z : CountsRead). z .place) e ∙ place-of o) in
     let q = e ∙ ap countedOf (x .1) in
     record {
       list = x .0;
       read = x .1;
-      array = ap (λ (z : Counted). z .counts) q;
-      total = ap (λ (z : Counted). z .elements) q;
+      array = ap (λ (z : CountsRead). z .counts) q;
+      total = ap (λ (z : CountsRead). z .elements) q;
     }
 
 pub padded-small : (m k : ℕ) (l : List ℕ) → ((x : ℕ) → In x l → x ≤ m) → (j : ℕ) → getD (l ++ replicate k 0) j 0 ≤ m
@@ -73,7 +73,7 @@ unfolding vertexCount
 vertices-small R [] g h = omega arith
 vertices-small R (x ∷ l) g h = h x (inl refl)
 
-module _ (b : List ℕ) (R i p : ℕ) (r : Counted) (x : Counts b (R - 1) i p r) (tall : R ≤ maxRank) where
+module _ (b : List ℕ) (R i p : ℕ) (r : CountsRead) (x : Counts b (R - 1) i p r) (tall : R ≤ maxRank) where
   few : length (x .list) ≡ R - 1
   few = times-read (R - 1) (count b) i (x .list, p) (x .read)
 
@@ -96,7 +96,7 @@ module _ (b : List ℕ) (R i p : ℕ) (r : Counted) (x : Counts b (R - 1) i p r)
 
 -- ---- the judgement that the body's answer makes
 
-unfoldable pub judgedWith : ℕ → ℕ → List ℕ → ℕ → Listed → Judgement
+unfoldable pub judgedWith : ℕ → ℕ → List ℕ → ℕ → ListsRead → Judgement
 judgedWith R D array e (listed.Refused why) = judgementOf (refused why)
 judgedWith R D array e (listed.At p u) = record { verdict = verdict.Accepted; header = record { rank = R; dimension = D; counts = array; elements = e; entries = u } }
 
@@ -157,7 +157,7 @@ module _ (b : List ℕ) (R D i : ℕ) where
   rest-made {l} {p} e = body-made b R D l p ∙ sym (ap judgementAt (on (times (R - 1) (count b)) i after-counts e))
 
 -- The same holds by the array and the sum.
-pub rest-told : (b : List ℕ) (R D i p : ℕ) (r : Counted) (x : Counts b (R - 1) i p r) → R ≤ maxRank → (u : Listed)
+pub rest-told : (b : List ℕ) (R D i p : ℕ) (r : CountsRead) (x : Counts b (R - 1) i p r) → R ≤ maxRank → (u : ListsRead)
     → u ≡ listedOf allEntries 0 (bodyAt b (vertexCount R (take (R - 1) (r .counts))) D (take (R - 1) (r .counts)) p)
     → judgedWith R D (r .counts) (r .elements) u ≡ judgementAt (restAt b R D i)
 rest-told b R D i p r x tall u e =

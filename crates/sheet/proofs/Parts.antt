@@ -17,7 +17,7 @@ use Rattle.spec.specs.Judged.{Judged, refused, passed}
 use Rattle.spec.specs.Sheet.{Reader, _>>=_, _>>_, done, judge, times, coordinate, lists, end, vertexCount}
 use Rattle.sheet.specs.declared.Place.{Place}
 use Rattle.sheet.specs.declared.Place.the-variants as place
-use Rattle.sheet.specs.declared.Listed.the-variants as listed
+use Rattle.sheet.specs.declared.ListsRead.the-variants as listed
 use Rattle.sheet.specs.Judge.{allEntries}
 use Rattle.sheet.specs.Reading.{placeOf, listedOf, passes, bodyAt}
 use Rattle.sheet.proofs.Readers.{stop, on, stop-too, on-too, after, times-stop, times-on, coordinates-size, ranks-size}

@@ -21,9 +21,9 @@ use Rattle.spec.specs.Limits.{maxEntries}
 use Rattle.spec.specs.Sheet.{Reader, done, times, subList, list, listsAt, lists}
 use Rattle.sheet.specs.declared.Place.{Place}
 use Rattle.sheet.specs.declared.Place.the-variants as place
-use Rattle.sheet.specs.declared.Counted.{Counted}
-use Rattle.sheet.specs.declared.Listed.{Listed}
-use Rattle.sheet.specs.declared.Listed.the-variants as listed
+use Rattle.sheet.specs.declared.CountsRead.{CountsRead}
+use Rattle.sheet.specs.declared.ListsRead.{ListsRead}
+use Rattle.sheet.specs.declared.ListsRead.the-variants as listed
 use Rattle.sheet.specs.Judge.{proper, padded, rankEntries, allEntries}
 use Rattle.sheet.specs.Reading.{placeOf, countedOf, listedOf}
 use Rattle.sheet.proofs.Readers.{after, times-stop, times-on, sub-cut, sub-bad, sub-on, rank-stop, rank-on, ranks-stop, ranks-on, list-size, rank-size}
@@ -96,7 +96,7 @@ module _ (b : List ℕ) (c n k low i : ℕ) {w : Place} (left : placeOf (subList
 
 -- ---- counts: those read so far stand in the array a, and their sum is e
 
-unfoldable pub countsFrom : List ℕ → ℕ → ℕ → Judged (List ℕ × ℕ) → Counted
+unfoldable pub countsFrom : List ℕ → ℕ → ℕ → Judged (List ℕ × ℕ) → CountsRead
 countsFrom a e k (refused why) = record { place = place.Refused why; counts = padded []; elements = 0 }
 countsFrom a e k (passed x) = record { place = place.At (x .1); counts = sets a k (x .0); elements = e + sum (x .0) }
 
@@ -105,7 +105,7 @@ unfolding countsFrom after sum
 counts-after a e k x (refused why) = refl
 counts-after a e k x (passed y) = rw (add-one, add-assoc e x (sum (y .0)))
 
-module _ (m : Reader ℕ) (n k i e : ℕ) (a : List ℕ) {w : Counted} (left : countsFrom a e k (times (n - k) m i) ≡ w) where
+module _ (m : Reader ℕ) (n k i e : ℕ) (a : List ℕ) {w : CountsRead} (left : countsFrom a e k (times (n - k) m i) ≡ w) where
   pub counts-refuses : k < n → {why : Refusal} → m i ≡ refused why → countedOf (refused why) ≡ w
   unfolding countsFrom countedOf
   counts-refuses h q = sym (ap (λ z. countsFrom a e k (times z m i)) (less n k h) ∙ ap (countsFrom a e k) (times-stop m (n - (k + 1)) i q)) ∙ left
@@ -137,7 +137,7 @@ counts-begin (passed x) f = rw (zero-add (sum (x .0)), filled (x .0) (f x refl))
 -- ---- lists
 
 -- Puts the entries beside a place.
-unfoldable pub withEntries : ℕ → Place → Listed
+unfoldable pub withEntries : ℕ → Place → ListsRead
 withEntries u (place.Refused why) = listed.Refused why
 withEntries u (place.At i) = listed.At i u
 
@@ -172,7 +172,7 @@ module _ {A : Type 0} (f : A → ℕ) (used : ℕ) where
   listed-at p u (passed y) e = let q : y .1 ≡ p = cc in (y .0, ap (λ z. passed (y .0, z)) q, cc)
 
 -- This is the loop over the lists of a rank.
-module _ (b : List ℕ) (c n k used i : ℕ) {w : Listed} (left : listedOf rankEntries used (listsAt b c (n - k) used i) ≡ w) where
+module _ (b : List ℕ) (c n k used i : ℕ) {w : ListsRead} (left : listedOf rankEntries used (listsAt b c (n - k) used i) ≡ w) where
   pub rank-refuses : k < n → {why : Refusal} → listed.Refused why ≡ listedOf length used (list b c used i) → listed.Refused why ≡ w
   unfolding listedOf
   rank-refuses h {why} e =
@@ -208,7 +208,7 @@ rank-fits b c n i p u e =
     far l q r = omega arith
 
 -- This is the loop over the lists of all ranks.
-module _ (b : List ℕ) (c d e i : ℕ) (l : List ℕ) {w : Listed} (left : listedOf allEntries e (lists b (c ∷ d ∷ l) i) ≡ w) where
+module _ (b : List ℕ) (c d e i : ℕ) (l : List ℕ) {w : ListsRead} (left : listedOf allEntries e (lists b (c ∷ d ∷ l) i) ≡ w) where
   pub ranks-refuse : {why : Refusal} → listed.Refused why ≡ listedOf rankEntries 0 (listsAt b c d 0 i) → listed.Refused why ≡ w
   unfolding listedOf
   ranks-refuse {why} q = sym (ap (listedOf allEntries e) (ranks-stop b c d i l (listed-refused rankEntries 0 why (listsAt b c d 0 i) q))) ∙ left
@@ -219,7 +219,7 @@ module _ (b : List ℕ) (c d e i : ℕ) (l : List ℕ) {w : Listed} (left : list
       rw (x .2 ∙ zero-add (rankEntries (x .0)))
       (sym (ap (listedOf allEntries e) (ranks-on b c d i l (x .1)) ∙ listed-after allEntries rankEntries all-more e (x .0) (lists b (d ∷ l) p)) ∙ left)
 
-pub ranks-end : (b : List ℕ) (c e i : ℕ) {w : Listed} → listedOf allEntries e (lists b (c ∷ []) i) ≡ w → listed.At i e ≡ w
+pub ranks-end : (b : List ℕ) (c e i : ℕ) {w : ListsRead} → listedOf allEntries e (lists b (c ∷ []) i) ≡ w → listed.At i e ≡ w
 unfolding listedOf lists done allEntries sum
 ranks-end b c e i q = rw add-zero at q
 

@@ -8,9 +8,9 @@ use Rattle.spec.specs.Judged.{Judged, refused, passed}
 use Rattle.spec.specs.Sheet.{Parsed, Reader, _>>=_, _>>_, done, times, count, coordinate, lists, end, vertexCount}
 use Rattle.sheet.specs.declared.Place.{Place}
 use Rattle.sheet.specs.declared.Place.the-variants as place
-use Rattle.sheet.specs.declared.Counted.{Counted}
-use Rattle.sheet.specs.declared.Listed.{Listed}
-use Rattle.sheet.specs.declared.Listed.the-variants as listed
+use Rattle.sheet.specs.declared.CountsRead.{CountsRead}
+use Rattle.sheet.specs.declared.ListsRead.{ListsRead}
+use Rattle.sheet.specs.declared.ListsRead.the-variants as listed
 use Rattle.sheet.specs.declared.Judgement.{Judgement}
 use Rattle.sheet.specs.Judge.{padded, judgementOf}
 
@@ -20,12 +20,12 @@ placeOf (refused why) = place.Refused why
 placeOf (passed x) = place.At (x .1)
 
 -- Of the counts, the bit after them, the counts and their sum are kept.
-unfoldable pub countedOf : Judged (List ℕ × ℕ) → Counted
+unfoldable pub countedOf : Judged (List ℕ × ℕ) → CountsRead
 countedOf (refused why) = record { place = place.Refused why; counts = padded []; elements = 0 }
 countedOf (passed x) = record { place = place.At (x .1); counts = padded (x .0); elements = sum (x .0) }
 
 -- Of one list, of the lists of a rank, or of all lists, the bit after them is kept, and the number of entries together with the `used` ones before.
-unfoldable pub listedOf : {A : Type 0} → (A → ℕ) → ℕ → Judged (A × ℕ) → Listed
+unfoldable pub listedOf : {A : Type 0} → (A → ℕ) → ℕ → Judged (A × ℕ) → ListsRead
 listedOf n used (refused why) = listed.Refused why
 listedOf n used (passed x) = listed.At (x .1) (used + n (x .0))
 

@@ -48,14 +48,14 @@ enum Place {
 }
 
 // This says where the reading of the counts ends, with the counts read and their sum; these are zeros where the sheet is refused.
-struct Counted {
+struct CountsRead {
     place: Place,
     counts: [usize; PROPER],
     elements: usize,
 }
 
 // This says where the reading of lists ends, with the number of their entries.
-enum Listed {
+enum ListsRead {
     At(usize, usize),
     Refused(Refusal),
 }
@@ -99,10 +99,10 @@ fn on_board(pattern: u64) -> bool
 }
 
 // Returns the result of reading counts where the sheet is refused.
-fn uncounted(why: Refusal) -> Counted
+fn uncounted(why: Refusal) -> CountsRead
     ensures { λ r. ⌜ r ≡ countedOf (judged.refused why) ⌝ }
 {
-    Counted {
+    CountsRead {
         place: Place::Refused(why),
         counts: [0usize; PROPER],
         elements: 0,
@@ -110,7 +110,7 @@ fn uncounted(why: Refusal) -> Counted
 }
 
 // Reads the counts of `n` proper ranks, 12 bits each.
-fn counts(sheet: &[u8], start: usize, n: usize) -> Counted
+fn counts(sheet: &[u8], start: usize, n: usize) -> CountsRead
     requires { ⌜ (start + 12 * n + 7 < 2 ^ 64) × (n ≤ proper) ⌝ }
     ensures { λ r. ⌜ r ≡ countedOf (form.times n (form.count (now (sheet .entry))) start) ⌝ }
 {
@@ -134,7 +134,7 @@ fn counts(sheet: &[u8], start: usize, n: usize) -> Counted
         at += 12;
         k += 1;
     }
-    Counted {
+    CountsRead {
         place: Place::At(at),
         counts,
         elements,
@@ -188,28 +188,28 @@ fn subs(sheet: &[u8], start: usize, below: usize, n: usize) -> Place
 }
 
 // Reads one list, its length in 12 bits and then its subs, where its rank has `used` entries before it.
-fn list(sheet: &[u8], start: usize, below: usize, used: usize) -> Listed
+fn list(sheet: &[u8], start: usize, below: usize, used: usize) -> ListsRead
     requires { ⌜ (start < 2 ^ 32) × (used ≤ maxEntries) ⌝ }
     ensures { λ r. ⌜ r ≡ listedOf length used (form.list (now (sheet .entry)) below used start) ⌝ }
 {
     if !whole(sheet, start, 12) {
-        return Listed::Refused(Refusal::CutSheet);
+        return ListsRead::Refused(Refusal::CutSheet);
     }
     let n = field(sheet, start, 12) as usize;
     if used + n > MAX_ENTRIES {
-        return Listed::Refused(Refusal::Format);
+        return ListsRead::Refused(Refusal::Format);
     }
     if n == 0 {
-        return Listed::Refused(Refusal::BadList);
+        return ListsRead::Refused(Refusal::BadList);
     }
     match subs(sheet, start + 12, below, n) {
-        Place::Refused(why) => Listed::Refused(why),
-        Place::At(p) => Listed::At(p, used + n),
+        Place::Refused(why) => ListsRead::Refused(why),
+        Place::At(p) => ListsRead::At(p, used + n),
     }
 }
 
 // Reads the lists of a rank's `n` elements.
-fn rank_lists(sheet: &[u8], start: usize, below: usize, n: usize) -> Listed
+fn rank_lists(sheet: &[u8], start: usize, below: usize, n: usize) -> ListsRead
     requires { ⌜ (start < 2 ^ 31) × (n ≤ maxCount) ⌝ }
     ensures { λ r. ⌜ r ≡ listedOf rankEntries 0 (form.listsAt (now (sheet .entry)) below n 0 start) ⌝ }
 {
@@ -218,21 +218,21 @@ fn rank_lists(sheet: &[u8], start: usize, below: usize, n: usize) -> Listed
     let mut k = 0;
     while k < n {
         match list(sheet, at, below, used) {
-            Listed::Refused(why) => {
-                return Listed::Refused(why);
+            ListsRead::Refused(why) => {
+                return ListsRead::Refused(why);
             }
-            Listed::At(p, u) => {
+            ListsRead::At(p, u) => {
                 at = p;
                 used = u;
             }
         }
         k += 1;
     }
-    Listed::At(at, used)
+    ListsRead::At(at, used)
 }
 
 // Reads the lists of ranks 2 to n, by the counts of ranks 1 to n.
-fn lists(sheet: &[u8], start: usize, counts: [usize; PROPER], n: usize) -> Listed
+fn lists(sheet: &[u8], start: usize, counts: [usize; PROPER], n: usize) -> ListsRead
     requires { ⌜ (start < 2 ^ 30) × (n ≤ proper) × ((k : ℕ) → getD counts k 0 ≤ maxCount) ⌝ }
     ensures { λ r. ⌜ r ≡ listedOf allEntries 0 (form.lists (now (sheet .entry)) (take n counts) start) ⌝ }
 {
@@ -242,10 +242,10 @@ fn lists(sheet: &[u8], start: usize, counts: [usize; PROPER], n: usize) -> Liste
     let mut k = 1;
     while k < n {
         match rank_lists(sheet, at, below, counts[k]) {
-            Listed::Refused(why) => {
-                return Listed::Refused(why);
+            ListsRead::Refused(why) => {
+                return ListsRead::Refused(why);
             }
-            Listed::At(p, u) => {
+            ListsRead::At(p, u) => {
                 at = p;
                 entries += u;
             }
@@ -253,7 +253,7 @@ fn lists(sheet: &[u8], start: usize, counts: [usize; PROPER], n: usize) -> Liste
         below = counts[k];
         k += 1;
     }
-    Listed::At(at, entries)
+    ListsRead::At(at, entries)
 }
 
 // Tells whether the sheet ends here: no byte follows, and the filling bits are 0.
@@ -296,19 +296,19 @@ fn body(
     dimension: usize,
     counts: [usize; PROPER],
     n: usize,
-) -> Listed
+) -> ListsRead
     requires { ⌜ (start < 2 ^ 16) × (vertices ≤ maxCount) × (dimension ≤ maxDimension) × (n ≤ proper) × ((k : ℕ) → getD counts k 0 ≤ maxCount) ⌝ }
     ensures { λ r. ⌜ r ≡ listedOf allEntries 0 (bodyAt (now (sheet .entry)) vertices dimension (take n counts) start) ⌝ }
 {
     match coordinates(sheet, start, vertices * dimension) {
-        Place::Refused(why) => Listed::Refused(why),
+        Place::Refused(why) => ListsRead::Refused(why),
         Place::At(at) => match lists(sheet, at, counts, n) {
-            Listed::Refused(why) => Listed::Refused(why),
-            Listed::At(end, entries) => {
+            ListsRead::Refused(why) => ListsRead::Refused(why),
+            ListsRead::At(end, entries) => {
                 if ends(sheet, end) {
-                    Listed::At(end, entries)
+                    ListsRead::At(end, entries)
                 } else {
-                    Listed::Refused(Refusal::CutSheet)
+                    ListsRead::Refused(Refusal::CutSheet)
                 }
             }
         },
@@ -345,8 +345,8 @@ fn rest(sheet: &[u8], rank: usize, dimension: usize) -> Judgement
         Place::Refused(why) => refused(why),
         Place::At(at) => {
             match body(sheet, at, vertices(rank, counts), dimension, counts, n) {
-                Listed::Refused(why) => refused(why),
-                Listed::At(_, entries) => Judgement {
+                ListsRead::Refused(why) => refused(why),
+                ListsRead::At(_, entries) => Judgement {
                     verdict: Verdict::Accepted,
                     header: Header {
                         rank,

@@ -26,7 +26,7 @@ use Rattle.geometry.specs.Solids.{beforeIn}
 use Rattle.geometry.proofs.elements.ClassCells.{same-class-at, before-is}
 use Rattle.element_types.specs.State.{typesIn, stateIn, needed}
 use Rattle.element_types.proofs.Sweeps.{sweepable-kept}
-use Rattle.element_types.specs.Start.{cellAt, Shares, Fitting, ByClass, Startable, Begins}
+use Rattle.element_types.specs.Start.{cellAt, Shares, ClassesFit, ByClass, Startable, Begins}
 
 -- ---- a rank's types
 
@@ -183,7 +183,7 @@ module _ (sh : Shape) (w : List ℕ) (cells : List Float) (a : Startable sh w ce
     -- In the code's terms, the types of the rank's n elements stand from word `to` on and their classes from cell `from` on, and the words from `out`
     -- on are free.
     module _ (to out n from : ℕ) (to-is : to ≡ typesAt sh r) (out-is : out ≡ scratchAt sh) (n-is : n ≡ sizeAt sh r) (from-is : from ≡ before sh r + 0) where
-      pub fitting : Fitting v to out n cells from
+      pub fitting : ClassesFit v to out n cells from
       unfolding needed
       fitting =
           let b = rank-in r (omega arith) in

@@ -19,7 +19,7 @@ use Rattle.laws.proofs.Counts.{numbers}
 use Rattle.laws.proofs.Scan.{renumber-snoc, distinct-new, distinct-old, place-out}
 use Rattle.geometry.specs.Classes.{sameClass}
 use Rattle.element_types.proofs.Scanned.{table-snoc}
-use Rattle.element_types.specs.Start.{cellAt, repCells, Shares, Fitting, ByClass}
+use Rattle.element_types.specs.Start.{cellAt, repCells, Shares, ClassesFit, ByClass}
 use Rattle.element_types.proofs.settling.Places.{place-within, place-alike, Sought, sought-yes, sought-no, sought-end}
 
 -- ---- finding a class
@@ -62,7 +62,7 @@ pub record Scan (w v : List ℕ) (to reps n : ℕ) (cells : List Float) (from m 
   pub others : (i : ℕ) → i < reps → (i < to) ⊎ (to + e ≤ i) → getD v i 0 ≡ getD w i 0
   pub met : (cls : ℕ → ℕ) → Shares cells from n cls → Met v to reps cls m e
 
-module _ (w : List ℕ) (to reps n : ℕ) (cells : List Float) (from : ℕ) (f : Fitting w to reps n cells from) where
+module _ (w : List ℕ) (to reps n : ℕ) (cells : List Float) (from : ℕ) (f : ClassesFit w to reps n cells from) where
   pub scan-first : Scan w w to reps n cells from 0 0
   unfolding renumber distinct range
   scan-first = record {

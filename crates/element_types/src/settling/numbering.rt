@@ -6,7 +6,7 @@ ghost use Prim.Native.Nat.{ℕ, _+_, _≤_, _<_};
 ghost use lib.ListN.{length, getD};
 ghost use Rattle.spec.specs.Lists.{place};
 ghost use Rattle.geometry.specs.Classes.{sameClass};
-ghost use Rattle.element_types.specs.Start.{repCells, Fitting, ByClass};
+ghost use Rattle.element_types.specs.Start.{repCells, ClassesFit, ByClass};
 
 // Returns the place of the first element with the class x among the m elements whose numbers the words from `reps` on hold, or m where none has it.
 // The class of element g is cell from + g.
@@ -36,7 +36,7 @@ pub fn number_classes(
     cells: &[f64],
     from: usize,
 )
-    requires { ⌜ Fitting (now words) to reps n (now cells) from ⌝ }
+    requires { ⌜ ClassesFit (now words) to reps n (now cells) from ⌝ }
     ensures { λ _. ⌜ ByClass (now (words .entry)) (now (words .exit)) to reps n (now (cells .entry)) from ⌝ }
 {
     let mut m: usize = 0;

@@ -11,7 +11,7 @@ use lib.Seq.{take-all, take-at, drop-at, take-set-le, drop-set-add, take-suc-set
 use lib.Ieee.{Float}
 use borrow.Rule.Slice.PartMut.{midOf, postOf, putMid}
 use Rattle.spec.specs.Hull.{listing, classesFrom}
-use Rattle.geometry.specs.declared.classes.Listing.{Listing}
+use Rattle.geometry.specs.declared.classes.ListedValue.{ListedValue}
 use Rattle.geometry.specs.Classes.{Takes}
 use Rattle.geometry.specs.Listed.{listAfter, Grown}
 
@@ -60,7 +60,7 @@ grown-more {from} {cell} {k} {h} {a} {b} {c} {n} {m} {p} {xs} {ys} f e g =
     }
 
 -- One distance is taken: the list stands in the part from from on, and the class is written behind it.
-module _ (old after : List Float) (from n cell k : ℕ) (x : Float) (t : Listing) (took : Takes (drop from old) after n x t) (many : length after ≡ length (drop from old))
+module _ (old after : List Float) (from n cell k : ℕ) (x : Float) (t : ListedValue) (took : Takes (drop from old) after n x t) (many : length after ≡ length (drop from old))
     (apart : from + n < cell) (inside : cell + k < length old) where
   low : length (take from old) ≡ from
   low = length-take-le from old (omega arith)
@@ -105,7 +105,7 @@ module _ (old after : List Float) (from n cell k : ℕ) (x : Float) (t : Listing
       }
 
 -- The same holds as the part comes back, because what is lent is the part to the end, and nothing stands behind it.
-pub grown-part : (old after : List Float) (from n cell k : ℕ) (x : Float) (t : Listing) → Takes (midOf from (length old - from) old) after n x t
+pub grown-part : (old after : List Float) (from n cell k : ℕ) (x : Float) (t : ListedValue) → Takes (midOf from (length old - from) old) after n x t
     → length after ≡ length (midOf from (length old - from) old) → from + n < cell → cell + k < length old
     → Grown from cell k old (set (putMid from (length old - from) old after) (cell + k) (t .value)) n (t .count) (x ∷ [])
 grown-part old after from n cell k x t took many apart inside =

@@ -8,7 +8,7 @@ use borrow.Author.Needs.{needs}
 use Rattle.spec.specs.Sheet.{times, coordinate}
 use Rattle.spec.specs.Sheet as form
 use Rattle.sheet.specs.declared.Place.the-variants as place
-use Rattle.sheet.specs.declared.Listed.the-variants as listed
+use Rattle.sheet.specs.declared.ListsRead.the-variants as listed
 use Rattle.sheet.specs.Judge.{allEntries}
 use Rattle.sheet.specs.Reading.{placeOf, listedOf}
 use Rattle.sheet.proofs.Parts.{body-refuses, lists-refuse, end-refuses, body-passes, area, points-end, lists-end}

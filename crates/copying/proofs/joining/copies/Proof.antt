@@ -11,7 +11,7 @@ use Rattle.spec.specs.Matrix.{Vector}
 use Rattle.spec.specs.Copying.{copiesFrom, copies, points, matrices}
 use Rattle.spec.specs.Lists.{parts}
 use Rattle.laws.proofs.CopyLaws.{copies-add}
-use Rattle.copying.specs.Post.{Kept, withPoint}
+use Rattle.copying.specs.Post.{CopiesKept, withPoint}
 use Rattle.copying.proofs.Growth.{Grown, grown-first, grown-next, grown-full, grown-end, Done, done-first, done-next, done-longer, done-end, copies-nothing, copies-turn, point-is, length-points, point-longer}
 use Rattle.copying.proofs.Squares.{point-end}
 use Rattle.copying.proofs.joining.copies.Statement.{statement}
@@ -47,7 +47,7 @@ all c =
     withPoint (matrices (a .d) (a .turns .now)) (parts (l .n) (a .d) (l .out)) (getD (points (a .d) (a .from .now)) (l .k) [])
 
 kept : (c : tie.After-point-copied Inv-loop μ-loop) →
-    Kept (c .before .before .before .before .before .before .before .before .args .d) (c .before .before .before .before .before .before .before .before .args .limit) (all c)
+    CopiesKept (c .before .before .before .before .before .before .before .before .args .d) (c .before .before .before .before .before .before .before .before .args .limit) (all c)
     (c .before .before .before .before .loop .out) (c .point-copied .last .0) (c .point-copied .result)
 kept c =
     let a = c .before .before .before .before .before .before .before .before .args in

@@ -15,7 +15,7 @@ use Rattle.points.proofs.Parts.{length-parts}
 use Rattle.matrix.proofs.Padded.{take-image}
 use Rattle.copying.proofs.Growth.{Grown, grown-first, grown-next, grown-full, grown-end, Done, done-first, done-next, done-longer, done-end, spread-nothing, spread-turn, matrix-is, length-matrices, image-longer}
 use Rattle.laws.proofs.CopyLaws.{spread-adds}
-use Rattle.copying.specs.Post.{Kept, withImage}
+use Rattle.copying.specs.Post.{CopiesKept, withImage}
 use Rattle.copying.proofs.Squares.{square, square-pos, point-end}
 use Rattle.copying.proofs.joining.spread.Statement.{statement}
 use Rattle.copying.proofs.joining.spread.Tie as tie
@@ -58,7 +58,7 @@ all c =
     withImage (parts (l .held) (a .d) (l .out)) (mulVec (getD (matrices (a .d) (a .turns .now)) (l .j) []) (take (a .d) (a .p)))
 
 kept : (c : tie.After-add Inv-loop μ-loop) →
-    Kept (c .before .before .before .before .before .before .before .before .args .d) (c .before .before .before .before .before .before .before .before .args .limit) (all c)
+    CopiesKept (c .before .before .before .before .before .before .before .before .args .d) (c .before .before .before .before .before .before .before .before .args .limit) (all c)
     (c .before .before .before .before .before .loop .out) (c .add .last .0) (c .add .result)
 kept c =
     let a = c .before .before .before .before .before .before .before .before .args in
