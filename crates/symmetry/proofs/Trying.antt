@@ -16,6 +16,7 @@ use Rattle.spec.specs.Float.{zeroF}
 use Rattle.spec.specs.Matrix.{Matrix, mulMat, determinant}
 use Rattle.spec.specs.Solid.{Concrete}
 use Rattle.spec.specs.Flags.{Flag, IsFlag, firstFlag}
+use Rattle.spec.specs.Classes.{classTable, byTable}
 use Rattle.spec.specs.Search.{Member, flagColumns, candidate, sameTypes, rowOf, markOf, tested, isRotation}
 use Rattle.laws.proofs.Lists.{length-table}
 use Rattle.laws.proofs.Marked.{both}
@@ -55,7 +56,7 @@ fits-means d v floats entries k e =
 
 module _ (D : Concrete) (z : State) (m : Matrix) (rot : Bool) (d v k : ℕ) (ms : List Float) (rs : List ℕ) (c : Concrete) (i : Matrix) where
   abbrev member : Member
-  member = record { matrix = m; row = rowOf (D .points) m; mark = markOf (settingOf c D z i) (rowOf (D .points) m) }
+  member = record { matrix = m; row = rowOf (D .points) m; mark = markOf (c .abs) (byTable (classTable c)) (rowOf (D .points) m) }
 
   tested-is : (b : Bool) → b ≡ passing D z m → tested (settingOf c D z i) m ≡ elim b as (λ t. Option Member) [ true ↦ some member | false ↦ none ]
   unfolding tested passing settingOf
