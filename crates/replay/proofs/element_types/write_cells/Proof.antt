@@ -1,4 +1,4 @@
--- `copy_replay::fill_cells` ends, and stays within its slice. Assumes nothing.
+-- `replay::element_types::write_cells` ends, and stays within its slice. Assumes nothing.
 use Prim.Native.Nat.{_≤_, _-_}
 use lib.ListN.{length}
 use borrow.Author.Needs.{needs}

@@ -1,4 +1,4 @@
--- `copy_replay::main` ends: each turn takes one from the count. Assumes nothing.
+-- `replay::floats::replay` ends: each turn takes one from the count. Assumes nothing.
 use borrow.Author.Needs.{needs}
 use Rattle.replay.proofs.floats.replay.Statement.{statement}
 use Rattle.replay.proofs.floats.replay.Tie as tie

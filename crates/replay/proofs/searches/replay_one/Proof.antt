@@ -1,4 +1,4 @@
--- `copy_replay::replay_one` lends parts that lie within the buffers. Assumes nothing.
+-- `replay::searches::replay_one` lends parts that lie within the buffers. Assumes nothing.
 use mathlib.Core.Path.{sym}
 use lib.Seq.{length-take-le}
 use native.Mathlib.Omega.{arith}

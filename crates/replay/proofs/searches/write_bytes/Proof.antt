@@ -1,4 +1,4 @@
--- `search_replay::write_bytes` ends, and stays within its slice; the line's length divides. Assumes nothing.
+-- `replay::searches::write_bytes` ends, and stays within its slice; the line's length divides. Assumes nothing.
 use Prim.Native.Nat.{_<_, _≤_, _-_}
 use lib.ListN.{length}
 use borrow.Author.Needs.{needs}

@@ -1,4 +1,4 @@
--- `search_replay::digest_bytes` ends, and stays within its slice; the digest stays below 2 ^ 44. Assumes nothing.
+-- `wire::digests::cells` ends, and stays within its slice; the digest stays below 2 ^ 44. Assumes nothing.
 use Prim.Native.Nat.{_<_, _≤_, _-_, _^_}
 use lib.ListN.{length}
 use borrow.Author.Needs.{needs}

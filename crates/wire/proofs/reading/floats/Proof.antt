@@ -1,4 +1,4 @@
--- `copy_replay::fill_cells` ends, and stays within its slice. Assumes nothing.
+-- `wire::reading::floats` ends, and stays within its slice. Assumes nothing.
 use mathlib.Core.Path.{_≡_}
 use Prim.Native.Nat.{_≤_, _-_}
 use lib.ListN.{length}
