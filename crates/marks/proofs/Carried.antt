@@ -6,8 +6,8 @@ use mathlib.Core.List.{List}
 use Prim.Native.Nat.{ℕ, zero, suc, _+_, _-_, _≤_, _<_}
 use native.Mathlib.Omega.{arith}
 use native.Mathlib.Decide.{ℕ-discrete}
-use lib.ListN.{length, getD, set, drop, length-set}
-use lib.Seq.{getD-take, getD-drop, getD-set-same, getD-set-other}
+use lib.ListN.{length, getD, take, set, drop, length-set, length-drop}
+use lib.Seq.{take-all, getD-take, getD-drop, getD-set-same, getD-set-other}
 use lib.Dec.{eqb}
 use lib.Ieee.{Float, nan}
 use Rattle.spec.specs.Limits.{maxRank, maxCount}
@@ -32,7 +32,7 @@ use Rattle.geometry.specs.Classes.{sameClass}
 use Rattle.geometry.specs.Solids.{beforeIn}
 use Rattle.geometry.proofs.elements.ClassCells.{same-class-at, before-is}
 use Rattle.marks.specs.Rises.{risesTo, Reached, Landed}
-use Rattle.marks.specs.Rows.{classesOn, ClassesIn, Row, Images, Rank}
+use Rattle.marks.specs.Rows.{classesOn, ClassesIn, ClassesOf, Row, Images, Rank}
 use Rattle.marks.proofs.Rises.{vertex-reached, reached}
 use Rattle.marks.proofs.Rows.{permuted}
 
@@ -97,24 +97,38 @@ module _ (sh : Shape) (w : List ℕ) (fs : List Float) (h : Held sh w) (c : Clas
   place-in : (e : ℕ) → e < sizeAt sh r → before sh r + e < proper sh
   place-in e k = omega (arith, start-below, in-order sh w h (suc r) (sh .rank) high (omega arith), h .some r (omega arith))
 
-  -- The rank's classes have their places, and the class of each element lies in the floats.
-  pub ranks-lie : (sh .rank ≤ maxRank) × (r ≤ suc maxRank) × (firstAt sh 1 ≤ firstAt sh r)
-  ranks-lie = (h .tall, omega (arith, h .tall), start-below)
-
-  pub class-in : (e : ℕ) → e < sizeAt sh r → classAt sh r e < length fs
-  class-in e k = omega (arith, place-in e k, c .room)
+  -- The rank's classes have their places, and these lie in the floats.
+  pub ranks-lie : (sh .rank ≤ maxRank) × (r ≤ suc maxRank) × (firstAt sh 1 ≤ firstAt sh r) × (classAt sh r 0 ≤ length fs)
+  ranks-lie = (h .tall, omega (arith, h .tall), start-below, omega (arith, place-in 0 (omega (arith, h .some r (omega arith))), c .room))
 
   cell : (k : ℕ) → k < sizeAt sh r → getD (classes (distances (solidOn sh w fs))) (beforeIn (absIn sh w) r + k) nan ≡ getD fs (classAt sh r k) nan
   cell k hk =
       rw (before-is sh w h r low (omega arith), ← c .cells)
       (getD-take (proper sh) (drop (classesAt sh) fs) (before sh r + k) nan (place-in k hk) ∙ getD-drop (classesAt sh) fs (before sh r + k) nan)
 
-  -- The cells say who shares a class.
-  pub class-cells : (e g : ℕ) → e < sizeAt sh r → g < sizeAt sh r
-      → eqb (classesOn sh w fs r g) (classesOn sh w fs r e) ≡ sameClass (getD fs (classAt sh r g) nan) (getD fs (classAt sh r e) nan)
-  class-cells e g he hg =
-      let n = sizes-are sh w h r in
-      same-class-at (solidOn sh w fs) r g e low (omega (arith, top-is sh w)) (rw n hg) (rw n he) ∙ ap₂ sameClass (cell g hg) (cell e he)
+  module _ (from : ℕ) (from-is : from ≡ classAt sh r 0) where
+    -- The part of the floats that starts with the rank's classes, as the program lends it.
+    abbrev pub cellsFrom : List Float
+    cellsFrom = take (length fs - from) (drop from fs)
+
+    cells-are : cellsFrom ≡ drop from fs
+    cells-are = take-all (length fs - from) (drop from fs) (omega (arith, length-drop from fs))
+
+    pub cells-long : sizeAt sh r ≤ length cellsFrom
+    cells-long =
+        let s = h .some r (omega arith) in
+        omega (arith, ap length cells-are, length-drop from fs, place-in (sizeAt sh r - 1) (omega arith), c .room)
+
+    -- The cells say who shares a class.
+    pub cells-share : ClassesOf (classesOn sh w fs) r (sizeAt sh r) cellsFrom
+    cells-share e g he hg =
+        let n = sizes-are sh w h r in
+        same-class-at (solidOn sh w fs) r g e low (omega (arith, top-is sh w)) (rw n hg) (rw n he) ∙ ap₂ sameClass (cell g hg ∙ here g) (cell e he ∙ here e)
+      where
+        here : (k : ℕ) → getD fs (classAt sh r k) nan ≡ getD cellsFrom k nan
+        here k =
+            let q : classAt sh r k ≡ from + k = omega arith in
+            ap (λ (i : ℕ). getD fs i nan) q ∙ sym (ap (λ (l : List Float). getD l k nan) cells-are ∙ getD-drop from fs k nan)
 
 -- ---- an element that goes to x, and whether it shares x's class
 
@@ -130,6 +144,10 @@ module _ (sh : Shape) (w row : List ℕ) (cls : Classes) (r e x : ℕ) (a : Reac
     its-class t = (a .0, a .1, a .2 ∙ sym is ∙ t)
 
 -- ---- a rank's elements
+
+-- One turn more leaves fewer to come.
+pub fewer-left : (n e : ℕ) → e < n → n - (e + 1) < n - e
+fewer-left n e h = omega arith
 
 -- The first e elements of rank r are carried, and their cells are written.
 pub record Turn (sh : Shape) (w row : List ℕ) (cls : Classes) (cells₀ : List ℕ) (r n base : ℕ) (cells : List ℕ) (e : ℕ) : Type 0 where

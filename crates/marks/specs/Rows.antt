@@ -6,7 +6,7 @@ use mathlib.Core.Bool.{Bool, true, _&&_}
 use mathlib.Core.List.{List}
 use lib.ListN.{length, getD, take, drop}
 use lib.Dec.{eqb, ltb}
-use lib.Ieee.{Float}
+use lib.Ieee.{Float, nan}
 use Rattle.spec.specs.Lists.{range, every, noRepeats}
 use Rattle.spec.specs.Types.{size, Classes}
 use Rattle.spec.specs.Mark.{setsApart, goes, carriesElement}
@@ -16,6 +16,7 @@ use Rattle.spec.specs.Search.{markOf}
 use Rattle.ranked.specs.declared.Shape.{Shape}
 use Rattle.ranked.specs.Words.{firstAt, sizeAt, total, absIn, Held}
 use Rattle.ranked.specs.Layout.{proper, classesAt, solidOn}
+use Rattle.geometry.specs.Classes.{sameClass}
 
 -- Tells whether the row's entries are all vertices, of which there are as many as entries, and none is there twice.
 unfoldable pub permutes : List ℕ → Bool
@@ -37,6 +38,10 @@ markOn sh w fs = markOf (absIn sh w) (classesOn sh w fs)
 pub record ClassesIn (sh : Shape) (w : List ℕ) (fs : List Float) : Type 0 where
   pub room : classesAt sh + proper sh ≤ length fs
   pub cells : take (proper sh) (drop (classesAt sh) fs) ≡ classes (distances (solidOn sh w fs))
+
+-- The cells hold the classes of the n elements of rank r: two of these share a class exactly when their cells are one class.
+abbrev pub ClassesOf : Classes → ℕ → ℕ → List Float → Type 0
+ClassesOf cls r n cells = (e g : ℕ) → e < n → g < n → eqb (cls r g) (cls r e) ≡ sameClass (getD cells g nan) (getD cells e nan)
 
 -- The row permutes the vertices of a solid that has no vertex set twice in a rank.
 pub record Row (sh : Shape) (w row : List ℕ) : Type 0 where

@@ -6,18 +6,15 @@ ghost use mathlib.Core.Bool.{true};
 ghost use Prim.Native.Nat.{ℕ, suc, _+_, _*_, _≤_, _<_};
 ghost use lib.ListN.{length, getD};
 ghost use lib.Dec.{eqb};
-ghost use lib.Ieee.{nan};
 ghost use Rattle.points.specs.Finding.{firstOf};
-ghost use Rattle.spec.specs.Limits.{maxRank, maxCount};
+ghost use Rattle.spec.specs.Limits.{maxCount};
 ghost use Rattle.spec.specs.Lists.{In, holds, keep, every};
 ghost use Rattle.spec.specs.Types.{properRanks, Classes};
 ghost use Rattle.spec.specs.Mark.{setsApart};
 ghost use Rattle.ranked.specs.Words.{firstAt, sizeAt, total, listAt, absIn, Held};
-ghost use Rattle.ranked.specs.Layout.{classAt};
 ghost use Rattle.ranked.specs.Reading.{Lies, Each};
-ghost use Rattle.geometry.specs.Classes.{sameClass};
 ghost use Rattle.marks.specs.Rises.{onto, risesTo, Reached, Landed};
-ghost use Rattle.marks.specs.Rows.{permutes, classesOn, carriesRank, markOn, ClassesIn, Row, Images, Rank};
+ghost use Rattle.marks.specs.Rows.{permutes, carriesRank, markOn, ClassesIn, ClassesOf, Row, Images, Rank};
 use geometry::classes;
 use points::Found;
 use points::cell;
@@ -131,41 +128,31 @@ fn reach(lists: &[u32], sh: Shape, row: &[u16], goes: &[u16], r: usize, e: usize
     rise(lists, sh, goes, r - 1, e)
 }
 
-// Tells whether elements e and g of rank r share a distance class.
-fn one_class(sh: Shape, floats: &[f64], r: usize, e: usize, g: usize) -> bool
-    requires { ⌜ (sh .rank ≤ maxRank) × (r ≤ suc maxRank) × (firstAt sh 1 ≤ firstAt sh r) ⌝ }
-    requires { ⌜ (classAt sh r e < length (now floats)) × (classAt sh r g < length (now floats)) ⌝ }
-    ensures { λ res. ⌜ res ≡ sameClass (getD (now (floats .entry)) (classAt sh r g) nan) (getD (now (floats .entry)) (classAt sh r e) nan) ⌝ }
-{
-    let a = sh.class(r, g);
-    let b = sh.class(r, e);
-    classes::same_class(floats[a], floats[b])
-}
-
-// Tells where element e of rank r goes if it is carried, which is to an element of its class.
+// Tells where element e of rank r goes if it is carried, which is to an element of its class. The cells hold the classes of the rank's elements.
 fn image_of(
     lists: &[u32],
     sh: Shape,
-    floats: &[f64],
+    cells: &[f64],
     row: &[u16],
     goes: &[u16],
     r: usize,
     e: usize,
 ) -> Found
-    requires { ⌜ Row sh (now lists) (now row) × ClassesIn sh (now lists) (now floats) ⌝ }
+    requires { ⌜ Row sh (now lists) (now row) × (sizeAt sh r ≤ length (now cells)) ⌝ }
     requires { ⌜ Rank sh (now lists) (now row) (now goes) r × (e < sizeAt sh r) ⌝ }
-    ensures { λ x. ⌜ Landed (absIn sh (now (lists .entry))) (classesOn sh (now (lists .entry)) (now (floats .entry))) (now (row .entry)) r e x ⌝ }
+    ensures { λ x. ⌜ ((cls : Classes) → ClassesOf cls r (sizeAt sh r) (now (cells .entry))
+        → Landed (absIn sh (now (lists .entry))) cls (now (row .entry)) r e x) ⌝ }
 {
     let Found::At(x) = reach(lists, sh, row, goes, r, e) else {
         return Found::Nothing;
     };
-    if one_class(sh, floats, r, e, x) {
+    if classes::same_class(cells[x], cells[e]) {
         return Found::At(x);
     }
     Found::Nothing
 }
 
-// Tells whether every element of rank r is carried. If so, the cells say where each goes.
+// Tells whether every element of rank r is carried. If so, `goes` says where each goes.
 fn carry_rank(
     lists: &[u32],
     sh: Shape,
@@ -181,9 +168,11 @@ fn carry_rank(
 {
     let base = sh.start(r);
     let n = sh.size(r);
+    let from = sh.class(r, 0);
+    let cells = &floats[from..];
     let mut e: usize = 0;
     while e < n {
-        let Found::At(x) = image_of(lists, sh, floats, row, goes, r, e) else {
+        let Found::At(x) = image_of(lists, sh, cells, row, goes, r, e) else {
             return false;
         };
         goes[base + e] = x as u16;
