@@ -95,8 +95,8 @@ module _ (s : Solid) (v : Sound s) where
 
 -- ---- the flags of a solid
 
-module _ (s : Solid) (v : Sound s) (sizes : (r : ℕ) → r ≤ top s → size s r ≤ maxCount) (few : entries s ≤ 4 * maxEntries) where
-  entries-in : (r : ℕ) → 2 ≤ r → r < top s → sum (map length (getD s r [])) ≤ 4 * maxEntries
+module _ (s : Solid) (v : Sound s) (sizes : (r : ℕ) → r ≤ top s → size s r ≤ maxCount) (few : entries s ≤ (maxRank - 1) * maxEntries) where
+  entries-in : (r : ℕ) → 2 ≤ r → r < top s → sum (map length (getD s r [])) ≤ (maxRank - 1) * maxEntries
   unfolding entries sum From
   entries-in r a b = omega (arith, few, sum-some (λ q. sum (map length (getD s q []))) (suc r) 2 (top s - 2) (r ∷ []) (a, omega arith, tt) (omega arith))
 
@@ -107,7 +107,7 @@ module _ (s : Solid) (v : Sound s) (sizes : (r : ℕ) → r ≤ top s → size s
   at-two : 2 ≤ top s → (e : ℕ) → many s v 2 e ≤ maxCount
   at-two h e = omega (arith, next s v 1 1 at-one e, subs-few s v 1 e, sizes 1 (omega arith))
 
-  above : (r k : ℕ) → 1 ≤ r → suc r < top s → ((f : ℕ) → many s v r f ≤ k) → (e : ℕ) → many s v (suc (suc r)) e ≤ 4 * maxEntries * k
+  above : (r k : ℕ) → 1 ≤ r → suc r < top s → ((f : ℕ) → many s v r f ≤ k) → (e : ℕ) → many s v (suc (suc r)) e ≤ (maxRank - 1) * maxEntries * k
   above r k a b h e = le-trans (over s v r k h e) (mul-le-mul (entries-in (suc r) (omega arith) b) (le-refl k))
 
   pub few-flags : top s ≤ maxRank → length (flags s) ≤ 2 ^ 30
@@ -120,5 +120,5 @@ module _ (s : Solid) (v : Sound s) (sizes : (r : ℕ) → r ≤ top s → size s
       go (suc (suc zero)) e = omega (arith, at-two (omega arith) 0)
       go (suc (suc (suc zero))) e = omega (arith, above 1 1 (omega arith) (omega arith) at-one 0)
       go (suc (suc (suc (suc zero)))) e = omega (arith, above 2 maxCount (omega arith) (omega arith) (at-two (omega arith)) 0)
-      go (suc (suc (suc (suc (suc zero))))) e = omega (arith, above 3 (4 * maxEntries) (omega arith) (omega arith) (λ f. omega (arith, above 1 1 (omega arith) (omega arith) at-one f)) 0)
+      go (suc (suc (suc (suc (suc zero))))) e = omega (arith, above 3 ((maxRank - 1) * maxEntries) (omega arith) (omega arith) (λ f. omega (arith, above 1 1 (omega arith) (omega arith) at-one f)) 0)
       go (suc (suc (suc (suc (suc (suc R)))))) e = absurd (omega arith)

@@ -12,7 +12,7 @@ use lib.Dec.{leb, eqb, ltb}
 use Rattle.spec.specs.declared.Refusal.the-variants.{NotFull, DoubleCorner, Centred, Flat, ShortSheet, Unsettled}
 use Rattle.spec.specs.declared.Answer.the-variants.{Done, Refused}
 use Rattle.spec.specs.Refusal.{answerCount}
-use Rattle.spec.specs.Limits.{maxEntries}
+use Rattle.spec.specs.Limits.{maxRank, maxEntries}
 use Rattle.spec.specs.Lists.{range, noRepeats}
 use Rattle.spec.specs.Types.{top, size}
 use Rattle.spec.specs.Matrix.{inverse}
@@ -93,7 +93,7 @@ exchanged-few b words floats c e tall f low =
     let p = every-passed b words floats c e in
     let t = top-same s tall f low in
     let k = every-exchange s (p .sound) (p .diamonds) (p .filled) tall f low in
-    let small : entries s ≤ 4 * maxEntries = omega (arith, ap entries (p .solid), entries-is b (p .parsed) (p .read), header-small b (p .parsed) (p .read) .entries) in
+    let small : entries s ≤ (maxRank - 1) * maxEntries = omega (arith, ap entries (p .solid), entries-is b (p .parsed) (p .read), header-small b (p .parsed) (p .read) .entries) in
     few-flags (exchangedIn s f) (k .sound)
     (λ r h. omega (arith, size-same s tall f low r, p .sizes r (omega arith) .1))
     (omega (arith, entries-same s tall f low))
