@@ -19,30 +19,22 @@ use Rattle.spec.specs.Solid.{Concrete}
 use Rattle.spec.specs.Classes.{distanceOf}
 use Rattle.spec.specs.Search.{firstFar, full}
 use Rattle.laws.proofs.Lists.{length-range, getD-range, of-range}
-use Rattle.points.proofs.Parts.{parts-take}
 use Rattle.ranked.specs.declared.Shape.{Shape}
-use Rattle.ranked.specs.Words.{sizeAt, absIn}
-use Rattle.preflight.specs.Bench.{solidAt}
+use Rattle.ranked.specs.Words.{sizeAt, listsOf, absIn}
+use Rattle.ranked.specs.Layout.{coordinates, solidOn, solidIn}
 use Rattle.ranked.proofs.Solids.{top-is, size-is}
-use Rattle.geometry.specs.Solids.{solidOn, coordinates}
 
 -- ---- the solid in words and floats
 
--- Only the coordinates count.
-pub solid-on : (sh : Shape) (low : ℕ) (ws : List ℕ) (fs : List Float) → solidOn sh (take low ws) fs (sh .dimension) ≡ solidAt sh low ws fs
-solid-on sh low ws fs =
-    let s = absIn sh (take low ws) in
-    ap {B = Concrete} (λ (ps : List (List Float)). record { dimension = sh .dimension; points = ps; abs = s }) (sym (parts-take (size s 1) (sh .dimension) fs))
-
--- The solid stays while its words and its coordinates do.
-pub solid-kept : (sh : Shape) (low : ℕ) (ws vs : List ℕ) (fs gs : List Float) → take low vs ≡ take low ws
-    → take (coordinates sh (take low ws)) gs ≡ take (coordinates sh (take low ws)) fs → solidAt sh low vs gs ≡ solidAt sh low ws fs
-solid-kept sh low ws vs fs gs e p = rw (e, p)
+-- The solid stays while its lists and its coordinates do.
+pub solid-kept : (sh : Shape) (ws vs : List ℕ) (fs gs : List Float) → listsOf sh vs ≡ listsOf sh ws
+    → take (coordinates sh) gs ≡ take (coordinates sh) fs → solidIn sh vs gs ≡ solidIn sh ws fs
+solid-kept sh ws vs fs gs e p = rw (e, p)
 
 -- The test behind refusal 8 reads rank and dimension from the shape.
-pub full-is : (sh : Shape) (low : ℕ) (ws : List ℕ) (fs : List Float) → full (solidAt sh low ws fs) ≡ leb 2 (sh .rank) && eqb (sh .dimension) (sh .rank - 1)
+pub full-is : (sh : Shape) (ws : List ℕ) (fs : List Float) → full (solidIn sh ws fs) ≡ leb 2 (sh .rank) && eqb (sh .dimension) (sh .rank - 1)
 unfolding full
-full-is sh low ws fs = rw (top-is sh (take low ws))
+full-is sh ws fs = rw (top-is sh (listsOf sh ws))
 
 -- The facets are as many as the shape says.
 pub facets-are : (sh : Shape) (w : List ℕ) → 2 ≤ sh .rank → size (absIn sh w) (top (absIn sh w) - 1) ≡ sizeAt sh (sh .rank - 1)
@@ -99,5 +91,5 @@ module _ (c : Concrete) where
 
 -- The test is as the program makes it.
 pub test-is : (sh : Shape) (w : List ℕ) (fl : List Float) (f : ℕ) (x : Float) (b : Bool)
-    → x ≡ distanceOf (solidOn sh w fl (sh .dimension)) (sh .rank - 1) f → lt eps x ≡ b → lt eps (distanceOf (solidOn sh w fl (sh .dimension)) (top (absIn sh w) - 1) f) ≡ b
+    → x ≡ distanceOf (solidOn sh w fl) (sh .rank - 1) f → lt eps x ≡ b → lt eps (distanceOf (solidOn sh w fl) (top (absIn sh w) - 1) f) ≡ b
 test-is sh w fl f x b e t = rw (top-is sh w, ← e) t

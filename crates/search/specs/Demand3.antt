@@ -25,4 +25,5 @@ pub record Demand3Rows (b : List ℕ) (words floats : ℕ) (old : TypesOut) (n m
 
 -- The same holds, whatever was lent to the types call.
 abbrev pub Demand3Told : List ℕ → ℕ → List ℕ → List ℕ → Type 0
-Demand3Told b m rows marks = (words floats : ℕ) (old : TypesOut) (n : ℕ) → typesCall b words floats old .0 ≡ Done n → Demand3Rows b words floats old n m rows marks
+Demand3Told b m rows marks =
+    (words floats : ℕ) (old : TypesOut) (n : ℕ) → typesCall b words floats old .0 ≡ Done n → Demand3Rows b words floats old n m rows marks

@@ -19,7 +19,7 @@ ghost use Rattle.spec.specs.Flags.{firstFlag};
 ghost use Rattle.spec.specs.Search.{firstFar, flagColumns};
 ghost use Rattle.matrix.specs.Reading.{corner, ifRegular};
 ghost use Rattle.ranked.specs.Words.{sizeAt, absIn, Held};
-ghost use Rattle.geometry.specs.Solids.{solidOn, coordinates};
+ghost use Rattle.ranked.specs.Layout.{coordinates, solidOn};
 ghost use Rattle.search.specs.Reading.{farOf, regular};
 
 // This is the first facet that is further than EPS from the origin, or the answer that there is none.
@@ -39,18 +39,17 @@ pub fn is_full(sh: Shape) -> bool
 }
 
 // Finds "the first facet (rank R−1) whose hull is further than EPS from the origin". The raw distance decides, not the listed one.
-pub fn first_far(w: &[u32], sh: Shape, points: &[f64]) -> Far
-    requires { ⌜ Held sh (now w) ⌝ }
+pub fn first_far(lists: &[u32], sh: Shape, floats: &[f64]) -> Far
+    requires { ⌜ Held sh (now lists) ⌝ }
     requires { ⌜ 2 ≤ sh .rank ⌝ }
-    requires { ⌜ coordinates sh (now w) ≤ length (now points) ⌝ }
-    ensures { λ r. ⌜ farOf r ≡ firstFar (solidOn sh (now (w .entry)) (now (points .entry)) (sh .dimension)) (range 0 (sizeAt sh (sh .rank - 1))) ⌝ }
+    requires { ⌜ coordinates sh ≤ length (now floats) ⌝ }
+    ensures { λ r. ⌜ farOf r ≡ firstFar (solidOn sh (now (lists .entry)) (now (floats .entry))) (range 0 (sizeAt sh (sh .rank - 1))) ⌝ }
 {
-    let first = sh.first;
     let r = sh.rank - 1;
-    let n = first[r + 1] - first[r];
+    let n = sh.size(r);
     let mut f: usize = 0;
     while f < n {
-        if Tolerance::EPS < element_distance(w, sh, points, r, f) {
+        if Tolerance::EPS < element_distance(lists, sh, floats, r, f) {
             return Far::Facet(f);
         }
         f += 1;
@@ -60,21 +59,21 @@ pub fn first_far(w: &[u32], sh: Shape, points: &[f64]) -> Far
 
 // Returns the inverse of the first flag's columns. `found` says whether there is one.
 pub fn first_inverse(
-    w: &[u32],
+    lists: &[u32],
     sh: Shape,
-    points: &[f64],
+    floats: &[f64],
     found: &mut bool,
 ) -> [[f64; DIMENSION]; DIMENSION]
-    requires { ⌜ Held sh (now w) ⌝ }
-    requires { ⌜ diamond (absIn sh (now w)) ≡ true ⌝ }
+    requires { ⌜ Held sh (now lists) ⌝ }
+    requires { ⌜ diamond (absIn sh (now lists)) ≡ true ⌝ }
     requires { ⌜ 2 ≤ sh .rank ⌝ }
-    requires { ⌜ coordinates sh (now w) ≤ length (now points) ⌝ }
+    requires { ⌜ coordinates sh ≤ length (now floats) ⌝ }
     ensures { λ r. ⌜ ifRegular (now (found .exit)) (corner (sh .dimension) r)
-        ≡ inverse (flagColumns (solidOn sh (now (w .entry)) (now (points .entry)) (sh .dimension)) (firstFlag (absIn sh (now (w .entry))))) ⌝ }
+        ≡ inverse (flagColumns (solidOn sh (now (lists .entry)) (now (floats .entry))) (firstFlag (absIn sh (now (lists .entry))))) ⌝ }
 {
     let d = sh.dimension;
-    let first = Flag::first(w, sh);
-    matrix::inverse(columns(w, sh, points, first), d, found)
+    let first = Flag::first(lists, sh);
+    matrix::inverse(columns(lists, sh, floats, first), d, found)
 }
 
 // Tells whether refusal 11, "first columns singular, or a non-finite inverse", does not apply.

@@ -1,10 +1,14 @@
 -- The judgement behind refusal 15 and what follows it give the rest of the call.
 -- Assumes nothing.
 use borrow.Author.Needs.{needs}
+use Rattle.spec.specs.Calls.{SearchOut}
 use Rattle.symmetry.specs.Tails.{outOf}
-use Rattle.search.proofs.Steps.{unsettled, settled, typed-bench, typed-parted}
+use Rattle.search.proofs.Steps.{typed-bench, typed-classes, typed-parted, unsettled, settled}
 use Rattle.search.proofs.driver.from15.Statement.{statement}
 use Rattle.search.proofs.driver.from15.Tie as tie
+
+abbrev old : tie.Start → SearchOut
+old s = outOf (s .args .matrices .now) (s .args .rows .now) (s .args .marks .now)
 
 entry : (c : tie.After-types-of) → tie.Start
 entry c = c .before .before .before .before .before .before .before .before
@@ -17,19 +21,10 @@ from15-spec =
     -- The needs are types-of-requires, enum-told and from11-requires.
     (λ c κs. c .before .before .before .before .before .before .before .pre .0)
     (λ c. search needs)
-    (λ c κs. let i = c .before .before .before .before .before in
-    let t = i .before .before .before .before .before .before in
+    (λ c κs. let t = c .before .before .before .before .before .before .before .before .before .before .before in
     let s = entry t in
-    let a = s .args in (
-      typed-bench (a .sh) (a .low) _ _ _ _ (a .rotations) (outOf (a .matrices .now) (a .rows .now) (a .marks .now)) _ (t .types-of .ensures) (s .pre .0),
-      (
-        s .pre .1 .0,
-        (
-          t .types-of .ensures .numbered,
-          typed-parted (a .sh) (a .low) _ _ _ _ (a .rotations) (outOf (a .matrices .now) (a .rows .now) (a .marks .now)) _ (t .types-of .ensures) (s .pre .1 .1),
-        ),
-      ),
-    ))
+    let e = t .types-of .ensures in
+    (typed-bench _ _ _ _ _ _ e (s .pre .0), (s .pre .1 .0, ((e .numbered, typed-classes _ _ _ _ _ _ e (s .pre .0)), typed-parted _ _ _ _ _ _ e (s .pre .1 .1)))))
     -- The needs are enum-told-2 and same-length to same-length-5.
     (λ c. search needs)
     (λ c. search needs)
@@ -42,12 +37,10 @@ from15-spec =
     let i = k .before .before .before .before .before .before in
     let t = i .before .before .before .before .before .before in
     let s = entry t in
-    let a = s .args in
-    settled (a .sh) (a .low) _ _ _ _ (a .rotations) (outOf (a .matrices .now) (a .rows .now) (a .marks .now)) _ (t .types-of .ensures) (i .enum-told .given .1) (a .f) _ (k .from11 .ensures))
+    settled _ _ _ _ _ _ (t .types-of .ensures) (s .args .rotations) (old s) (i .enum-told .given .1) (s .args .f) _ (k .from11 .ensures))
     -- The needs are same-length-6, same-length-7 and returns-2.
     (λ c. search needs)
     (λ c. search needs)
     (λ c. let t = c .before .before .before .before .before .before in
     let s = entry t in
-    let a = s .args in
-    unsettled (a .sh) (a .low) _ _ _ _ (a .rotations) (outOf (a .matrices .now) (a .rows .now) (a .marks .now)) _ (t .types-of .ensures) (c .enum-told2 .given .1) _))
+    unsettled _ _ _ _ _ _ (t .types-of .ensures) (s .args .rotations) (old s) (c .enum-told2 .given .1) _))

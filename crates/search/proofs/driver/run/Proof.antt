@@ -1,10 +1,14 @@
 -- Preflight's refusals, 1 to 7, come first, and then what is after them.
 -- Assumes nothing.
 use borrow.Author.Needs.{needs}
+use Rattle.spec.specs.Calls.{SearchOut}
 use Rattle.symmetry.specs.Tails.{outOf}
-use Rattle.search.proofs.Steps.{refused-call, benched, passed-call}
+use Rattle.search.proofs.Steps.{unready-call, benched, passed-call}
 use Rattle.search.proofs.driver.run.Statement.{statement}
 use Rattle.search.proofs.driver.run.Tie as tie
+
+abbrev old : tie.Start → SearchOut
+old s = outOf (s .args .matrices .now) (s .args .rows .now) (s .args .marks .now)
 
 entry : (c : tie.After-preflight) → tie.Start
 entry c = c .before .before .before .before .before .before .before .before .before
@@ -20,15 +24,14 @@ run-spec =
     (λ c. search needs)
     (λ c κs. let v = c .before .before .before .before .before in
     let p = v .before .before .before .before .before .before .before in
-    let a = entry p .args in
-    benched _ _ _ _ _ _ (p .preflight .ensures) (a .rotations) (outOf (a .matrices .now) (a .rows .now) (a .marks .now)) (v .enum-told .given .1))
+    benched _ _ _ _ _ _ (p .preflight .ensures) (v .enum-told .given .1))
     -- The needs are same-length, same-length-2 and returns.
     (λ c. search needs)
     (λ c. search needs)
     (λ c. let v = c .before in
     let p = v .before .before .before .before .before .before .before in
-    let a = entry p .args in
-    refused-call _ _ _ _ _ _ (p .preflight .ensures) (a .rotations) (outOf (a .matrices .now) (a .rows .now) (a .marks .now)) _ (v .verdict .given .1))
+    let s = entry p in
+    unready-call _ _ _ _ _ _ (p .preflight .ensures) (s .args .rotations) (old s) _ (v .verdict .given .1))
     -- The needs are same-length-3 to same-length-7 and returns-2.
     (λ c. search needs)
     (λ c. search needs)
@@ -38,5 +41,5 @@ run-spec =
     (λ c. let k = c .before .before .before .before .before .before .before .before .before .before in
     let v = k .before .before .before .before .before .before in
     let p = v .before .before .before .before .before .before .before in
-    let a = entry p .args in
-    passed-call _ _ _ _ _ _ (p .preflight .ensures) (a .rotations) (outOf (a .matrices .now) (a .rows .now) (a .marks .now)) (v .enum-told .given .1) _ (k .from8 .ensures)))
+    let s = entry p in
+    passed-call _ _ _ _ _ _ (p .preflight .ensures) (v .enum-told .given .1) (s .args .rotations) (old s) _ (k .from8 .ensures)))

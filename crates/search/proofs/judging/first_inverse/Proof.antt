@@ -8,13 +8,13 @@ use Rattle.spec.specs.Flags.{IsFlag}
 use Rattle.spec.specs.Search.{flagColumns}
 use Rattle.laws.proofs.FlagList.{every-first}
 use Rattle.ranked.specs.Words.{absIn}
-use Rattle.geometry.specs.Solids.{solidOn}
+use Rattle.ranked.specs.Layout.{solidOn}
 use Rattle.flag.specs.Reading.{flagIn}
 use Rattle.search.proofs.judging.first_inverse.Statement.{statement}
 use Rattle.search.proofs.judging.first_inverse.Tie as tie
 
 -- The first flag is a flag.
-is-flag : (c : tie.After-first) → let s = c .before .before .before in IsFlag (absIn (s .args .sh) (s .args .w .now)) (flagIn (s .args .sh .rank) (c .first .result))
+is-flag : (c : tie.After-first) → let s = c .before .before .before in IsFlag (absIn (s .args .sh) (s .args .lists .now)) (flagIn (s .args .sh .rank) (c .first .result))
 is-flag c = let s = c .before .before .before in rw (c .first .ensures) (every-first _ (s .pre .0 .sound) (s .pre .0 .filled) .0)
 
 pub first-inverse-spec : {M : Type 1} → statement M
@@ -28,6 +28,5 @@ first-inverse-spec =
     -- The need is returns.
     (λ c. let f = c .before .before .before in
     let a = f .before .before .before .args in
-    let d = a .sh .dimension in
-    let C = solidOn (a .sh) (a .w .now) (a .points .now) d in
+    let C = solidOn (a .sh) (a .lists .now) (a .floats .now) in
     c .inverse .ensures .0 ∙ ap inverse (c .before .before .columns .ensures ∙ ap (flagColumns C) (f .first .ensures))))

@@ -1,0 +1,43 @@
+-- Where facet 0 was searched from, nothing is to do; else the facets go back, and the classes and the fingerprints are worked out.
+-- Assumes nothing.
+use borrow.Author.Needs.{needs}
+use native.Mathlib.Omega.{arith}
+use mathlib.Core.Path.{sym}
+use lib.Seq.{length-take-le}
+use Rattle.preflight.specs.Bench.{Bench}
+use Rattle.preflight.proofs.Benches.{laid}
+use Rattle.geometry.proofs.elements.Room.{roomy-floats}
+use Rattle.search.proofs.Benched.{exchanged-none, fingerprints-in, back-bench, restored}
+use Rattle.search.proofs.marking.restore.Statement.{statement}
+use Rattle.search.proofs.marking.restore.Tie as tie
+
+entry : (c : tie.After-exchange) → tie.Start
+entry c = c .before .before .before .before .before
+
+-- After the exchange the solid as read lies in the workspace.
+back : (c : tie.After-exchange) → Bench (entry c .args .sh) (c .exchange .last .0) (entry c .args .floats .now)
+unfolding entry
+back c = let s = entry c in back-bench (s .pre .0) _ (s .pre .1) _ (c .exchange .ensures .0) (c .exchange .ensures .1 .0)
+
+pub restore-spec : {M : Type 1} → statement M
+unfolding entry
+restore-spec =
+    tie.close
+    (tie.spec
+    -- The needs are returns and exchange-requires.
+    (λ c. let s = c .before .before .before in (s .pre .0, exchanged-none _ _ (c .if1 .taken)))
+    (λ c κs. let s = c .before .before .before .before in (laid (s .pre .0 .bench), s .pre .1))
+    -- The needs are slice-reshare-prefix-all-classes, slice-aggregate-all-classes and all-classes-requires.
+    (λ c. omega (arith, back (c .before .before) .words-in))
+    (λ c. let x = c .before .before .before in sym (length-take-le (entry x .args .sh .low) (x .exchange .last .0) (back x .words-in)))
+    (λ c κs. let b = back (c .before .before .before .before) in (b .held, roomy-floats _ _ (b .held) _ (b .floats)))
+    -- The need is write-fingerprints-requires.
+    (λ c κs. let b = back (c .before .before .before .before .before .before .before .before) in (b .held, fingerprints-in b))
+    -- The needs are same-length, same-length-2 and returns-2.
+    (λ c. search needs)
+    (λ c. search needs)
+    (λ c. let w = c .before .before in
+    let a = w .before .before .before .before in
+    let x = a .before .before .before .before .before in
+    let s = entry x in
+    restored (s .pre .0) _ (s .pre .1) _ (x .exchange .ensures .0) (x .exchange .ensures .1 .0) _ _ (a .all-classes .ensures) _ (w .write-fingerprints .kept .0) (w .write-fingerprints .ensures .0) (w .write-fingerprints .ensures .1)))
