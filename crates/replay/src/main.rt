@@ -2,10 +2,10 @@
 // input, and writes the answers to standard output; the module of that name says what a record is, and what is answered. With no argument, as in the
 // gate, it replays the five files WORD.in of the folder that it is run in, holds each answer to WORD.out, and says for each whether all are the same.
 mod copies;
-mod element_types;
 mod floats;
 mod searches;
 mod sheets;
+mod types_calls;
 
 use wire::Run;
 
@@ -35,7 +35,7 @@ fn hold_all() {
     );
     tell(
         b"types",
-        element_types::replay(os::open_read(b"types.in"), os::open_read(b"types.out")),
+        types_calls::replay(os::open_read(b"types.in"), os::open_read(b"types.out")),
     );
     tell(
         b"searches",
@@ -59,7 +59,7 @@ fn answer(word: &[u8]) -> bool {
         return sheets::replay(0, 1).good;
     }
     if check::same(word, b"types") {
-        return element_types::replay(0, 1).good;
+        return types_calls::replay(0, 1).good;
     }
     if check::same(word, b"searches") {
         return searches::replay(0, 1).good;

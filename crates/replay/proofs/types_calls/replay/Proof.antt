@@ -1,9 +1,9 @@
--- `replay::element_types::replay` ends: each turn takes one from the count. Assumes nothing.
+-- `replay::types_calls::replay` ends: each turn takes one from the count. Assumes nothing.
 use mathlib.Core.Path.{_≡_}
 use lib.ListN.{length}
 use borrow.Author.Needs.{needs}
-use Rattle.replay.proofs.element_types.replay.Statement.{statement}
-use Rattle.replay.proofs.element_types.replay.Tie as tie
+use Rattle.replay.proofs.types_calls.replay.Statement.{statement}
+use Rattle.replay.proofs.types_calls.replay.Tie as tie
 
 abbrev Inv-loop : tie.InvT-loop
 Inv-loop from to bytes₀ words₀ floats₀ of₀ table₀ run₀ left₀ bytes words floats of table run left =

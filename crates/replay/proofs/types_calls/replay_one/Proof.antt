@@ -1,10 +1,10 @@
--- `replay::element_types::replay_one` lends parts that lie within the buffers. Assumes nothing.
+-- `replay::types_calls::replay_one` lends parts that lie within the buffers. Assumes nothing.
 use mathlib.Core.Path.{sym}
 use lib.Seq.{length-take-le}
 use native.Mathlib.Omega.{arith}
 use borrow.Author.Needs.{needs}
-use Rattle.replay.proofs.element_types.replay_one.Statement.{statement}
-use Rattle.replay.proofs.element_types.replay_one.Tie as tie
+use Rattle.replay.proofs.types_calls.replay_one.Statement.{statement}
+use Rattle.replay.proofs.types_calls.replay_one.Tie as tie
 
 pub replay-one-spec : {M : Type 1} → statement M
 replay-one-spec =

@@ -1,9 +1,9 @@
--- `replay::element_types::write_cells` ends, and stays within its slice. Assumes nothing.
+-- `replay::types_calls::write_cells` ends, and stays within its slice. Assumes nothing.
 use Prim.Native.Nat.{_≤_, _-_}
 use lib.ListN.{length}
 use borrow.Author.Needs.{needs}
-use Rattle.replay.proofs.element_types.write_cells.Statement.{statement}
-use Rattle.replay.proofs.element_types.write_cells.Tie as tie
+use Rattle.replay.proofs.types_calls.write_cells.Statement.{statement}
+use Rattle.replay.proofs.types_calls.write_cells.Tie as tie
 
 abbrev Inv-loop : tie.InvT-loop
 Inv-loop s after₀ i₀ t6 after i = i ≤ length s
