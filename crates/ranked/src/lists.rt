@@ -51,6 +51,14 @@ pub fn sups_at(first: usize, e: usize) -> usize
     4 * (first + e) + 2
 }
 
+// Returns the word that says where the list of element e starts, by that word `base` of the first element of its rank.
+pub fn list_of(base: usize, e: usize) -> usize
+    requires { ⌜ base + 4 * e < 2 ^ 64 ⌝ }
+    ensures { λ r. ⌜ r ≡ base + 4 * e ⌝ }
+{
+    base + 4 * e
+}
+
 // Tells whether the list at word i holds x.
 pub fn holds_at(lists: &[u32], i: usize, x: usize) -> bool
     requires { ⌜ Lies (now lists) i ⌝ }
