@@ -7,7 +7,7 @@ ghost use lib.ListN.{length, take, drop};
 ghost use lib.Dec.{eqb};
 ghost use Rattle.spec.specs.Lists.{distinct, range};
 ghost use Rattle.spec.specs.Types.{typeCount};
-ghost use Rattle.ranked.specs.Words.{listsOf, absIn};
+ghost use Rattle.ranked.specs.Layout.{abstractIn};
 ghost use Rattle.element_types.specs.State.{stateIn, Countable};
 
 // Counts the types of the n elements whose types stand from word `from`. They are numbered from 0 by first appearance, so there is one type more
@@ -31,7 +31,7 @@ fn types_in(words: &[u32], from: usize, n: usize) -> usize
 
 pub fn type_count(words: &[u32], sh: Shape) -> usize
     requires { ⌜ Countable sh (now words) ⌝ }
-    ensures { λ n. ⌜ n ≡ typeCount (absIn sh (listsOf sh (now (words .entry)))) (stateIn sh (now (words .entry))) ⌝ }
+    ensures { λ n. ⌜ n ≡ typeCount (abstractIn sh (now (words .entry))) (stateIn sh (now (words .entry))) ⌝ }
 {
     let rank = sh.rank;
     let mut n: usize = 0;

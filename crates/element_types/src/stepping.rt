@@ -6,8 +6,8 @@ ghost use Prim.Native.Nat.{_+_, _≤_, _<_};
 ghost use lib.ListN.{length, take};
 ghost use lib.Seq.{slice};
 ghost use Rattle.spec.specs.Types.{up, down, step};
-ghost use Rattle.ranked.specs.Words.{listsOf, absIn};
-ghost use Rattle.ranked.specs.Layout.{scratchAt};
+ghost use Rattle.ranked.specs.Words.{listsOf};
+ghost use Rattle.ranked.specs.Layout.{scratchAt, abstractIn};
 ghost use Rattle.element_types.specs.Runs.{over};
 ghost use Rattle.element_types.specs.State.{stateIn, Steppable, Stepping, steppedAt};
 
@@ -41,7 +41,7 @@ fn step_at(words: &mut [u32], sh: Shape, r: usize, lists: usize, base: usize)
 pub fn step_up(words: &mut [u32], sh: Shape, r: usize)
     requires { ⌜ Steppable sh (now words) (up r) ⌝ }
     ensures { λ _. ⌜ listsOf sh (now (words .exit)) ≡ listsOf sh (now (words .entry)) ⌝ }
-    ensures { λ _. ⌜ stateIn sh (now (words .exit)) ≡ step (absIn sh (listsOf sh (now (words .entry)))) (stateIn sh (now (words .entry))) (up r) ⌝ }
+    ensures { λ _. ⌜ stateIn sh (now (words .exit)) ≡ step (abstractIn sh (now (words .entry))) (stateIn sh (now (words .entry))) (up r) ⌝ }
 {
     let lists = sh.subs(r, 0);
     let base = sh.types(r - 1);
@@ -52,7 +52,7 @@ pub fn step_up(words: &mut [u32], sh: Shape, r: usize)
 pub fn step_down(words: &mut [u32], sh: Shape, r: usize)
     requires { ⌜ Steppable sh (now words) (down r) ⌝ }
     ensures { λ _. ⌜ listsOf sh (now (words .exit)) ≡ listsOf sh (now (words .entry)) ⌝ }
-    ensures { λ _. ⌜ stateIn sh (now (words .exit)) ≡ step (absIn sh (listsOf sh (now (words .entry)))) (stateIn sh (now (words .entry))) (down r) ⌝ }
+    ensures { λ _. ⌜ stateIn sh (now (words .exit)) ≡ step (abstractIn sh (now (words .entry))) (stateIn sh (now (words .entry))) (down r) ⌝ }
 {
     let lists = sh.sups(r, 0);
     let base = sh.types(r + 1);

@@ -4,13 +4,14 @@ use crate::stepping::step_up;
 use ranked::Shape;
 ghost use mathlib.Core.Path.{_≡_};
 ghost use Rattle.spec.specs.Types.{play, sweep};
-ghost use Rattle.ranked.specs.Words.{listsOf, absIn};
+ghost use Rattle.ranked.specs.Layout.{abstractIn};
+ghost use Rattle.ranked.specs.Words.{listsOf};
 ghost use Rattle.element_types.specs.State.{stateIn, Sweepable, ups, downs};
 
 fn sweep_up(words: &mut [u32], sh: Shape)
     requires { ⌜ Sweepable sh (now words) ⌝ }
     ensures { λ _. ⌜ listsOf sh (now (words .exit)) ≡ listsOf sh (now (words .entry)) ⌝ }
-    ensures { λ _. ⌜ stateIn sh (now (words .exit)) ≡ play (absIn sh (listsOf sh (now (words .entry)))) (stateIn sh (now (words .entry)))
+    ensures { λ _. ⌜ stateIn sh (now (words .exit)) ≡ play (abstractIn sh (now (words .entry))) (stateIn sh (now (words .entry)))
         (ups 1 (sh .rank)) ⌝ }
 {
     let rank = sh.rank;
@@ -24,7 +25,7 @@ fn sweep_up(words: &mut [u32], sh: Shape)
 fn sweep_down(words: &mut [u32], sh: Shape)
     requires { ⌜ Sweepable sh (now words) ⌝ }
     ensures { λ _. ⌜ listsOf sh (now (words .exit)) ≡ listsOf sh (now (words .entry)) ⌝ }
-    ensures { λ _. ⌜ stateIn sh (now (words .exit)) ≡ play (absIn sh (listsOf sh (now (words .entry)))) (stateIn sh (now (words .entry)))
+    ensures { λ _. ⌜ stateIn sh (now (words .exit)) ≡ play (abstractIn sh (now (words .entry))) (stateIn sh (now (words .entry)))
         (downs (sh .rank)) ⌝ }
 {
     let mut r: usize = sh.rank;
@@ -37,7 +38,7 @@ fn sweep_down(words: &mut [u32], sh: Shape)
 pub fn sweep(words: &mut [u32], sh: Shape)
     requires { ⌜ Sweepable sh (now words) ⌝ }
     ensures { λ _. ⌜ listsOf sh (now (words .exit)) ≡ listsOf sh (now (words .entry)) ⌝ }
-    ensures { λ _. ⌜ stateIn sh (now (words .exit)) ≡ sweep (absIn sh (listsOf sh (now (words .entry)))) (stateIn sh (now (words .entry))) ⌝ }
+    ensures { λ _. ⌜ stateIn sh (now (words .exit)) ≡ sweep (abstractIn sh (now (words .entry))) (stateIn sh (now (words .entry))) ⌝ }
 {
     sweep_up(words, sh);
     sweep_down(words, sh);

@@ -10,6 +10,7 @@ use lib.ListN.{take}
 use lib.Ieee.{Float}
 use Rattle.spec.specs.Lists.{parts}
 use Rattle.spec.specs.Solid.{Concrete}
+use Rattle.spec.specs.Types.{Solid}
 
 -- The number of proper elements, which are those from rank 1 on and below the top: "E counts proper elements".
 abbrev pub proper : Shape → ℕ
@@ -56,6 +57,10 @@ classAt sh r e = classesAt sh + (before sh r + e)
 -- The solid that the lists w hold, with the coordinates that the floats start with.
 abbrev pub solidOn : Shape → List ℕ → List Float → Concrete
 solidOn sh w fs = record { dimension = sh .dimension; points = parts (sizeAt sh 1) (sh .dimension) (take (coordinates sh) fs); abs = absIn sh w }
+
+-- Gives the abstract solid in the workspace, whose lists stand in the first words.
+abbrev pub abstractIn : Shape → List ℕ → Solid
+abstractIn sh ws = absIn sh (listsOf sh ws)
 
 -- The solid that lies in the workspace, its lists in the first words.
 abbrev pub solidIn : Shape → List ℕ → List Float → Concrete

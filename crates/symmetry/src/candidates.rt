@@ -14,7 +14,7 @@ ghost use Rattle.spec.specs.Flags.{IsFlag};
 ghost use Rattle.spec.specs.Search.{flagColumns, allFinite};
 ghost use Rattle.matrix.specs.Reading.{corner};
 ghost use Rattle.ranked.specs.Words.{listsOf, absIn, Held};
-ghost use Rattle.ranked.specs.Layout.{scratchAt, coordinates, solidOn};
+ghost use Rattle.ranked.specs.Layout.{scratchAt, coordinates, solidOn, abstractIn};
 ghost use Rattle.element_types.specs.State.{stateIn};
 ghost use Rattle.flag.specs.Reading.{flagIn};
 ghost use Rattle.symmetry.specs.Post.{Turned, typesAgree};
@@ -87,8 +87,8 @@ pub fn no_double(points: &[f64], d: usize, n: usize) -> bool
 pub fn same_types(words: &[u32], sh: Shape, flag: Flag, first: Flag) -> bool
     requires { ⌜ Held sh (listsOf sh (now words)) ⌝ }
     requires { ⌜ scratchAt sh ≤ length (now words) ⌝ }
-    requires { ⌜ IsFlag (absIn sh (listsOf sh (now words))) (flagIn (sh .rank) flag) ⌝ }
-    requires { ⌜ IsFlag (absIn sh (listsOf sh (now words))) (flagIn (sh .rank) first) ⌝ }
+    requires { ⌜ IsFlag (abstractIn sh (now words)) (flagIn (sh .rank) flag) ⌝ }
+    requires { ⌜ IsFlag (abstractIn sh (now words)) (flagIn (sh .rank) first) ⌝ }
     ensures { λ res. ⌜ res ≡ typesAgree (stateIn sh (now (words .entry))) (sh .rank) (flagIn (sh .rank) flag) (flagIn (sh .rank) first) ⌝ }
 {
     let rank = sh.rank;

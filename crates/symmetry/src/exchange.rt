@@ -5,7 +5,8 @@ ghost use mathlib.Core.Path.{_≡_};
 ghost use Prim.Native.Nat.{_+_, _-_, _*_, _^_, _≤_, _<_};
 ghost use lib.ListN.{length, drop};
 ghost use Rattle.spec.specs.Search.{exchangedIn};
-ghost use Rattle.ranked.specs.Words.{sizeAt, listsOf, absIn};
+ghost use Rattle.ranked.specs.Layout.{abstractIn};
+ghost use Rattle.ranked.specs.Words.{sizeAt};
 ghost use Rattle.preflight.specs.Bench.{Laid};
 ghost use Rattle.symmetry.specs.Swapping.{swapped, swappedLists};
 
@@ -34,7 +35,7 @@ fn swap_lists(words: &mut [u32], g: usize, h: usize)
 pub fn exchange(words: &mut [u32], sh: Shape, f: usize)
     requires { ⌜ Laid sh (now words) ⌝ }
     requires { ⌜ (2 ≤ sh .rank) × (f < sizeAt sh (sh .rank - 1)) ⌝ }
-    ensures { λ _. ⌜ absIn sh (listsOf sh (now (words .exit))) ≡ exchangedIn (absIn sh (listsOf sh (now (words .entry)))) f ⌝ }
+    ensures { λ _. ⌜ abstractIn sh (now (words .exit)) ≡ exchangedIn (abstractIn sh (now (words .entry))) f ⌝ }
     ensures { λ _. ⌜ Laid sh (now (words .exit)) ⌝ }
     ensures { λ _. ⌜ drop (sh .low) (now (words .exit)) ≡ drop (sh .low) (now (words .entry)) ⌝ }
 {

@@ -8,8 +8,8 @@ ghost use Rattle.spec.specs.Flags.{IsFlag, firstFlag};
 ghost use Rattle.spec.specs.Search.{rowOf};
 ghost use Rattle.matrix.specs.Reading.{corner};
 ghost use Rattle.points.specs.Guesses.{Guesses};
-ghost use Rattle.ranked.specs.Words.{sizeAt, listsOf, absIn};
-ghost use Rattle.ranked.specs.Layout.{solidIn};
+ghost use Rattle.ranked.specs.Words.{sizeAt};
+ghost use Rattle.ranked.specs.Layout.{solidIn, abstractIn};
 ghost use Rattle.element_types.specs.State.{stateIn};
 ghost use Rattle.flag.specs.Reading.{flagIn};
 ghost use Rattle.symmetry.specs.Listing.{fits};
@@ -149,8 +149,8 @@ fn try_flag(
     rows: &mut [u16],
 ) -> Tried
     requires { ⌜ Searching (trial .shape) (now words) (now floats) ⌝ }
-    requires { ⌜ IsFlag (absIn (trial .shape) (listsOf (trial .shape) (now words))) (flagIn (trial .shape .rank) (trial .flag)) ⌝ }
-    requires { ⌜ flagIn (trial .shape .rank) (trial .first) ≡ firstFlag (absIn (trial .shape) (listsOf (trial .shape) (now words))) ⌝ }
+    requires { ⌜ IsFlag (abstractIn (trial .shape) (now words)) (flagIn (trial .shape .rank) (trial .flag)) ⌝ }
+    requires { ⌜ flagIn (trial .shape .rank) (trial .first) ≡ firstFlag (abstractIn (trial .shape) (now words)) ⌝ }
     requires { ⌜ Guesses (solidIn (trial .shape) (now words) (now floats) .points) (now places) ⌝ }
     ensures { λ t. ⌜ FlagTried trial (now (words .entry)) (now (floats .entry)) inverse t
         (now (matrices .entry)) (now (matrices .exit)) (now (rows .entry)) (now (rows .exit)) ⌝ }

@@ -13,7 +13,7 @@ ghost use lib.Dec.{eqb};
 ghost use Rattle.spec.specs.Lists.{distinct, join, written};
 ghost use Rattle.spec.specs.Types.{elements, typeCount, given, elementTypes};
 ghost use Rattle.spec.specs.Calls.{typeCells};
-ghost use Rattle.ranked.specs.Words.{listsOf, absIn};
+ghost use Rattle.ranked.specs.Layout.{abstractIn};
 ghost use Rattle.element_types.specs.State.{stateIn, Countable};
 ghost use Rattle.types.specs.Cells.{cellsOf, Listable};
 ghost use Rattle.types.specs.Call.{handedOut};
@@ -21,8 +21,8 @@ ghost use Rattle.types.specs.Call.{handedOut};
 // Writes the type of each proper element, one cell for each.
 fn write_types(words: &[u32], sh: Shape, of: &mut [u16])
     requires { ⌜ Countable sh (now words) ⌝ }
-    requires { ⌜ elements (absIn sh (listsOf sh (now words))) ≤ length (now of) ⌝ }
-    ensures { λ _. ⌜ now (of .exit) ≡ written (given (absIn sh (listsOf sh (now (words .entry)))) (stateIn sh (now (words .entry)))) (now (of .entry)) ⌝ }
+    requires { ⌜ elements (abstractIn sh (now words)) ≤ length (now of) ⌝ }
+    ensures { λ _. ⌜ now (of .exit) ≡ written (given (abstractIn sh (now (words .entry))) (stateIn sh (now (words .entry)))) (now (of .entry)) ⌝ }
 {
     let n = sh.proper();
     let from = sh.types(1);
@@ -72,9 +72,9 @@ fn write_rank(words: &[u32], from: usize, n: usize, r: usize, table: &mut [u16],
 // Writes four cells for each type: its rank, its number, its example and its count.
 fn write_table(words: &[u32], sh: Shape, table: &mut [u16])
     requires { ⌜ Countable sh (now words) ⌝ }
-    requires { ⌜ 4 * typeCount (absIn sh (listsOf sh (now words))) (stateIn sh (now words)) ≤ length (now table) ⌝ }
+    requires { ⌜ 4 * typeCount (abstractIn sh (now words)) (stateIn sh (now words)) ≤ length (now table) ⌝ }
     ensures { λ _. ⌜ now (table .exit)
-        ≡ written (join (map typeCells (elementTypes (absIn sh (listsOf sh (now (words .entry)))) (stateIn sh (now (words .entry))))))
+        ≡ written (join (map typeCells (elementTypes (abstractIn sh (now (words .entry))) (stateIn sh (now (words .entry))))))
         (now (table .entry)) ⌝ }
 {
     let rank = sh.rank;
@@ -92,7 +92,7 @@ fn write_table(words: &[u32], sh: Shape, table: &mut [u16])
 pub fn give_out(words: &[u32], sh: Shape, of: &mut [u16], table: &mut [u16]) -> Answer
     requires { ⌜ Countable sh (now words) ⌝ }
     ensures { λ r. ⌜ (r, record { elements = now (of .exit); types = now (table .exit) })
-        ≡ handedOut (absIn sh (listsOf sh (now (words .entry)))) (stateIn sh (now (words .entry)))
+        ≡ handedOut (abstractIn sh (now (words .entry))) (stateIn sh (now (words .entry)))
         (record { elements = now (of .entry); types = now (table .entry) }) ⌝ }
 {
     let n = type_count(words, sh);

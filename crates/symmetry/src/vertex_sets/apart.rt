@@ -9,15 +9,15 @@ ghost use lib.ListN.{drop};
 ghost use Rattle.spec.specs.Lists.{holds, eqList, noRepeats};
 ghost use Rattle.spec.specs.Mark.{setsApart};
 ghost use Rattle.spec.specs.Types.{vertices, vertexSets};
-ghost use Rattle.ranked.specs.Words.{listsOf, absIn};
+ghost use Rattle.ranked.specs.Layout.{abstractIn};
 ghost use Rattle.symmetry.specs.Fingerprints.{Fingerprinted, ProperElement};
 
 // Tells whether a later element of rank r has the same vertices as element e.
 fn is_repeated(words: &[u32], sh: Shape, r: usize, e: usize) -> bool
     requires { ⌜ Fingerprinted sh (now words) ⌝ }
     requires { ⌜ ProperElement sh r e ⌝ }
-    ensures { λ b. ⌜ b ≡ holds eqList (vertices (absIn sh (listsOf sh (now (words .entry)))) r e)
-        (drop (suc e) (vertexSets (absIn sh (listsOf sh (now (words .entry)))) r)) ⌝ }
+    ensures { λ b. ⌜ b ≡ holds eqList (vertices (abstractIn sh (now (words .entry))) r e)
+        (drop (suc e) (vertexSets (abstractIn sh (now (words .entry))) r)) ⌝ }
 {
     let mut list = [0u16; MAX_COUNT];
     let n = vertex_list(&words[..sh.low], sh, r, e, &mut list);
@@ -28,7 +28,7 @@ fn is_repeated(words: &[u32], sh: Shape, r: usize, e: usize) -> bool
 fn rank_apart(words: &[u32], sh: Shape, r: usize) -> bool
     requires { ⌜ Fingerprinted sh (now words) ⌝ }
     requires { ⌜ (1 ≤ r) × (r < sh .rank) ⌝ }
-    ensures { λ b. ⌜ b ≡ noRepeats eqList (vertexSets (absIn sh (listsOf sh (now (words .entry)))) r) ⌝ }
+    ensures { λ b. ⌜ b ≡ noRepeats eqList (vertexSets (abstractIn sh (now (words .entry))) r) ⌝ }
 {
     let many = sh.size(r);
     let mut e: usize = 0;
@@ -44,7 +44,7 @@ fn rank_apart(words: &[u32], sh: Shape, r: usize) -> bool
 // Tells whether, at each proper rank, no two elements have the same vertices.
 pub fn are_apart(words: &[u32], sh: Shape) -> bool
     requires { ⌜ Fingerprinted sh (now words) ⌝ }
-    ensures { λ b. ⌜ b ≡ setsApart (absIn sh (listsOf sh (now (words .entry)))) ⌝ }
+    ensures { λ b. ⌜ b ≡ setsApart (abstractIn sh (now (words .entry))) ⌝ }
 {
     let rank = sh.rank;
     let mut r: usize = 1;

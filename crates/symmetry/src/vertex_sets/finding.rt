@@ -10,7 +10,8 @@ ghost use lib.ListN.{length, drop};
 ghost use Rattle.spec.specs.Limits.{maxCount};
 ghost use Rattle.spec.specs.Lists.{holds, eqList};
 ghost use Rattle.spec.specs.Types.{vertices, vertexSets};
-ghost use Rattle.ranked.specs.Words.{sizeAt, listsOf, absIn, Held};
+ghost use Rattle.ranked.specs.Layout.{abstractIn};
+ghost use Rattle.ranked.specs.Words.{sizeAt, absIn, Held};
 ghost use Rattle.symmetry.specs.Fingerprints.{Fingerprinted, ProperElement};
 
 // Tells whether two lists are the same.
@@ -48,7 +49,7 @@ pub fn is_vertex_set(words: &[u32], sh: Shape, r: usize, from: usize, list: &[u1
     requires { ⌜ Fingerprinted sh (now words) ⌝ }
     requires { ⌜ (1 ≤ r) × (r < sh .rank) × (from ≤ sizeAt sh r) ⌝ }
     requires { ⌜ length (now list) ≤ maxCount ⌝ }
-    ensures { λ b. ⌜ b ≡ holds eqList (now (list .entry)) (drop from (vertexSets (absIn sh (listsOf sh (now (words .entry)))) r)) ⌝ }
+    ensures { λ b. ⌜ b ≡ holds eqList (now (list .entry)) (drop from (vertexSets (abstractIn sh (now (words .entry))) r)) ⌝ }
 {
     let p = fingerprint_of(list);
     let first = sh.fingerprints(r);
