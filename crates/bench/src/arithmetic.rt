@@ -22,6 +22,7 @@ fn start(x: f64) -> [[f64; DIMENSION]; DIMENSION] {
     ]
 }
 
+// Each inverse is of a matrix that depends on an entry of the one before.
 pub fn repeat_inverse(times: u64) -> f64 {
     let mut x = 1.0;
     let mut left = times;
@@ -34,6 +35,7 @@ pub fn repeat_inverse(times: u64) -> f64 {
     x
 }
 
+// Each determinant is of a matrix that depends on the one before.
 pub fn repeat_determinant(times: u64) -> f64 {
     let mut x = 1.0;
     let mut left = times;

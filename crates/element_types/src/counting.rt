@@ -29,6 +29,7 @@ fn types_in(words: &[u32], from: usize, n: usize) -> usize
     m
 }
 
+// Counts the types of all proper ranks together.
 pub fn type_count(words: &[u32], sh: Shape) -> usize
     requires { ⌜ Countable sh (now words) ⌝ }
     ensures { λ n. ⌜ n ≡ typeCount (abstractIn sh (now (words .entry))) (stateIn sh (now (words .entry))) ⌝ }

@@ -1,4 +1,4 @@
-// This crate has section 4's start from the distance classes, the sweeps until one leaves the number of types unchanged, and the types of a solid
+// This module has section 4's start from the distance classes, the sweeps until one leaves the number of types unchanged, and the types of a solid
 // that lies in lent words and floats.
 use geometry::elements::all_classes;
 use ranked::Shape;

@@ -8,6 +8,7 @@ ghost use Rattle.ranked.specs.Layout.{abstractIn};
 ghost use Rattle.ranked.specs.Words.{listsOf};
 ghost use Rattle.element_types.specs.State.{stateIn, Sweepable, ups, downs};
 
+// Makes the steps up of a sweep, at ranks 1 to R − 1.
 fn sweep_up(words: &mut [u32], sh: Shape)
     requires { ⌜ Sweepable sh (now words) ⌝ }
     ensures { λ _. ⌜ listsOf sh (now (words .exit)) ≡ listsOf sh (now (words .entry)) ⌝ }
@@ -22,6 +23,7 @@ fn sweep_up(words: &mut [u32], sh: Shape)
     }
 }
 
+// Makes the steps down of a sweep, at ranks R − 1 to 1.
 fn sweep_down(words: &mut [u32], sh: Shape)
     requires { ⌜ Sweepable sh (now words) ⌝ }
     ensures { λ _. ⌜ listsOf sh (now (words .exit)) ≡ listsOf sh (now (words .entry)) ⌝ }
@@ -35,6 +37,7 @@ fn sweep_down(words: &mut [u32], sh: Shape)
     }
 }
 
+// Makes one sweep, which leaves the lists as they are.
 pub fn sweep(words: &mut [u32], sh: Shape)
     requires { ⌜ Sweepable sh (now words) ⌝ }
     ensures { λ _. ⌜ listsOf sh (now (words .exit)) ≡ listsOf sh (now (words .entry)) ⌝ }

@@ -1,4 +1,4 @@
-// The numbers of document 01, section 1: 64-bit floats, each operation rounded once; the tolerance, the root and vectors.
+// This crate has the numbers of document 01, section 1: 64-bit floats, each operation rounded once; the tolerance, the root and vectors.
 pub mod bits;
 pub mod root;
 pub mod tolerance;

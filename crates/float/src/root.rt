@@ -109,7 +109,7 @@ fn root_bits(b: u64) -> u64
 }
 
 // "The root is the exact root rounded to nearest, ties to even." The root of a zero is that zero, and that of a number below zero is a NaN. A NaN
-// fails both tests against zero, and is its own root. `EveryRoot` of crate `spec` says that the definition is IEEE 754's root, and its `root-facts`
+// fails both tests against zero, and is its own root. `EveryRoot` of crate `laws` says that the definition is IEEE 754's root, and its `root-facts`
 // says that the root of a finite x that is not negative is finite, not negative, and zero only at zero.
 pub fn root(x: f64) -> f64
     ensures { λ r. ⌜ r ≡ rootOf x ⌝ }

@@ -1,4 +1,4 @@
-// This crate has section 3's last sentences: each proper element's distance, and its distance class. The coordinates stand first in the lent floats.
+// This module has section 3's last sentences: each proper element's distance, and its distance class. The coordinates stand first in the lent floats.
 // Behind them is room for one listed value for each proper element, and behind that room stand the classes, one for each proper element.
 ghost use mathlib.Core.Path.{_≡_};
 ghost use mathlib.Core.List.{[], _∷_};

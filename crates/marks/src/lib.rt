@@ -1,6 +1,6 @@
-// This crate has section 6's mark. It says whether a row, which gives the vertex that each vertex goes to, carries every element of the solid in lent
-// lists to an element of its rank and distance class, subs exactly onto subs. An element's image is found by the images of its subs, one rank after
-// another, so that no vertex set has to be made.
+// This crate has section 6's mark and, in `products`, the marks of a list of rows. The mark says whether a row, which gives the vertex that each
+// vertex goes to, carries every element of the solid in lent lists to an element of its rank and distance class, subs exactly onto subs. An element's
+// image is found by the images of its subs, one rank after another, so that no vertex set has to be made.
 ghost use mathlib.Core.Path.{_≡_};
 ghost use mathlib.Core.Bool.{true};
 ghost use Prim.Native.Nat.{ℕ, suc, _+_, _*_, _≤_, _<_};

@@ -1,5 +1,5 @@
-// This crate gives the marks of a list of rows. A row that is the product of two confirmed rows is confirmed, because the symmetries of a solid are a
-// group. So nearly every row of a search is settled by comparing it with a product, and only the others are followed element by element.
+// This module gives the marks of a list of rows. A row that is the product of two confirmed rows is confirmed, because the symmetries of a solid are
+// a group. So nearly every row of a search is settled by comparing it with a product, and only the others are followed element by element.
 use crate::mark;
 use points::Found;
 use points::lookup::FREE;

@@ -1,4 +1,4 @@
-// This module has matrices of a dimension d up to DIMENSION, as rows of rows. Of an argument, the first d entries of the first d rows are read. In a
+// This crate has matrices of a dimension d up to DIMENSION, as rows of rows. Of an argument, the first d entries of the first d rows are read. In a
 // result, every other cell holds 0.0.
 ghost use mathlib.Core.Path.{_≡_};
 ghost use mathlib.Core.List.{map};

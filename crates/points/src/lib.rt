@@ -1,5 +1,5 @@
-// This module has points in a lent slice, d floats each, and finds one among them: "within EPS, EPS included, of a vertex on every axis (lowest
-// number taken)".
+// This crate has points in a lent slice, d floats each, and finds one among them: "within EPS, EPS included, of a vertex on every axis (lowest number
+// taken)".
 ghost use mathlib.Core.Path.{_≡_};
 ghost use Prim.Native.Nat.{_+_, _*_, _≤_, _<_};
 ghost use lib.ListN.{length, getD, take, drop};
@@ -24,14 +24,14 @@ pub enum Found {
     Nothing,
 }
 
-// A point's number, as rows and lists of points have it.
+// Returns a point's number, as rows and lists of points have it.
 pub fn wide(x: u16) -> usize
     ensures { λ r. ⌜ r ≡ x ⌝ }
 {
     x as usize
 }
 
-// The number in cell k of a row or a list.
+// Returns the number in cell k of a row or a list.
 pub fn cell(cells: &[u16], k: usize) -> usize
     requires { ⌜ k < length (now cells) ⌝ }
     ensures { λ r. ⌜ r ≡ getD (now (cells .entry)) k 0 ⌝ }

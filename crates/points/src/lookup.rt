@@ -1,6 +1,6 @@
-// Finding a point among listed points: "within EPS, EPS included, on every axis (lowest number taken)", fast for many points. A table guesses the
-// number. Only points that are lone have one, which means that no two of them are within WIDE on every axis: a point that is near the point
-// sought is then the only one near, and so the lowest. Other points have an empty table and are compared one by one.
+// This module finds a point among listed points, "within EPS, EPS included, on every axis (lowest number taken)", and is fast for many points. A
+// table guesses the number. Only points that are lone have one, which means that no two of them are within WIDE on every axis: a point that is near
+// the point sought is then the only one near, and so the lowest. Other points have an empty table and are compared one by one.
 ghost use mathlib.Core.Path.{_≡_};
 ghost use mathlib.Core.Bool.{true, false};
 ghost use Prim.Native.Nat.{_+_, _*_, _≤_, _<_};
@@ -29,7 +29,7 @@ use spec::MAX_COUNT;
 pub const PLACES: usize = 2 * MAX_COUNT;
 // This many places in a row are looked at, from the first one on.
 const TRIES: usize = 16;
-// The number that stands in a free place of a table.
+// This is the number that stands in a free place of a table.
 pub const FREE: u16 = 65535;
 // Fewer points than this are compared one by one, without a guess.
 const FEW: usize = 32;
@@ -132,8 +132,8 @@ pub fn is_lone(points: &[f64], d: usize, n: usize) -> bool
     true
 }
 
-// The table of guesses of the n points, which is empty where they are not lone. An empty table would always give the same answers and take longer,
-// which no proof can show and the benchmark does (tools/bench.sh).
+// Returns the table of guesses of the n points, which is empty where they are not lone. An empty table would always give the same answers and take
+// longer, which no proof can show and the benchmark does (tools/bench.sh).
 pub fn places(points: &[f64], d: usize, n: usize) -> [u16; PLACES]
     requires { ⌜ (d ≤ maxDimension) × (n ≤ maxCount) × (n * d ≤ length (now points)) ⌝ }
     ensures { λ r. ⌜ Guesses (parts n d (now (points .entry))) r ⌝ }

@@ -1,4 +1,5 @@
-// This module judges refusals 1 to 7 of a sheet. "Fields are judged as they come .., then 1 for the end, 7, 5, 6."
+// This crate judges refusals 1 to 7 of a sheet, and stores the solid of a sheet in lent words and floats. "Fields are judged as they come .., then 1
+// for the end, 7, 5, 6."
 use crate::check::is_bound;
 use crate::check::is_diamond;
 use crate::store::store;
@@ -23,13 +24,13 @@ ghost use Rattle.preflight.specs.Preflight.{unreadyOf, checksOf, SheetJu
 mod check;
 pub mod store;
 
-// The verdict, and for an accepted sheet how its solid lies in the workspace.
+// This is the verdict, and for an accepted sheet how its solid lies in the workspace.
 pub struct Ready {
     pub verdict: Verdict,
     pub shape: Shape,
 }
 
-// A refusal. No solid lies in the workspace then, and the shape is of zeros.
+// Returns the answer of a refusal. No solid lies in the workspace then, and the shape is of zeros.
 fn unready(why: Refusal) -> Ready
     ensures { λ r. ⌜ r ≡ unreadyOf why ⌝ }
 {
@@ -93,7 +94,7 @@ fn settle(sheet: &[u8], header: Header, words: &mut [u32], floats: &mut [f64]) -
     }
 }
 
-// A sheet of any bytes and any length, and a workspace of any size. Of a sheet that passes, the solid lies in the workspace afterwards, and its
+// Judges a sheet of any bytes and any length, in a workspace of any size. Of a sheet that passes, the solid lies in the workspace afterwards, and its
 // shape is answered; at a refusal the shape is of zeros. Whatever else the workspace holds afterwards is free.
 pub fn preflight(sheet: &[u8], words: &mut [u32], floats: &mut [f64]) -> Ready
     ensures { λ r. ⌜ Preflighted (now (sheet .entry)) (length (now (words .entry))) (length (now (floats .entry))) r

@@ -1,5 +1,5 @@
-// This crate has solids as lists at offsets in lent words (abs/ranked.rs, abs/mod.rs): storing a sheet's solid, the accessors over it, the refusals
-// "loose" and "mitre", and the vertices of an element.
+// This crate has solids as lists at offsets in lent words (abs/ranked.rs, abs/mod.rs): the shape of the workspace, the accessors over the lists, and
+// the vertices of an element.
 
 use spec::MAX_COUNT;
 use spec::MAX_RANK;
@@ -23,7 +23,7 @@ pub struct Shape {
     pub dimension: usize,
     // This says how many elements lie in the ranks below each rank, from rank 0 to rank + 1. The cells after these are 0.
     pub first: [usize; STARTS],
-    // How many words the solid takes with all its lists. Those behind them are free.
+    // This says how many words the solid takes with all its lists. Those behind them are free.
     pub low: usize,
 }
 

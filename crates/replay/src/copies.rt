@@ -1,7 +1,7 @@
-// Stored copyings. All numbers are whole, with the highest byte first: they have eight bytes each, and two for a table's cell. A float is written as
-// its bit pattern. A record gives the dimension, how many floats there are of points and how many of turns, how long the two outputs are, and then
-// those floats. Its answer gives the refusal's number, or 0, then the count, the output of copies and the table. After the last answer comes the table
-// of 48. tools/make_copies.py made copies.in and copies.out.
+// This module replays stored copyings. All numbers are whole, with the highest byte first: they have eight bytes each, and two for a table's cell. A
+// float is written as its bit pattern. A record gives the dimension, how many floats there are of points and how many of turns, how long the two
+// outputs are, and then those floats. Its answer gives the refusal's number, or 0, then the count, the output of copies and the table. After the last
+// answer comes the table of 48. tools/make_copies.py made copies.in and copies.out.
 use crate::RECORDS;
 use copying::axes;
 use spec::Answer;
@@ -99,7 +99,8 @@ fn write_table(run: Run) -> Run {
     writing::floats(run, &turns)
 }
 
-// A dimension can be any number, so the input's end is seen where the number of floats of points would come.
+// Answers each record in turn, and then the table of 48. A dimension can be any number, so the input's end is seen where the number of floats of
+// points would come.
 pub fn replay(from: i32, to: i32) -> Run {
     let mut points = [0.0; POINTS];
     let mut turns = [0.0; TURNS];

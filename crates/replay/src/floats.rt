@@ -1,7 +1,7 @@
-// Stored arithmetic, in numbers of eight bytes, highest byte first. A record may be a 0 and the bit pattern of a float, and is then answered by that
-// of its root. Or it is a dimension from 1 to 4 and the patterns of a matrix row by row, and is then answered by 1 and the inverse (or by 0 where the
-// matrix is singular), the determinant, the product with the matrix of its rows in falling order, and the image of its first row.
-// tools/make_floats.sh made floats.in and floats.out.
+// This module replays stored arithmetic, in numbers of eight bytes, highest byte first. A record may be a 0 and the bit pattern of a float, and is
+// then answered by that of its root. Or it is a dimension from 1 to 4 and the patterns of a matrix row by row, and is then answered by 1 and the
+// inverse (or by 0 where the matrix is singular), the determinant, the product with the matrix of its rows in falling order, and the image of its
+// first row. tools/make_floats.sh made floats.in and floats.out.
 ghost use Prim.Native.Nat.{_≤_};
 ghost use Rattle.spec.specs.Limits.{maxDimension};
 use crate::RECORDS;
@@ -93,6 +93,7 @@ fn replay_one(run: Run, tag: usize) -> Run
     replay_matrix(run, tag)
 }
 
+// Answers each record in turn. A file that has too many records fails.
 pub fn replay(from: i32, to: i32) -> Run {
     let mut run = wire::start(from, to);
     let mut left = RECORDS;

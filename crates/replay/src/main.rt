@@ -1,6 +1,7 @@
-// Replays stored calls. With one of the words floats, sheets, types, searches and copies as its argument it reads records of that kind from standard
-// input, and writes the answers to standard output; the module of that name says what a record is, and what is answered. With no argument, as in the
-// gate, it replays the five files WORD.in of the folder that it is run in, holds each answer to WORD.out, and says for each whether all are the same.
+// This program replays stored calls. With one of the words floats, sheets, types, searches and copies as its argument it reads records of that kind
+// from standard input, and writes the answers to standard output; the module of that name says what a record is, and what is answered. With no
+// argument, as in the gate, it replays the five files WORD.in of the folder that it is run in, holds each answer to WORD.out, and says for each
+// whether all are the same.
 mod copies;
 mod floats;
 mod searches;

@@ -1,8 +1,8 @@
-// Stored searches. In a record all numbers are whole, eight bytes each, highest byte first: which call it is (0 search, 1 rotations; 2 and 3 the same,
-// answered whole), how long the sheet is, how many words and floats the workspace has, how long the outputs of matrices, rows and marks are; then come
-// the sheet's bytes. Its answer is a line with the refusal's number, or 0, the count, and a digest of each output (wire::digests). Where it is to be
-// whole there are the outputs instead: a line for each matrix (the floats' patterns in hexadecimal digits), one for each row, and one with all marks.
-// tools/make_searches.py made searches.in and searches.out.
+// This module replays stored searches. In a record all numbers are whole, eight bytes each, highest byte first: which call it is (0 search, 1
+// rotations; 2 and 3 the same, answered whole), how long the sheet is, how many words and floats the workspace has, how long the outputs of matrices,
+// rows and marks are; then come the sheet's bytes. Its answer is a line with the refusal's number, or 0, the count, and a digest of each output
+// (wire::digests). Where it is to be whole there are the outputs instead: a line for each matrix (the floats' patterns in hexadecimal digits), one
+// for each row, and one with all marks. tools/make_searches.py made searches.in and searches.out.
 ghost use Prim.Native.Nat.{_<_};
 use crate::RECORDS;
 use float::bits;
@@ -26,7 +26,7 @@ const ROWS: usize = 32768;
 
 const MARKS: usize = 2048;
 
-// The last of the four calls.
+// This is the number of the last of the four calls.
 const CALLS: u64 = 3;
 
 // Writes a number of at most five decimal digits: no number here is larger.
@@ -232,6 +232,7 @@ fn replay_one(
     )
 }
 
+// Answers each record in turn. A file that has too many records fails.
 pub fn replay(from: i32, to: i32) -> Run {
     let mut sheet = [0u8; BYTES];
     let mut words = [0u32; WORDS];

@@ -1,5 +1,5 @@
-// Stored sheets. A record is a length in four bytes, highest first, and a sheet of that length. It is answered by a line with the number of the
-// refusal among 1 to 7, or 0 where the sheet is accepted. tools/make_sheets.py made sheets.in and sheets.out.
+// This module replays stored sheets. A record is a length in four bytes, highest first, and a sheet of that length. It is answered by a line with the
+// number of the refusal among 1 to 7, or 0 where the sheet is accepted. tools/make_sheets.py made sheets.in and sheets.out.
 use crate::RECORDS;
 use wire::Run;
 use wire::reading;
@@ -27,6 +27,7 @@ fn replay_one(run: Run, n: usize, bytes: &mut [u8], words: &mut [u32], floats: &
     judge(run, &mut bytes[..n], words, floats)
 }
 
+// Answers each record in turn. A file that has too many records fails.
 pub fn replay(from: i32, to: i32) -> Run {
     let mut bytes = [0u8; BYTES];
     let mut words = [0u32; WORDS];

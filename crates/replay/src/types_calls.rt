@@ -1,6 +1,6 @@
-// Stored types of elements. A record is how long the sheet, the workspace's words and floats, the types of the elements and the table are, four bytes
-// each, highest first; and then the sheet. Its answer is three lines: the refusal's number, or 0, and the count; the types of the elements; the table.
-// tools/make_types.py made types.in and types.out.
+// This module replays stored types calls. A record is how long the sheet, the workspace's words and floats, the types of the elements and the table
+// are, four bytes each, highest first; and then the sheet. Its answer is three lines: the refusal's number, or 0, and the count; the types of the
+// elements; the table. tools/make_types.py made types.in and types.out.
 use crate::RECORDS;
 use spec::Answer;
 use wire::Run;
@@ -111,6 +111,7 @@ fn replay_one(
     )
 }
 
+// Answers each record in turn. A file that has too many records fails.
 pub fn replay(from: i32, to: i32) -> Run {
     let mut bytes = [0u8; BYTES];
     let mut words = [0u32; WORDS];

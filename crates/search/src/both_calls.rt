@@ -1,4 +1,4 @@
-// This crate has demand 3 of the two calls that it needs, each run: a sheet's types with its members or its rotations, and what the promises of both
+// This module has demand 3 of the two calls that it needs, each run: a sheet's types with its members or its rotations, and what the promises of both
 // calls say together.
 ghost use lib.ListN.{length};
 ghost use Rattle.spec.specs.Calls.{searchCall, rotationsCall};

@@ -1,5 +1,5 @@
-// What a public call answers: document 01's table of preflight answers as an enum. The rest of this crate consists of definitions and of examples that
-// evaluate them (specs/). The theorems about them are in crate `laws`.
+// This crate has what a public call answers, which is document 01's table of preflight answers as an enum. The rest of this crate consists of
+// definitions and of examples that evaluate them (specs/). The theorems about them are in crate `laws`.
 ghost use mathlib.Core.Path.{_≡_};
 ghost use Rattle.spec.specs.Refusal.{number};
 

@@ -1,4 +1,4 @@
-// This crate has, of section 6 of document 01, a flag's columns and its candidate, and the parts of the test that a candidate has to pass
+// This module has, of section 6 of document 01, a flag's columns and its candidate, and the parts of the test that a candidate has to pass
 // (conc/symmetry.rs).
 ghost use mathlib.Core.Path.{_≡_};
 ghost use mathlib.Core.Bool.{true};

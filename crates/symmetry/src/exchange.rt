@@ -1,4 +1,4 @@
-// This crate makes section 6's exchange: facet f "changes places with facet 0; ridges' sups follow and are sorted".
+// This module makes section 6's exchange: facet f "changes places with facet 0; ridges' sups follow and are sorted".
 use preflight::store::derive_sups;
 use ranked::Shape;
 ghost use mathlib.Core.Path.{_≡_};

@@ -6,6 +6,7 @@ ghost use lib.ListN.{length};
 ghost use Rattle.spec.specs.KitText.{decimal};
 ghost use Rattle.text.specs.Puts.{Puts};
 
+// Writes the given bytes, and answers where they end.
 pub fn put_bytes(out: &mut [u8], from: usize, s: &[u8]) -> usize
     requires { ⌜ from + length (now s) ≤ length (now out) ⌝ }
     ensures { λ r. ⌜ Puts from (now (s .entry)) (now (out .entry)) (now (out .exit)) r ⌝ }

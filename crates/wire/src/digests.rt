@@ -18,6 +18,7 @@ fn step(state: u64, piece: u64) -> u64
     (state * BASE + piece) % PRIME
 }
 
+// Returns the digest after the four pieces of a pattern, highest first.
 fn pattern(state: u64, n: u64) -> u64
     requires { ⌜ state < 2 ^ 44 ⌝ }
     ensures { λ r. ⌜ r < 2 ^ 44 ⌝ }
@@ -28,6 +29,7 @@ fn pattern(state: u64, n: u64) -> u64
     step(c, n % 65536)
 }
 
+// Returns the digest of the floats.
 pub fn floats(s: &[f64]) -> u64
     ensures { λ r. ⌜ r < 2 ^ 44 ⌝ }
 {
@@ -40,6 +42,7 @@ pub fn floats(s: &[f64]) -> u64
     state
 }
 
+// Returns the digest of the cells.
 pub fn cells(s: &[u16]) -> u64
     ensures { λ r. ⌜ r < 2 ^ 44 ⌝ }
 {
@@ -52,6 +55,7 @@ pub fn cells(s: &[u16]) -> u64
     state
 }
 
+// Returns the digest of the bytes.
 pub fn bytes(s: &[u8]) -> u64
     ensures { λ r. ⌜ r < 2 ^ 44 ⌝ }
 {

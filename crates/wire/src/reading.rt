@@ -1,11 +1,11 @@
-// Reading: a number has its highest byte first, and a float is its bit pattern.
+// This module reads: a number has its highest byte first, and a float is its bit pattern.
 ghost use mathlib.Core.Path.{_≡_};
 ghost use Prim.Native.Nat.{_+_, _<_, _≤_, _^_};
 ghost use lib.ListN.{length};
 use crate::wide;
 use float::bits;
 
-// What stands for the end of the input. It is above every limit that a caller may name.
+// This stands for the end of the input. It is above every limit that a caller may name.
 pub const END: u64 = 0xffff_ffff_ffff_ffff;
 
 fn half(a: u8, b: u8, c: u8, d: u8) -> u64
@@ -14,7 +14,7 @@ fn half(a: u8, b: u8, c: u8, d: u8) -> u64
     wide(a) * 0x100_0000 + wide(b) * 0x1_0000 + wide(c) * 0x100 + wide(d)
 }
 
-// The number of the next four bytes, or END.
+// Returns the number of the next four bytes, or END.
 fn four_bytes(from: i32) -> u64 {
     let mut b = [0u8; 4];
     let got = io::read_full(from, &mut b);
@@ -24,7 +24,7 @@ fn four_bytes(from: i32) -> u64 {
     half(b[0], b[1], b[2], b[3])
 }
 
-// The number of the next eight bytes, or END.
+// Returns the number of the next eight bytes, or END.
 fn eight_bytes(from: i32) -> u64 {
     let mut b = [0u8; 8];
     let got = io::read_full(from, &mut b);
@@ -44,7 +44,7 @@ fn limited(n: u64, limit: u64) -> u64
     limit + 1
 }
 
-// This function and the next one read a number of four or of eight bytes. A number above the limit, or the end of the input, gives the limit and 1.
+// Reads a number of four bytes. A number above the limit, or the end of the input, gives the limit and 1.
 pub fn short_number(from: i32, limit: u64) -> u64
     requires { ⌜ limit + 1 < 2 ^ 64 ⌝ }
     ensures { λ r. ⌜ r ≤ limit + 1 ⌝ }
@@ -52,6 +52,7 @@ pub fn short_number(from: i32, limit: u64) -> u64
     limited(four_bytes(from), limit)
 }
 
+// Reads a number of eight bytes, by the same limit.
 pub fn number(from: i32, limit: u64) -> u64
     requires { ⌜ limit + 1 < 2 ^ 64 ⌝ }
     ensures { λ r. ⌜ r ≤ limit + 1 ⌝ }

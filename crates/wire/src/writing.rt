@@ -1,5 +1,5 @@
-// Writing: answers go to standard output, or are held to those that a file has stored. Once one of them differs the run is no longer good, and its
-// count tells where.
+// This module writes: answers go to standard output, or are held to those that a file has stored. Once one of them differs the run is no longer good,
+// and its count tells where.
 ghost use mathlib.Core.Path.{_≡_};
 ghost use mathlib.Core.Bool.{true, false};
 ghost use Prim.Native.Nat.{_+_, _*_, _≤_};
@@ -10,9 +10,10 @@ use sheet::Verdict;
 
 const STANDARD_OUTPUT: i32 = 1;
 
-// The longest piece that goes at once, and the longest file of answers.
+// This is the length of the longest piece that goes at once.
 const PIECE: usize = 32;
 
+// A run writes no more once it has written this many bytes of answers.
 const MOST: u64 = 0x1_0000_0000;
 
 // Reads as many bytes as the slice has, and tells whether they are these.
@@ -34,6 +35,7 @@ fn moved(to: i32, text: &[u8]) -> bool {
     false
 }
 
+// Returns the run as one that is no longer good.
 pub fn failed(run: Run) -> Run
     ensures { λ r. ⌜ r .good ≡ false ⌝ }
 {
@@ -45,6 +47,7 @@ pub fn failed(run: Run) -> Run
     }
 }
 
+// Writes the bytes of one piece. A longer text, or one past the longest file of answers, fails.
 pub fn bytes(run: Run, text: &[u8]) -> Run
     ensures { λ r. ⌜ (r .good ≡ true → (run .good ≡ true) × (r .count ≡ run .count + length (now (text .entry)))) ⌝ }
 {
@@ -90,6 +93,7 @@ pub fn cell(run: Run, n: u16) -> Run
     bytes(run, &b)
 }
 
+// Writes each float as the eight bytes of its pattern.
 pub fn floats(run: Run, s: &[f64]) -> Run
     ensures { λ r. ⌜ (r .good ≡ true → (run .good ≡ true) × (r .count ≡ run .count + 8 * length (now (s .entry)))) ⌝ }
 {
@@ -103,6 +107,7 @@ pub fn floats(run: Run, s: &[f64]) -> Run
     after
 }
 
+// Writes each cell as two bytes.
 pub fn cells(run: Run, s: &[u16]) -> Run
     ensures { λ r. ⌜ (r .good ≡ true → (run .good ≡ true) × (r .count ≡ run .count + 2 * length (now (s .entry)))) ⌝ }
 {
@@ -176,7 +181,7 @@ fn ended(from: i32) -> bool {
     io::read_full(from, &mut b) == 0
 }
 
-// The run at its end. It is good where all went well, and nothing is left of the input and of the stored answers.
+// Returns the run at its end. It is good where all went well, and nothing is left of the input and of the stored answers.
 pub fn finished(run: Run) -> Run
     ensures { λ r. ⌜ (r .good ≡ true → run .good ≡ true) ⌝ }
 {
