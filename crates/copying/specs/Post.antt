@@ -21,7 +21,7 @@ abbrev pub judgementOf : CopyJudgement → Judged (Unit {0})
 judgementOf Passed = passed tt
 judgementOf (Refused why) = refused why
 
--- The number that fills a table where an image is not among the copies.
+-- This is the number that fills a table where an image is not among the copies.
 abbrev pub filling : ℕ
 filling = 65535
 

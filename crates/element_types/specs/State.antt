@@ -16,6 +16,7 @@ use Rattle.element_types.specs.Numbers.{Numberable, keysTo}
 unfoldable pub typesIn : Shape → List ℕ → ℕ → List ℕ
 typesIn sh w r = take (sizeAt sh r) (drop (typesAt sh r) w)
 
+-- Gives the state that the words hold: the types of each rank from 0 to R.
 unfoldable pub stateIn : Shape → List ℕ → State
 stateIn sh w = map (typesIn sh w) (range 0 (suc (sh .rank)))
 

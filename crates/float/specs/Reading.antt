@@ -1,4 +1,4 @@
--- How the arrays of the code are read, and what the cells that no entry needs hold.
+-- This file says how the arrays of the code are read, and what the cells that no entry needs hold.
 -- Assumes nothing.
 use mathlib.Core.Path.{_≡_}
 use mathlib.Core.Bool.{Bool, true, false}

@@ -1,14 +1,15 @@
--- The numbers that the table of confirmed rows goes by, each of which stands once more in src/lib.rt for the program. They decide how often a factor
--- is found, and nothing else.
+-- This file has the numbers that the table of confirmed rows goes by, each of which stands once more in src/products.rt for the program. They decide
+-- how often a factor is found, and nothing else.
 -- Assumes nothing.
 use Prim.Native.Nat.{ℕ, _^_, _<_}
 use Rattle.points.specs.declared.Found.{Found}
 use Rattle.points.specs.declared.Found.the-variants.{At, Nothing}
 
--- The table has this many places, of which so many in a row are looked at.
+-- The table has this many places.
 abbrev pub tablePlaces : ℕ
 tablePlaces = 16384
 
+-- This many places in a row are looked at.
 abbrev pub placesTried : ℕ
 placesTried = 4
 

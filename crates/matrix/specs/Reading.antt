@@ -1,4 +1,5 @@
--- How arrays of arrays are read as matrices, and what the cells that no entry needs hold. A d by d matrix is the leading part of an array of arrays.
+-- This file says how arrays of arrays are read as matrices, and what the cells that no entry needs hold. A d by d matrix is the leading part of an
+-- array of arrays.
 -- Assumes nothing.
 use mathlib.Core.Bool.{Bool, true, false}
 use mathlib.Core.List.{List, [], _++_, map}

@@ -1,4 +1,5 @@
--- What the cells of a table hold by an answer, where each cell is the number of an image, and x is the number of one that is not found.
+-- This file says what the cells of a table hold by an answer, where each cell is the number of an image, and x is the number of one that is not
+-- found.
 -- Assumes nothing.
 use mathlib.Core.Path.{_≡_}
 use mathlib.Core.Bool.{Bool, true, false}
@@ -18,7 +19,7 @@ pub record Opened (x : ℕ) (new before after : List ℕ) : Type 0 where
   pub some : holds eqb x new ≡ true
   pub past : drop (length new) after ≡ drop (length new) before
 
--- What a table holds by the answer, where `new` are its cells.
+-- Says what a table holds by the answer, where `new` are its cells.
 abbrev pub Tabled : (x : ℕ) (new before after : List ℕ) → Bool → Type 0
 Tabled x new before after true = Closed x new before after
 Tabled x new before after false = Opened x new before after

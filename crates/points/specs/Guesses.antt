@@ -1,4 +1,4 @@
--- Points that are lone, so that one of them is found at once by being near; and the table of guesses that only such points have.
+-- This file has points that are lone, so that one of them is found at once by being near, and the table of guesses that only such points have.
 -- Assumes nothing.
 use mathlib.Core.Path.{_≡_}
 use mathlib.Core.Logic.{_⊎_}
@@ -32,15 +32,15 @@ pub record Lone (ps : List Vector) : Type 0 where
 pub record Clear (d : ℕ) (l : List Float) (k j : ℕ) : Type 0 where
   pub clear : (i : ℕ) → i < j → within wideF (take d (drop (i * d) l)) (take d (drop (k * d) l)) ≡ false
 
--- How many places a table of guesses has.
+-- A table of guesses has this many places.
 abbrev pub places : ℕ
 places = 2 * maxCount
 
--- How many places in a row are looked at.
+-- This many places in a row are looked at.
 abbrev pub tries : ℕ
 tries = 16
 
--- The number that stands in a free place. No point has it.
+-- This is the number that stands in a free place. No point has it.
 abbrev pub free : ℕ
 free = 65535
 

@@ -26,7 +26,7 @@ unfoldable pub verdictOf : Judged Concrete → Verdict
 verdictOf (refused why) = Refused why
 verdictOf (passed c) = Accepted
 
--- At a refusal no solid lies in the workspace, and the shape is of zeros.
+-- Gives the answer of a refusal: no solid lies in the workspace, and the shape is of zeros.
 abbrev pub unreadyOf : Refusal → Ready
 unreadyOf why = record { verdict = Refused why; shape = record { rank = 0; dimension = 0; first = replicate (maxRank + 2) 0; low = 0 } }
 
@@ -35,7 +35,7 @@ unfoldable pub readyOf : Judged Concrete → Ready
 readyOf (refused why) = unreadyOf why
 readyOf (passed c) = record { verdict = Accepted; shape = shapeOf c }
 
--- Refusal 5 is tested first, and then refusal 6.
+-- Gives the verdict of the two tests of a solid. Refusal 5 is tested first, and then refusal 6.
 unfoldable pub checksOf : Solid → Verdict
 checksOf s = elim (bound s) [ true ↦ elim (diamond s) [ true ↦ Accepted | false ↦ Refused Mitre ] | false ↦ Refused Loose ]
 

@@ -31,28 +31,30 @@ floatsAt b i n = map (ofBits binary64) (fieldsAt b i 64 n)
 
 -- ---- the lists of a sheet
 
--- These are the list that stands at bit i, and then the bit after the list: "each element's list: length, 12 bits; subs, 11 each".
+-- Gives the list that stands at bit i: "each element's list: length, 12 bits; subs, 11 each".
 unfoldable pub rawList : List ℕ → ℕ → List ℕ
 rawList b i = fieldsAt b (i + 12) 11 (field b i 12)
 
+-- Gives the bit after that list.
 unfoldable pub bitPast : List ℕ → ℕ → ℕ
 bitPast b i = i + 12 + 11 * field b i 12
 
--- These are the bit after the n lists that stand from bit i on, and then those lists.
+-- Gives the bit after the n lists that stand from bit i on.
 unfoldable pub bitAfter : List ℕ → ℕ → ℕ → ℕ
 bitAfter b i zero = i
 bitAfter b i (suc n) = bitPast b (bitAfter b i n)
 
+-- Gives those n lists.
 unfoldable pub rawLists : List ℕ → ℕ → ℕ → List (List ℕ)
 rawLists b i zero = []
 rawLists b i (suc n) = rawLists b i n ++ (rawList b (bitAfter b i n) ∷ [])
 
--- These are the bit after the lists of n ranks that stand from bit i on, one rank after another, and then those lists. The function c says how many
--- elements each rank has.
+-- Gives the bit after the lists of n ranks that stand from bit i on, one rank after another. The function c says how many elements each rank has.
 unfoldable pub bitRanks : List ℕ → ℕ → (ℕ → ℕ) → ℕ → ℕ
 bitRanks b i c zero = i
 bitRanks b i c (suc n) = bitAfter b (bitRanks b i c n) (c n)
 
+-- Gives those lists, one rank after another.
 unfoldable pub rawRanks : List ℕ → ℕ → (ℕ → ℕ) → ℕ → List (List ℕ)
 rawRanks b i c zero = []
 rawRanks b i c (suc n) = rawRanks b i c n ++ rawLists b (bitRanks b i c n) (c n)
@@ -134,7 +136,7 @@ lowOf sh I = 4 * total sh + 2 * subEntries sh I
 unfoldable pub baseOf : Shape → ℕ → ℕ
 baseOf sh I = 4 * total sh + subEntries sh I
 
--- The shape with the number of its words, where the sheet's lists have I entries.
+-- Gives the shape with the number of its words, where the sheet's lists have I entries.
 unfoldable pub sized : Shape → ℕ → Shape
 sized sh I = record { rank = sh .rank; dimension = sh .dimension; first = sh .first; low = lowOf sh I }
 

@@ -21,7 +21,7 @@ sizeAt sh r = firstAt sh (suc r) - firstAt sh r
 abbrev pub total : Shape → ℕ
 total sh = firstAt sh (suc (sh .rank))
 
--- The words that hold the lists of the solid. What is free of the workspace lies behind them.
+-- Gives the words that hold the lists of the solid. What is free of the workspace lies behind them.
 abbrev pub listsOf : Shape → List ℕ → List ℕ
 listsOf sh ws = take (sh .low) ws
 

@@ -23,8 +23,8 @@ pub record BothCalls (call : List ℕ → ℕ → ℕ → SearchOut → Answer �
   pub members : (r .members, after) ≡ call b words floats before
   pub cells : (n : ℕ) → r .types ≡ Done n → Demand3Cells b words floats (new .elements)
   pub rows : (n : ℕ) → r .types ≡ Done n → Demand3Rows b words floats old n (answerCount (r .members)) (after .rows) (after .marks)
-  -- The third claim of demand 3, of the listed members and of the cells: each listed row with mark 1 takes every proper element to one of its own
-  -- rank, which has its type after the steps and whose cell holds the same number.
+  -- The third claim of demand 3 holds of the listed members and of the cells: each listed row with mark 1 takes every proper element to one of its
+  -- own rank, which has its type after the steps and whose cell holds the same number.
   pub kept : (n : ℕ) (d : r .types ≡ Done n) →
       let c = rows n d .types .solid in
       (xs : List Step) → AllProper (c .abs) xs → (k : ℕ) → k < answerCount (r .members) → getD (after .marks) k 0 ≡ 1

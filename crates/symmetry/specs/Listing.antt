@@ -33,10 +33,11 @@ gives w rot F = elim (sameTypes w F) [ true ↦ listedIf rot (tested w (candidat
 unfoldable pub membersGiven : Setting → Bool → List Flag → List Member
 membersGiven w rot Fs = wantedOf rot (membersOf w Fs)
 
--- These are the cells that some members take: those of their matrices, and then those of their rows.
+-- Lists the cells that the matrices of some members take.
 unfoldable pub matrixCells : List Member → List Float
 matrixCells ms = join (map (λ x. join (x .matrix)) ms)
 
+-- Lists the cells that the rows of some members take.
 unfoldable pub rowCells : List Member → List ℕ
 rowCells ms = join (map (λ x. x .row) ms)
 

@@ -1,4 +1,4 @@
--- What the parts of a candidate's test say, over flags as plain lists.
+-- This file says what the parts of a candidate's test say, over flags as plain lists.
 -- Assumes nothing.
 use mathlib.Core.Path.{_≡_}
 use mathlib.Core.Bool.{Bool}

@@ -4,10 +4,10 @@ use Prim.Native.Nat.{ℕ, _+_, _*_}
 use mathlib.Core.List.{List}
 use lib.ListN.{getD, set}
 
--- The words i and j change places.
+-- Gives the words in which words i and j have changed places.
 unfoldable pub swapped : List ℕ → ℕ → ℕ → List ℕ
 swapped w i j = set (set w i (getD w j 0)) j (getD w i 0)
 
--- The starts and lengths of the subs of elements g and h change places.
+-- Gives the words in which the starts and lengths of the subs of elements g and h have changed places.
 unfoldable pub swappedLists : List ℕ → ℕ → ℕ → List ℕ
 swappedLists w g h = swapped (swapped w (4 * g) (4 * h)) (4 * g + 1) (4 * h + 1)

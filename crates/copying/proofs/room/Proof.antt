@@ -1,3 +1,4 @@
+-- The division is by a dimension that is not zero, and the smaller of the two limits is taken.
 -- Assumes nothing.
 use borrow.Author.Needs.{needs}
 use Rattle.copying.proofs.room.Statement.{statement}

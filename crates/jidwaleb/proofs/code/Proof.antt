@@ -1,3 +1,4 @@
+-- A count is its own code, and a refusal's code has the refusal's number above the count.
 -- Assumes nothing.
 use mathlib.Core.Path.{sym, ap, _∙_}
 use Prim.Native.Nat.{ℕ, _+_, _*_, _^_}

@@ -1,3 +1,4 @@
+-- The test compares the magnitude with the largest one, which is what the definition asks.
 -- Assumes nothing.
 use lib.Ieee.{ofBits}
 use borrow.Author.Needs.{needs}

@@ -1,3 +1,4 @@
+-- A float that fits is told by its pattern, so two floats are the same exactly when their patterns are.
 -- Assumes nothing.
 use mathlib.Core.Path.{_≡_, refl, sym, ap, _∙_, subst}
 use mathlib.Core.Bool.{Bool, true, false, false≢true}

@@ -1,3 +1,4 @@
+-- There is one case for a number below zero, one for a zero, and one for every other float.
 -- Assumes nothing.
 use Rattle.float.proofs.Magnitude.{below-zero, at-zero, above-zero}
 use Rattle.float.proofs.tolerance.magnitude.Statement.{statement}

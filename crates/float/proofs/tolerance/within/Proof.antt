@@ -1,3 +1,4 @@
+-- The two comparisons together are the one of the magnitude with EPS.
 -- Assumes nothing.
 use mathlib.Core.Path.{_≡_, sym, ap, _∙_}
 use mathlib.Core.Bool.{Bool, _&&_}

@@ -1,3 +1,4 @@
+-- Either a listed value is near and is taken, or there is none and the distance joins the list.
 -- Assumes nothing.
 use mathlib.Core.Path.{sym, ap, _∙_}
 use borrow.Author.Needs.{needs}

@@ -1,3 +1,4 @@
+-- The test compares the magnitude with EPS, as the definition does.
 -- Assumes nothing.
 use mathlib.Core.Path.{ap}
 use lib.Ieee.{Float, lt, ofBits}

@@ -1,3 +1,4 @@
+-- There is one case for equal values, one where the first is a number, and one where it is NaN.
 -- Assumes nothing.
 use Rattle.geometry.proofs.Same.{class-equal, class-number, class-nan}
 use Rattle.geometry.proofs.classes.same_class.Statement.{statement}

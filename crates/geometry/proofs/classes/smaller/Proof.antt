@@ -1,3 +1,4 @@
+-- The value is smaller than what was found before, or it is not, or nothing was found before.
 -- Assumes nothing.
 use mathlib.Core.Path.{_≡_, sym, ap, _∙_}
 use lib.Ieee.{Float}

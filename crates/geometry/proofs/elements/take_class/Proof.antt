@@ -1,3 +1,4 @@
+-- The part of the floats that is lent to `list_distance` is put back into the whole.
 -- Assumes nothing.
 use borrow.Author.Needs.{needs}
 use Rattle.geometry.proofs.elements.Grown.{grown-part}

@@ -1,3 +1,4 @@
+-- Swapping, dividing and clearing are the three steps of the definition, on the entries that are read.
 -- Assumes nothing.
 use mathlib.Core.Path.{_∙_}
 use Prim.Native.Nat.{_+_}

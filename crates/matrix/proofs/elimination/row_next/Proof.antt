@@ -1,3 +1,4 @@
+-- Each of the two cases of the test, the pivot row and any other row, is a case of the definition.
 -- Assumes nothing.
 use borrow.Author.Needs.{needs}
 use borrow.Author.Tests.{eq-eqb, ne-eqb}

@@ -1,3 +1,4 @@
+-- Each of the two cases of the test is a case of the definition.
 -- Assumes nothing.
 use Rattle.matrix.proofs.elimination.signed.Statement.{statement}
 use Rattle.matrix.proofs.elimination.signed.Tie as tie

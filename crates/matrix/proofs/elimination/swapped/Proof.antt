@@ -1,3 +1,4 @@
+-- The two rows that are written are those of the definition.
 -- Assumes nothing.
 use mathlib.Core.Path.{refl}
 use borrow.Author.Needs.{needs}

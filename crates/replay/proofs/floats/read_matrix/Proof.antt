@@ -1,4 +1,5 @@
--- Ends, and stays within its matrix. Assumes nothing.
+-- `replay::floats::read_matrix` ends, and stays within its matrix.
+-- Assumes nothing.
 use mathlib.Core.Path.{sym}
 use Prim.Native.Nat.{_≤_, _-_}
 use native.Mathlib.Omega.{arith}

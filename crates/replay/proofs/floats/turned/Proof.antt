@@ -1,4 +1,5 @@
--- Ends, and stays within its matrix. Assumes nothing.
+-- `replay::floats::turned` ends, and stays within its matrix.
+-- Assumes nothing.
 use Prim.Native.Nat.{_≤_, _-_}
 use borrow.Author.Needs.{needs}
 use Rattle.replay.proofs.floats.turned.Statement.{statement}

@@ -1,3 +1,4 @@
+-- Each of the two cases of the test of the determinant is a case of the count.
 -- Assumes nothing.
 use mathlib.Core.Path.{_∙_, sym, ap}
 use lib.Ieee.{ofBits, lt}

@@ -1,3 +1,4 @@
+-- The line is put in two pieces, the label with the number and then the rest, and there is room for both.
 -- Assumes nothing.
 use mathlib.Core.Path.{sym, ap}
 use Rattle.spec.specs.KitText.{decimal}

@@ -1,3 +1,4 @@
+-- The label and the number are put one after the other, and there is room for both.
 -- Assumes nothing.
 use mathlib.Core.List.{_++_}
 use native.Mathlib.Omega.{arith}

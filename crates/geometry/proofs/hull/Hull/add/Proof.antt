@@ -1,3 +1,4 @@
+-- What is left of the point is longer than EPS and joins the basis, or it is not and the hull stays as it is.
 -- Assumes nothing.
 use mathlib.Core.Path.{_≡_, ap, _∙_}
 use mathlib.Core.List.{List, map}

@@ -1,3 +1,4 @@
+-- The difference is that of the definition, once the projection is.
 -- Assumes nothing.
 use mathlib.Core.Path.{ap, _∙_}
 use borrow.Author.Needs.{needs}
