@@ -6,8 +6,8 @@ use mathlib.Core.Bool.{true, false}
 use mathlib.Core.List.{List, [], _∷_, _++_}
 use lib.ListN.{length, take}
 use lib.Ieee.{Float}
-use Rattle.copying.specs.declared.judging.CopyJudgement.{CopyJudgement}
-use Rattle.copying.specs.declared.judging.CopyJudgement.the-variants.{Passed, Refused}
+use Rattle.spec.specs.declared.Verdict.{Verdict}
+use Rattle.spec.specs.declared.Verdict.the-variants.{Accepted, Refused}
 use Rattle.copying.specs.declared.joining.CopyRoom.{CopyRoom}
 use Rattle.copying.specs.declared.joining.CopyRoom.the-variants as room
 use Rattle.spec.specs.Judged.{Judged, refused, passed}
@@ -17,9 +17,9 @@ use Rattle.spec.specs.Copying.{spread}
 use Rattle.spec.specs.Points.{found}
 
 -- Gives the judgement that an answer of the code stands for.
-abbrev pub judgementOf : CopyJudgement → Judged (Unit {0})
-judgementOf Passed = passed tt
-judgementOf (Refused why) = refused why
+abbrev pub verdictAs : Verdict → Judged (Unit {0})
+verdictAs Accepted = passed tt
+verdictAs (Refused why) = refused why
 
 -- This is the number that fills a table where an image is not among the copies.
 abbrev pub filling : ℕ

@@ -3,15 +3,10 @@ ghost use mathlib.Core.Path.{_≡_};
 ghost use Rattle.spec.specs.Lists.{every};
 ghost use Rattle.spec.specs.Float.{inRange};
 ghost use Rattle.spec.specs.Copying.{judgeCopy};
-ghost use Rattle.copying.specs.Post.{judgementOf};
+ghost use Rattle.copying.specs.Post.{verdictAs};
 use float::DIMENSION;
 use spec::Refusal;
-
-// This says whether the points and matrices can be copied, or by which refusal they are turned down.
-pub enum CopyJudgement {
-    Passed,
-    Refused(Refusal),
-}
+use spec::Verdict;
 
 // Tells whether every float is finite and not too large.
 fn all_in_range(s: &[f64]) -> bool
@@ -29,32 +24,32 @@ fn all_in_range(s: &[f64]) -> bool
 }
 
 // Makes the four judgements, in their order. A refusal ends them, so each test may rely on the ones before it.
-pub fn judged(d: usize, from: &[f64], turns: &[f64]) -> CopyJudgement
-    ensures { λ r. ⌜ judgementOf r ≡ judgeCopy d (now (from .entry)) (now (turns .entry)) ⌝ }
+pub fn judged(d: usize, from: &[f64], turns: &[f64]) -> Verdict
+    ensures { λ r. ⌜ verdictAs r ≡ judgeCopy d (now (from .entry)) (now (turns .entry)) ⌝ }
 {
     if d < 1 {
-        return CopyJudgement::Refused(Refusal::Format);
+        return Verdict::Refused(Refusal::Format);
     }
     if DIMENSION < d {
-        return CopyJudgement::Refused(Refusal::Format);
+        return Verdict::Refused(Refusal::Format);
     }
     if from.len() % d != 0 {
-        return CopyJudgement::Refused(Refusal::CutSheet);
+        return Verdict::Refused(Refusal::CutSheet);
     }
     if turns.len() % (d * d) != 0 {
-        return CopyJudgement::Refused(Refusal::CutSheet);
+        return Verdict::Refused(Refusal::CutSheet);
     }
     if !all_in_range(from) {
-        return CopyJudgement::Refused(Refusal::OffTheBoard);
+        return Verdict::Refused(Refusal::OffTheBoard);
     }
     if !all_in_range(turns) {
-        return CopyJudgement::Refused(Refusal::OffTheBoard);
+        return Verdict::Refused(Refusal::OffTheBoard);
     }
     if from.len() == 0 {
-        return CopyJudgement::Refused(Refusal::Blank);
+        return Verdict::Refused(Refusal::Blank);
     }
     if turns.len() == 0 {
-        return CopyJudgement::Refused(Refusal::Blank);
+        return Verdict::Refused(Refusal::Blank);
     }
-    CopyJudgement::Passed
+    Verdict::Accepted
 }

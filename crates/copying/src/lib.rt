@@ -8,6 +8,7 @@ ghost use Rattle.spec.specs.Copying.{copies as copiesOf, points as pointsOf, ma
 use spec::Answer;
 use spec::MAX_COUNT;
 use spec::Refusal;
+use spec::Verdict;
 
 pub mod axes;
 mod joining;
@@ -15,7 +16,6 @@ mod judging;
 mod rows;
 
 use joining::CopyRoom;
-use judging::CopyJudgement;
 
 // Tells how many points of d floats there is room for, but never more than 2,048, since "copies over 2,048" are refused.
 fn room(floats: usize, d: usize) -> usize
@@ -64,7 +64,7 @@ pub fn copy(
         ≡ copyCall dimension (now (points .entry)) (now (turns .entry)) (now (copies .entry)) (now (table .entry)) ⌝ }
 {
     match judging::judged(dimension, points, turns) {
-        CopyJudgement::Refused(why) => Answer::Refused(why, 0),
-        CopyJudgement::Passed => copied(dimension, points, turns, copies, table),
+        Verdict::Refused(why) => Answer::Refused(why, 0),
+        Verdict::Accepted => copied(dimension, points, turns, copies, table),
     }
 }

@@ -21,8 +21,8 @@ use Rattle.spec.specs.Solid.{solidOf, entries, roomy, bound, diamond, Concrete,
 use Rattle.laws.specs.Passed.{Passed}
 use Rattle.laws.proofs.Accepted.{never, same, every-passed}
 use Rattle.sheet.specs.declared.Header.{Header}
-use Rattle.sheet.specs.declared.Verdict.{Verdict}
-use Rattle.sheet.specs.declared.Verdict.the-variants.{Accepted, Refused}
+use Rattle.spec.specs.declared.Verdict.{Verdict}
+use Rattle.spec.specs.declared.Verdict.the-variants.{Accepted, Refused}
 use Rattle.sheet.specs.Judge.{proper, padded, headerOf}
 use Rattle.sheet.proofs.Laws.{elements-is, entries-is, header-small}
 use Rattle.ranked.specs.declared.Shape.{Shape}

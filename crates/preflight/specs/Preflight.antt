@@ -13,8 +13,8 @@ use Rattle.spec.specs.Types.{Solid}
 use Rattle.spec.specs.Judged.{Judged, refused, passed}
 use Rattle.spec.specs.Sheet.{Parsed}
 use Rattle.spec.specs.Solid.{solidOf, bound, diamond, Concrete, preflight}
-use Rattle.sheet.specs.declared.Verdict.{Verdict}
-use Rattle.sheet.specs.declared.Verdict.the-variants.{Accepted, Refused}
+use Rattle.spec.specs.declared.Verdict.{Verdict}
+use Rattle.spec.specs.declared.Verdict.the-variants.{Accepted, Refused}
 use Rattle.ranked.specs.declared.Shape.{Shape}
 use Rattle.preflight.specs.declared.Ready.{Ready}
 use Rattle.preflight.specs.Store.{shapeOf, StoredSheet}

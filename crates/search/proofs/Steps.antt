@@ -28,7 +28,7 @@ use Rattle.laws.proofs.Shapes.{Holds}
 use Rattle.laws.proofs.Marked.{both}
 use Rattle.matrix.specs.Reading.{ifRegular}
 use Rattle.points.proofs.Parts.{parts-take}
-use Rattle.sheet.specs.declared.Verdict.the-variants as verdict
+use Rattle.spec.specs.declared.Verdict.the-variants as verdict
 use Rattle.ranked.specs.declared.Shape.{Shape}
 use Rattle.preflight.specs.declared.Ready.{Ready}
 use Rattle.ranked.specs.Words.{sizeAt, listsOf, absIn}

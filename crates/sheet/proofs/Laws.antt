@@ -18,7 +18,7 @@ use Rattle.spec.specs.Sheet.{Parsed, done, times, count, coordinate, list, list
 use Rattle.spec.specs.Types.{Solid, top, size, properRanks, elements}
 use Rattle.spec.specs.Solid.{properLists, withTop, solidOf, entries}
 use Rattle.sheet.specs.declared.Header.{Header}
-use Rattle.sheet.specs.declared.Verdict.the-variants as verdict
+use Rattle.spec.specs.declared.Verdict.the-variants as verdict
 use Rattle.sheet.specs.declared.Judgement.{Judgement}
 use Rattle.sheet.specs.Judge.{proper, padded, rankEntries, allEntries, headerOf, judgementOf}
 use Rattle.sheet.proofs.Readers.{rank-size}

@@ -24,7 +24,7 @@ use Rattle.sheet.specs.declared.Place.the-variants as place
 use Rattle.sheet.specs.declared.CountsRead.{CountsRead}
 use Rattle.sheet.specs.declared.ListsRead.{ListsRead}
 use Rattle.sheet.specs.declared.ListsRead.the-variants as listed
-use Rattle.sheet.specs.declared.Verdict.the-variants as verdict
+use Rattle.spec.specs.declared.Verdict.the-variants as verdict
 use Rattle.sheet.specs.declared.Judgement.{Judgement}
 use Rattle.sheet.specs.Judge.{proper, padded, allEntries, headerOf, judgementOf}
 use Rattle.sheet.specs.Reading.{placeOf, countedOf, listedOf, bodyAt, restAt, judgementAt}

@@ -9,7 +9,7 @@ use Rattle.spec.specs.Lists.{sum}
 use Rattle.spec.specs.Judged.{Judged, refused, passed}
 use Rattle.spec.specs.Sheet.{Parsed}
 use Rattle.sheet.specs.declared.Header.{Header}
-use Rattle.sheet.specs.declared.Verdict.the-variants as verdict
+use Rattle.spec.specs.declared.Verdict.the-variants as verdict
 use Rattle.sheet.specs.declared.Judgement.{Judgement}
 
 -- Counts the proper ranks of a sheet of the greatest R.

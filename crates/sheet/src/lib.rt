@@ -16,6 +16,7 @@ use spec::MAX_DIMENSION;
 use spec::MAX_ENTRIES;
 use spec::MAX_RANK;
 use spec::Refusal;
+use spec::Verdict;
 
 // This is the greatest number of proper ranks that a solid can have.
 pub const PROPER: usize = MAX_RANK - 1;
@@ -28,11 +29,6 @@ pub struct Header {
     pub counts: [usize; PROPER],
     pub elements: usize,
     pub entries: usize,
-}
-
-pub enum Verdict {
-    Accepted,
-    Refused(Refusal),
 }
 
 // The header is all zeros where the sheet is refused.

@@ -31,6 +31,12 @@ pub enum Refusal {
     Unsettled,
 }
 
+// A judgement accepts what it judges, or it refuses it.
+pub enum Verdict {
+    Accepted,
+    Refused(Refusal),
+}
+
 // Either the call is done, and the number says how many types, members or copies there are; or it is refused, and the number says how many
 // members or points were kept.
 pub enum Answer {

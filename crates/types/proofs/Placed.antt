@@ -12,7 +12,7 @@ use Rattle.spec.specs.declared.Answer.the-variants.{Refused}
 use Rattle.spec.specs.Judged.{Judged, refused, passed}
 use Rattle.spec.specs.Solid.{Concrete, preflight}
 use Rattle.spec.specs.Calls.{TypesOut, typesCall}
-use Rattle.sheet.specs.declared.Verdict.the-variants as verdict
+use Rattle.spec.specs.declared.Verdict.the-variants as verdict
 use Rattle.ranked.specs.declared.Shape.{Shape}
 use Rattle.preflight.specs.declared.Ready.{Ready}
 use Rattle.ranked.specs.Words.{listsOf, absIn}

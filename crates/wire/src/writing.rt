@@ -6,7 +6,7 @@ ghost use Prim.Native.Nat.{_+_, _*_, _≤_};
 ghost use lib.ListN.{length};
 use crate::Run;
 use float::bits;
-use sheet::Verdict;
+use spec::Verdict;
 
 const STANDARD_OUTPUT: i32 = 1;
 
