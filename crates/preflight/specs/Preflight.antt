@@ -8,7 +8,7 @@ use lib.ListN.{length, replicate}
 use lib.Ieee.{Float}
 use Rattle.spec.specs.declared.Refusal.{Refusal}
 use Rattle.spec.specs.declared.Refusal.the-variants.{Loose, Mitre}
-use Rattle.spec.specs.Limits.{maxRank}
+use Rattle.spec.specs.Limits.{maxStarts}
 use Rattle.spec.specs.Types.{Solid}
 use Rattle.spec.specs.Judged.{Judged, refused, passed}
 use Rattle.spec.specs.Sheet.{Parsed}
@@ -28,7 +28,7 @@ verdictOf (passed c) = Accepted
 
 -- Gives the answer of a refusal: no solid lies in the workspace, and the shape is of zeros.
 abbrev pub unreadyOf : Refusal → Ready
-unreadyOf why = record { verdict = Refused why; shape = record { rank = 0; dimension = 0; first = replicate (maxRank + 2) 0; low = 0 } }
+unreadyOf why = record { verdict = Refused why; shape = record { rank = 0; dimension = 0; first = replicate (maxStarts) 0; low = 0 } }
 
 -- Gives the whole answer, which for a solid that passes has its shape and how many words it takes.
 unfoldable pub readyOf : Judged Concrete → Ready

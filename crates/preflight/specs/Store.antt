@@ -7,7 +7,7 @@ use mathlib.Core.List.{List, [], _∷_, _++_, map}
 use lib.ListN.{length, getD, take, replicate}
 use lib.Dec.{leb, ltb}
 use lib.Ieee.{Float, binary64, ofBits}
-use Rattle.spec.specs.Limits.{maxRank, maxElements}
+use Rattle.spec.specs.Limits.{maxRank, maxStarts, maxElements}
 use Rattle.spec.specs.Lists.{join, range}
 use Rattle.spec.specs.Bits.{field}
 use Rattle.spec.specs.Types.{Solid, top, size}
@@ -116,7 +116,7 @@ pointsBit R = 6 + 12 * (R - 1)
 pub record ShapeCounted (R D : ℕ) (counts : List ℕ) (sh : Shape) : Type 0 where
   pub rank : sh .rank ≡ R
   pub dimension : sh .dimension ≡ D
-  pub ranks : length (sh .first) ≡ maxRank + 2
+  pub ranks : length (sh .first) ≡ maxStarts
   pub firsts : (r : ℕ) → r ≤ suc R → firstAt sh r ≡ running 0 (sizeIn R counts) r
   pub rest : (r : ℕ) → suc R < r → firstAt sh r ≡ 0
 
@@ -143,7 +143,7 @@ sized sh I = record { rank = sh .rank; dimension = sh .dimension; first = sh .fi
 -- Gives the shape of a solid.
 unfoldable pub shapeOf : Concrete → Shape
 shapeOf c =
-    let first = map (startIn (c .abs)) (range 0 (maxRank + 2)) in
+    let first = map (startIn (c .abs)) (range 0 (maxStarts)) in
     sized (record { rank = top (c .abs); dimension = c .dimension; first = first; low = 0 }) (entries (c .abs))
 
 -- ---- a whole sheet

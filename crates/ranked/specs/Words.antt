@@ -5,7 +5,7 @@ use mathlib.Core.Path.{_≡_}
 use Prim.Native.Nat.{ℕ, suc, _+_, _-_, _*_, _≤_, _<_}
 use mathlib.Core.List.{List, map}
 use lib.ListN.{length, getD, take, drop}
-use Rattle.spec.specs.Limits.{maxRank, maxDimension, maxCount}
+use Rattle.spec.specs.Limits.{maxRank, maxDimension, maxCount, maxStarts}
 use Rattle.spec.specs.Lists.{range}
 use Rattle.spec.specs.Types.{Solid, size, subs, sups}
 use Rattle.spec.specs.Demand.{Sound}
@@ -48,7 +48,7 @@ Inside w i = getD w i 0 + getD w (suc i) 0 ≤ length w
 pub record Held (sh : Shape) (w : List ℕ) : Type 0 where
   pub tall : sh .rank ≤ maxRank
   pub wide : sh .dimension ≤ maxDimension
-  pub ranks : length (sh .first) ≡ maxRank + 2
+  pub ranks : length (sh .first) ≡ maxStarts
   -- No rank is empty, and none has more elements than the limit.
   pub start : firstAt sh 0 ≡ 0
   pub some : (r : ℕ) → r ≤ sh .rank → firstAt sh r < firstAt sh (suc r)

@@ -6,7 +6,7 @@ use spec::MAX_RANK;
 ghost use mathlib.Core.Path.{_≡_};
 ghost use Prim.Native.Nat.{suc, _+_, _*_, _^_, _≤_, _<_};
 ghost use lib.ListN.{length};
-ghost use Rattle.spec.specs.Limits.{maxRank};
+ghost use Rattle.spec.specs.Limits.{maxRank, maxStarts};
 ghost use Rattle.ranked.specs.Words.{firstAt, sizeAt, total, listsOf};
 ghost use Rattle.ranked.specs.Layout.{proper, before, coordinates, classesAt, classAt, supEntriesAt, typesAt, scratchAt, fingerprintsAt};
 
@@ -34,6 +34,14 @@ impl Shape {
         ensures { λ n. ⌜ n ≡ firstAt self r ⌝ }
     {
         self.first[r]
+    }
+
+    // Returns the number over all ranks of element e of rank r.
+    pub fn number(self, r: usize, e: usize) -> usize
+        requires { ⌜ (r < maxStarts) × (firstAt self r + e < 2 ^ 64) ⌝ }
+        ensures { λ g. ⌜ g ≡ firstAt self r + e ⌝ }
+    {
+        self.first[r] + e
     }
 
     // Counts the elements of all ranks, the least and the top among them.

@@ -19,6 +19,10 @@ maxCount = 2048
 abbrev pub maxEntries : ℕ
 maxEntries = 8192
 
+-- This many ranks have a start: those from 0 to the greatest R, and the one above, at which the top rank ends.
+abbrev pub maxStarts : ℕ
+maxStarts = maxRank + 2
+
 -- A solid can have this many elements: as many as are allowed in each proper rank, the least and the top.
 abbrev pub maxElements : ℕ
 maxElements = (maxRank - 1) * maxCount + 2
