@@ -16,6 +16,7 @@ use ranked::Shape;
 use ranked::lists::count_at;
 use ranked::lists::entry_at;
 use ranked::lists::holds_at;
+use ranked::lists::list_of;
 use ranked::lists::sub;
 use spec::MAX_RANK;
 
@@ -55,7 +56,7 @@ fn first_sub(lists: &[u32], sh: Shape, r: usize, e: usize) -> usize
     sub(lists, sh, r, e, 0)
 }
 
-// Returns the first entry y of the list at a word, other than e, that has x in its list at word base + 4 * y.
+// Returns the first entry of the list at a word, other than e, that has x in its own list; `base` is the word of the first such list of its rank.
 fn other_at(lists: &[u32], word: usize, base: usize, x: usize, e: usize) -> Other
     requires { ⌜ Lies (now lists) word ⌝ }
     requires { ⌜ Each (now lists) word base ⌝ }
@@ -67,7 +68,7 @@ fn other_at(lists: &[u32], word: usize, base: usize, x: usize, e: usize) -> Othe
         let y = entry_at(lists, word, k);
         k += 1;
         if y != e {
-            if holds_at(lists, base + 4 * y, x) {
+            if holds_at(lists, list_of(base, y), x) {
                 return Other::Element(y);
             }
         }
