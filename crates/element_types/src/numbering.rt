@@ -1,6 +1,7 @@
 // "numbers go from 0 in each rank by first appearance": this file numbers the elements of a rank by their keys.
 use crate::compare::find_key;
 use crate::sorting::write_key;
+use ranked::lists::list_of;
 ghost use mathlib.Core.Path.{_≡_};
 ghost use Prim.Native.Nat.{_+_, _<_};
 ghost use Rattle.element_types.specs.Numbers.{Open, numberOf, noted, Numberable, NumbersWritten};
@@ -32,7 +33,8 @@ pub fn number_rank(words: &mut [u32], lists: usize, n: usize, base: usize, from:
     let mut m: usize = 0;
     let mut e: usize = 0;
     while e < n {
-        let k = write_key(words, lists + 4 * e, base, from + e, q);
+        let list = list_of(lists, e);
+        let k = write_key(words, list, base, from + e, q);
         let p = number_one(words, out + e, reps, m, q);
         e += 1;
         if p == m {
