@@ -12,11 +12,9 @@ ghost use Rattle.points.specs.Finding.{foundAt};
 use float::DIMENSION;
 use float::tolerance;
 use float::vector;
+use spec::MAX_MAGNITUDE;
 
 pub mod lookup;
-
-// This is the largest magnitude of a coordinate or a matrix entry.
-const LARGEST: f64 = 1048576.0;
 
 // This is what a look for a number finds: that number, or nothing.
 pub enum Found {
@@ -39,11 +37,11 @@ pub fn cell(cells: &[u16], k: usize) -> usize
     wide(cells[k])
 }
 
-// Tells whether a float is finite and not too large. One comparison is enough, because neither a NaN nor an infinity is at most LARGEST.
+// Tells whether a float is finite and not too large. One comparison is enough, because neither a NaN nor an infinity is at most MAX_MAGNITUDE.
 pub fn in_range(x: f64) -> bool
     ensures { λ r. ⌜ r ≡ inRange x ⌝ }
 {
-    tolerance::magnitude(x) <= LARGEST
+    tolerance::magnitude(x) <= MAX_MAGNITUDE
 }
 
 // Returns point v, handed back as the part of the slice that holds it.

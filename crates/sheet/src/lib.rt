@@ -14,6 +14,7 @@ ghost use Rattle.sheet.specs.Reading.{placeOf, countedOf, listedOf, pass
 use spec::MAX_COUNT;
 use spec::MAX_DIMENSION;
 use spec::MAX_ENTRIES;
+use spec::MAX_MAGNITUDE_PATTERN;
 use spec::MAX_RANK;
 use spec::Refusal;
 use spec::Verdict;
@@ -91,7 +92,7 @@ pub fn field(sheet: &[u8], start: usize, width: usize) -> u64
 fn on_board(pattern: u64) -> bool
     ensures { λ r. ⌜ r ≡ inRange (ofBits binary64 pattern) ⌝ }
 {
-    pattern % 0x8000_0000_0000_0000 <= 0x4130_0000_0000_0000
+    pattern % 0x8000_0000_0000_0000 <= MAX_MAGNITUDE_PATTERN
 }
 
 // Returns the result of reading counts where the sheet is refused.

@@ -12,6 +12,11 @@ pub const MAX_COUNT: usize = 2048;
 
 pub const MAX_ENTRIES: usize = 8192;
 
+pub const MAX_MAGNITUDE: f64 = 1048576.0;
+
+// This is the pattern of that magnitude, for a test of patterns that may be those of a NaN.
+pub const MAX_MAGNITUDE_PATTERN: u64 = 0x4130_0000_0000_0000;
+
 // A refusal is named by its word in the table.
 pub enum Refusal {
     CutSheet,
