@@ -2,7 +2,7 @@
 use preflight::store::derive_sups;
 use ranked::Shape;
 ghost use mathlib.Core.Path.{_≡_};
-ghost use Prim.Native.Nat.{_+_, _-_, _*_, _^_, _≤_, _<_};
+ghost use Prim.Native.Nat.{_+_, _-_, _≤_, _<_};
 ghost use lib.ListN.{length, drop};
 ghost use Rattle.spec.specs.Search.{exchangedIn};
 ghost use Rattle.ranked.specs.Layout.{abstractIn};
@@ -21,13 +21,13 @@ fn swap(words: &mut [u32], i: usize, j: usize)
     words[j] = x;
 }
 
-// Lets the lists of subs of elements g and h change places: the words that say where each starts and how long it is.
-fn swap_lists(words: &mut [u32], g: usize, h: usize)
-    requires { ⌜ (4 * g + 1 < length (now words)) × (4 * h + 1 < length (now words)) × (g < 2 ^ 32) × (h < 2 ^ 32) ⌝ }
-    ensures { λ _. ⌜ now (words .exit) ≡ swappedLists (now (words .entry)) g h ⌝ }
+// Lets the lists at words i and j change places: the words that say where each starts and how long it is.
+fn swap_lists(words: &mut [u32], i: usize, j: usize)
+    requires { ⌜ (i + 1 < length (now words)) × (j + 1 < length (now words)) ⌝ }
+    ensures { λ _. ⌜ now (words .exit) ≡ swappedLists (now (words .entry)) i j ⌝ }
 {
-    swap(words, 4 * g, 4 * h);
-    swap(words, 4 * g + 1, 4 * h + 1);
+    swap(words, i, j);
+    swap(words, i + 1, j + 1);
 }
 
 // Lets facet f change places with facet 0, and derives the sups anew. There are as many as before, so the solid takes the same words. Where f is 0,
@@ -42,7 +42,8 @@ pub fn exchange(words: &mut [u32], sh: Shape, f: usize)
     if f == 0 {
         return;
     }
-    let first = sh.start(sh.rank - 1);
-    swap_lists(words, first, first + f);
+    let i = sh.subs(sh.rank - 1, 0);
+    let j = sh.subs(sh.rank - 1, f);
+    swap_lists(words, i, j);
     derive_sups(words, sh, sh.sup_entries());
 }

@@ -75,7 +75,7 @@ module _ (sh : Shape) (w : List ℕ) (st : Stored sh w) (d : diamond (absIn sh w
   g = firstAt sh (sh .rank - 1)
 
   abbrev w′ : List ℕ
-  w′ = swappedLists w g (g + f)
+  w′ = swappedLists w (4 * g) (4 * (g + f))
 
   facets-end : suc (sh .rank - 1) ≡ sh .rank
   facets-end = omega arith
@@ -254,17 +254,27 @@ module _ (sh : Shape) (ws : List ℕ) (l : Laid sh ws) (f : ℕ) (asked : (2 ≤
   pub entries-small : supEntriesAt sh < 2 ^ 32
   entries-small = omega (arith, entries-at, base-in b, low-small b)
 
-  module _ (a : ℕ) (ea : a ≡ firstAt sh (sh .rank - 1)) where
-    facet-low : a + f < total sh
-    facet-low = rw ea (facet-in sh v (b .stored) diamonds (asked .0) f (asked .1) f (asked .1))
+  abbrev a : ℕ
+  a = firstAt sh (sh .rank - 1)
 
-    pub facet-fits : a + f < 2 ^ 32
-    facet-fits = omega (arith, facet-low, b .stored .small)
+  facet-low : a + f < total sh
+  facet-low = facet-in sh v (b .stored) diamonds (asked .0) f (asked .1) f (asked .1)
 
-    pub lists-fit : (4 * a + 1 < length ws) × (4 * (a + f) + 1 < length ws) × (a < 2 ^ 32) × (a + f < 2 ^ 32)
-    lists-fit = (omega (arith, facet-low, heads-fit, base-fits), omega (arith, facet-low, heads-fit, base-fits), omega (arith, facet-fits), facet-fits)
+  pub facet-fits : a + f < 2 ^ 32
+  facet-fits = omega (arith, facet-low, b .stored .small)
 
-    module _ (ws₁ : List ℕ) (e₁ : ws₁ ≡ swappedLists ws a (a + f)) (x : ℕ) (ex : x ≡ supEntriesAt sh) where
+  -- The words of facets 0 and f.
+  module _ (i : ℕ) (ei : i ≡ 4 * (a + 0)) (j : ℕ) (ej : j ≡ 4 * (a + f)) where
+    first-is : i ≡ 4 * a
+    first-is = omega (arith, ei)
+
+    pub lists-fit : (i + 1 < length ws) × (j + 1 < length ws)
+    lists-fit = (omega (arith, first-is, facet-low, heads-fit, base-fits), omega (arith, ej, facet-low, heads-fit, base-fits))
+
+    module _ (ws₁ : List ℕ) (swapped₁ : ws₁ ≡ swappedLists ws i j) (x : ℕ) (ex : x ≡ supEntriesAt sh) where
+      e₁ : ws₁ ≡ swappedLists ws (4 * a) (4 * (a + f))
+      e₁ = rw (first-is, ej) at swapped₁
+
       base-is : x ≡ base
       base-is = ex ∙ entries-at
 
@@ -272,8 +282,8 @@ module _ (sh : Shape) (ws : List ℕ) (l : Laid sh ws) (f : ℕ) (asked : (2 ≤
       len₁ = rw e₁ (lists-length ws a (a + f))
 
       -- Below base the exchanged solid stands.
-      low₁ : take base ws₁ ≡ swappedLists v (firstAt sh (sh .rank - 1)) (firstAt sh (sh .rank - 1) + f)
-      low₁ = rw (e₁, ← ea) (lists-take ws a (a + f) base (omega (arith, facet-low, heads-fit)) (omega (arith, facet-low, heads-fit)))
+      low₁ : take base ws₁ ≡ swappedLists v (4 * a) (4 * (a + f))
+      low₁ = rw e₁ (lists-take ws a (a + f) base (omega (arith, facet-low, heads-fit)) (omega (arith, facet-low, heads-fit)))
 
       stored₁ : Stored sh (take base ws₁)
       stored₁ = rw low₁ (stored sh v (b .stored) diamonds (asked .0) f (asked .1))

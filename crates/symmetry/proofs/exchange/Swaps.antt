@@ -54,11 +54,11 @@ module _ (w : List ℕ) (g h : ℕ) where
   abbrev one : List ℕ
   one = swapped w (4 * g) (4 * h)
 
-  pub lists-length : length (swappedLists w g h) ≡ length w
+  pub lists-length : length (swappedLists w (4 * g) (4 * h)) ≡ length w
   unfolding swappedLists
   lists-length = swapped-length one (4 * g + 1) (4 * h + 1) ∙ swapped-length w (4 * g) (4 * h)
 
-  pub stays : (k : ℕ) → k ≢ g → k ≢ h → Came w (swappedLists w g h) k k
+  pub stays : (k : ℕ) → k ≢ g → k ≢ h → Came w (swappedLists w (4 * g) (4 * h)) k k
   unfolding swappedLists
   stays k a b = (
     other one (4 * g + 1) (4 * h + 1) (4 * k) (λ q. omega arith) (λ q. omega arith)
@@ -68,7 +68,7 @@ module _ (w : List ℕ) (g h : ℕ) where
   )
 
   module _ (hg : 4 * g + 1 < length w) (hh : 4 * h + 1 < length w) where
-    pub comes-first : Came w (swappedLists w g h) g h
+    pub comes-first : Came w (swappedLists w (4 * g) (4 * h)) g h
     unfolding swappedLists
     comes-first =
         let n = swapped-length w (4 * g) (4 * h) in (
@@ -76,7 +76,7 @@ module _ (w : List ℕ) (g h : ℕ) where
           first one (4 * g + 1) (4 * h + 1) (omega arith) (omega arith) ∙ other w (4 * g) (4 * h) (4 * h + 1) (λ q. omega arith) (λ q. omega arith),
         )
 
-    pub comes-second : Came w (swappedLists w g h) h g
+    pub comes-second : Came w (swappedLists w (4 * g) (4 * h)) h g
     unfolding swappedLists
     comes-second =
         let n = swapped-length w (4 * g) (4 * h) in (
@@ -85,17 +85,17 @@ module _ (w : List ℕ) (g h : ℕ) where
         )
 
   module _ (n : ℕ) (hg : 4 * g + 1 < n) (hh : 4 * h + 1 < n) where
-    pub lists-drop : drop n (swappedLists w g h) ≡ drop n w
+    pub lists-drop : drop n (swappedLists w (4 * g) (4 * h)) ≡ drop n w
     unfolding swappedLists
     lists-drop = swapped-drop one (4 * g + 1) (4 * h + 1) n hg hh ∙ swapped-drop w (4 * g) (4 * h) n (omega arith) (omega arith)
 
-    pub lists-take : take n (swappedLists w g h) ≡ swappedLists (take n w) g h
+    pub lists-take : take n (swappedLists w (4 * g) (4 * h)) ≡ swappedLists (take n w) (4 * g) (4 * h)
     unfolding swappedLists
     lists-take =
         swapped-take one (4 * g + 1) (4 * h + 1) n hg hh
         ∙ ap (λ (v : List ℕ). swapped v (4 * g + 1) (4 * h + 1)) (swapped-take w (4 * g) (4 * h) n (omega arith) (omega arith))
 
 -- One swap comes after the other.
-pub lists-are : (w w₁ w₂ : List ℕ) (g h : ℕ) → w₁ ≡ swapped w (4 * g) (4 * h) → w₂ ≡ swapped w₁ (4 * g + 1) (4 * h + 1) → w₂ ≡ swappedLists w g h
+pub lists-are : (w w₁ w₂ : List ℕ) (i j : ℕ) → w₁ ≡ swapped w i j → w₂ ≡ swapped w₁ (i + 1) (j + 1) → w₂ ≡ swappedLists w i j
 unfolding swappedLists
-lists-are w w₁ w₂ g h e₁ e₂ = rw (← e₁) e₂
+lists-are w w₁ w₂ i j e₁ e₂ = rw (← e₁) e₂

@@ -16,23 +16,27 @@ exchange-spec = tie.close (tie.spec
     (λ c. let s = c .before .before in
     let d = absIn (s .args .sh) (listsOf (s .args .sh) (s .args .words .now)) in
     (sym (ap (λ (f : ℕ). exchangedIn d f) (c .if1 .taken) ∙ exchange-none d), (s .pre .0, refl)))
-    -- The needs are sub-start and start-requires.
+    -- The needs are sub-subs and subs-requires.
     (λ c. search needs)
-    (λ c κs. let s = c .before .before .before in omega (arith, tall _ (s .args .words .now) (s .pre .0) _ (s .pre .1)))
-    -- The needs are add-swap-lists and swap-lists-requires.
-    (λ c. let o = c .before in
-    let s = o .before .before .before .before in
-    omega (arith, facet-fits _ (s .args .words .now) (s .pre .0) _ (s .pre .1) _ (o .start .ensures)))
-    (λ c κs. let o = c .before in
-    let s = o .before .before .before .before in
-    lists-fit _ (s .args .words .now) (s .pre .0) _ (s .pre .1) _ (o .start .ensures))
+    (λ c κs. let s = c .before .before .before in
+    (omega (arith, tall _ (s .args .words .now) (s .pre .0) _ (s .pre .1)), omega (arith, facet-fits _ (s .args .words .now) (s .pre .0) _ (s .pre .1))))
+    -- The needs are sub-subs-2 and subs-requires-2.
+    (λ c. search needs)
+    (λ c κs. let s = c .before .before .before .before .before in
+    (omega (arith, tall _ (s .args .words .now) (s .pre .0) _ (s .pre .1)), omega (arith, facet-fits _ (s .args .words .now) (s .pre .0) _ (s .pre .1))))
+    -- The need is swap-lists-requires.
+    (λ c κs. let j = c .before in
+    let i = j .before .before in
+    let s = i .before .before .before .before in
+    lists-fit _ (s .args .words .now) (s .pre .0) _ (s .pre .1) _ (i .subs .ensures) _ (j .subs2 .ensures))
     -- The needs are sup-entries-requires and derive-sups-requires.
-    (λ c κs. let s = c .before .before .before .before .before .before .before .before .before in
+    (λ c κs. let s = c .before .before .before .before .before .before .before .before .before .before .before in
     (tall _ (s .args .words .now) (s .pre .0) _ (s .pre .1), omega (arith, entries-small _ (s .args .words .now) (s .pre .0) _ (s .pre .1))))
     (λ c κs. let x = c .before .before .before .before in
-    let o = x .before .before in
-    let s = o .before .before .before .before in
-    derive-call _ (s .args .words .now) (s .pre .0) _ (s .pre .1) _ (o .start .ensures) _ (x .swap-lists .ensures) _ (c .sup-entries .ensures))
+    let j = x .before .before in
+    let i = j .before .before in
+    let s = i .before .before .before .before in
+    derive-call _ (s .args .words .now) (s .pre .0) _ (s .pre .1) _ (i .subs .ensures) _ (j .subs2 .ensures) _ (x .swap-lists .ensures) _ (c .sup-entries .ensures))
     -- The needs are same-length and returns-2.
     (λ c. search needs)
     (λ c. let y = c .before .before in
@@ -40,11 +44,12 @@ exchange-spec = tie.close (tie.spec
     let k = y .derive-sups .kept .0 in
     let n = y .before in
     let x = n .before .before .before .before in
-    let o = x .before .before in
-    let s = o .before .before .before .before in (
-      solid₂ _ (s .args .words .now) (s .pre .0) _ (s .pre .1) _ (o .start .ensures) _ (x .swap-lists .ensures) _ (n .sup-entries .ensures) _ k (e .0) (e .1 .0) (e .1 .1 .0) (e .1 .1 .1 .0) (e .1 .1 .1 .1),
+    let j = x .before .before in
+    let i = j .before .before in
+    let s = i .before .before .before .before in (
+      solid₂ _ (s .args .words .now) (s .pre .0) _ (s .pre .1) _ (i .subs .ensures) _ (j .subs2 .ensures) _ (x .swap-lists .ensures) _ (n .sup-entries .ensures) _ k (e .0) (e .1 .0) (e .1 .1 .0) (e .1 .1 .1 .0) (e .1 .1 .1 .1),
       (
-        laid₂ _ (s .args .words .now) (s .pre .0) _ (s .pre .1) _ (o .start .ensures) _ (x .swap-lists .ensures) _ (n .sup-entries .ensures) _ k (e .0) (e .1 .0) (e .1 .1 .0) (e .1 .1 .1 .0) (e .1 .1 .1 .1),
-        past₂ _ (s .args .words .now) (s .pre .0) _ (s .pre .1) _ (o .start .ensures) _ (x .swap-lists .ensures) _ (n .sup-entries .ensures) _ k (e .0) (e .1 .0) (e .1 .1 .0) (e .1 .1 .1 .0) (e .1 .1 .1 .1),
+        laid₂ _ (s .args .words .now) (s .pre .0) _ (s .pre .1) _ (i .subs .ensures) _ (j .subs2 .ensures) _ (x .swap-lists .ensures) _ (n .sup-entries .ensures) _ k (e .0) (e .1 .0) (e .1 .1 .0) (e .1 .1 .1 .0) (e .1 .1 .1 .1),
+        past₂ _ (s .args .words .now) (s .pre .0) _ (s .pre .1) _ (i .subs .ensures) _ (j .subs2 .ensures) _ (x .swap-lists .ensures) _ (n .sup-entries .ensures) _ k (e .0) (e .1 .0) (e .1 .1 .0) (e .1 .1 .1 .0) (e .1 .1 .1 .1),
       ),
     )))

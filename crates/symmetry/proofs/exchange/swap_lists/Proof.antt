@@ -6,11 +6,7 @@ use Rattle.symmetry.proofs.exchange.swap_lists.Tie as tie
 
 pub swap-lists-spec : {M : Type 1} → statement M
 swap-lists-spec = tie.close (tie.spec
-    (λ c. search needs)
-    (λ c. search needs)
     (λ c κs. search needs)
-    (λ c. search needs)
-    (λ c. search needs)
     (λ c. search needs)
     (λ c. search needs)
     (λ c κs. search needs)
