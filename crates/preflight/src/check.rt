@@ -4,6 +4,7 @@ use ranked::Shape;
 use ranked::lists::count_at;
 use ranked::lists::entry_at;
 use ranked::lists::holds_at;
+use ranked::lists::list_of;
 use ranked::lists::subs_at;
 use ranked::lists::sups_at;
 ghost use mathlib.Core.Path.{_≡_};
@@ -59,7 +60,7 @@ fn counting(lists: &[u32], i: usize, base: usize, x: usize) -> usize
     while k < n {
         let y = entry_at(lists, i, k);
         k += 1;
-        if holds_at(lists, base + 4 * y, x) {
+        if holds_at(lists, list_of(base, y), x) {
             m += 1;
         }
     }

@@ -42,29 +42,30 @@ counting-spec =
     (λ c. (search needs, search needs, c .count-at .ensures, omega arith))
     (λ c κs. (search needs, search needs))
     (λ c. search needs)
-    -- The needs are mul-holds-at, add-holds-at and holds-at-requires.
-    (λ c. omega (arith, lies c))
-    (λ c. omega (arith, lies c))
-    (λ c κs. lies c)
+    -- The needs are list-of-requires and holds-at-requires.
+    (λ c κs. omega (arith, lies c))
+    (λ c κs. rw (c .list-of .ensures) (lies (c .before)))
     -- The needs are add-m, loop-less and loop-again.
     (λ c. search needs)
     (λ c. search needs)
-    (λ c. let l = c .before .before .before .before in
-    let k = c .before .before .before .loop-test .taken in (
+    (λ c. let o = c .before .before in
+    let l = o .before .before .before in
+    let k = o .before .before .loop-test .taken in (
       search needs,
       search needs,
       l .loop .inv .2,
       met-yes _ _ (l .loop .k) (l .loop .m) (omega (arith, k, l .loop .inv .2)) (l .loop .inv .3)
-          (rw (c .before .before .entry-at .ensures) at (sym (c .before .holds-at .ensures) ∙ c .if1 .taken)),
+          (rw (o .list-of .ensures, o .before .entry-at .ensures) at (sym (c .before .holds-at .ensures) ∙ c .if1 .taken)),
     ))
     -- The needs are loop-less-2, loop-again-2 and returns.
     (λ c. search needs)
-    (λ c. let l = c .before .before .before .before in
-    let k = c .before .before .before .loop-test .taken in (
+    (λ c. let o = c .before .before in
+    let l = o .before .before .before in
+    let k = o .before .before .loop-test .taken in (
       search needs,
       search needs,
       l .loop .inv .2,
       met-no _ _ (l .loop .k) (l .loop .m) (omega (arith, k, l .loop .inv .2)) (l .loop .inv .3)
-          (rw (c .before .before .entry-at .ensures) at (sym (c .before .holds-at .ensures) ∙ c .if1 .left)),
+          (rw (o .list-of .ensures, o .before .entry-at .ensures) at (sym (c .before .holds-at .ensures) ∙ c .if1 .left)),
     ))
     (λ c. let l = c .before .loop in met-end _ _ (l .k) (l .m) (omega (arith, c .loop-test .left, l .inv .2)) (l .inv .3)))
