@@ -22,7 +22,7 @@ fn number_one(words: &mut [u32], cell: usize, reps: usize, m: usize, q: usize) -
     p
 }
 
-// Numbers the n elements of a rank, to the words from `out`. Element e's list is at word lists + 4 * e, its type at word from + e; its neighbours'
+// Numbers the n elements of a rank, to the words from `out`. Element e's list is at word list_of(lists, e), its type at word from + e; its neighbours'
 // types stand from word `base`.
 pub fn number_rank(words: &mut [u32], lists: usize, n: usize, base: usize, from: usize, out: usize)
     requires { ⌜ Numberable (now words) lists n base from out ⌝ }

@@ -55,16 +55,16 @@ fn place(q: [f64; DIMENSION], d: usize) -> usize
     (h % PLACES as u64) as usize
 }
 
-// Writes number k to the first free place of a table, if one of the places that are looked at is free: `tries` of them in a row, from place `at`
+// Writes number k to the first free place of a table, if one of the places that are looked at is free: `tries` of them in a row, from place `from`
 // on and past the last one from the first on. No other place changes.
-pub fn store(table: &mut [u16], at: usize, tries: usize, k: usize)
-    requires { ⌜ (at < length (now table)) × (tries ≤ places) × (k < free) ⌝ }
+pub fn store(table: &mut [u16], from: usize, tries: usize, k: usize)
+    requires { ⌜ (from < length (now table)) × (tries ≤ places) × (k < free) ⌝ }
     ensures { λ _. ⌜ Stored k (now (table .entry)) (now (table .exit)) ⌝ }
 {
     let size = table.len();
     let mut i: usize = 0;
     while i < tries {
-        let p = (at + i) % size;
+        let p = (from + i) % size;
         if table[p] == FREE {
             table[p] = k as u16;
             return;

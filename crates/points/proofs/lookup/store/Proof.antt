@@ -18,8 +18,8 @@ abbrev μ : tie.MeasureT-loop
 μ table₀ at tries k size i₀ table i = tries - i
 
 -- The place that is looked at lies in the table, whose length fits a word.
-inside : (s : tie.Start Inv μ) (i : ℕ) → (s .args .at + i) % length (s .args .table .now) < length (s .args .table .now)
-inside s i = mod-lt (s .args .at + i) (omega (arith, s .pre .0))
+inside : (s : tie.Start Inv μ) (i : ℕ) → (s .args .from + i) % length (s .args .table .now) < length (s .args .table .now)
+inside s i = mod-lt (s .args .from + i) (omega (arith, s .pre .0))
 
 short : (s : tie.Start Inv μ) → length (s .args .table .now) < 0x4000_0000_0000_0000
 short s = omega arith
@@ -42,7 +42,7 @@ store-spec =
     (λ c.
     let s = c .before .before .before .before in
     let l = c .before .before .before .loop in
-    inr ((s .args .at + l .i) % length (s .args .table .now), rw (l .inv .1) refl))
+    inr ((s .args .from + l .i) % length (s .args .table .now), rw (l .inv .1) refl))
     -- The needs are add-i, loop-less, loop-again, same-length-2 and returns-2.
     (λ c. search needs)
     (λ c. search needs)
