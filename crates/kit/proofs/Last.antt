@@ -12,10 +12,11 @@ use Rattle.spec.specs.declared.Refusal.{Refusal}
 use Rattle.spec.specs.declared.Refusal.the-variants.{Blank, ShortSheet}
 use Rattle.spec.specs.declared.Answer.{Answer}
 use Rattle.spec.specs.declared.Answer.the-variants.{Done, Refused}
+use Rattle.spec.specs.declared.Verdict.the-variants.{Accepted}
 use Rattle.spec.specs.Limits.{maxDimension}
 use Rattle.spec.specs.Lists.{In, sum, join, parts}
 use Rattle.spec.specs.Judged.{Judged, refused, passed}
-use Rattle.spec.specs.Sheet.{readSheet}
+use Rattle.spec.specs.Sheet.{Parsed, readSheet}
 use Rattle.spec.specs.Solid.{Concrete}
 use Rattle.spec.specs.Search.{Member}
 use Rattle.spec.specs.Calls.{Room, Outcome, fitting, keptOf, outcome, membersIn, SearchOut, roomOf, searchWritten, searchCall}
@@ -93,12 +94,20 @@ module _ (b : List ℕ) (old new : SearchOut) (a : Answer) (words floats : ℕ) 
   pub refused-last : (why : Refusal) (k : ℕ) → a ≡ Refused why k → refusedLine why ≡ lastLine found
   refused-last why k d = sym (refused-line found why k (sym answered ∙ d))
 
-  module _ (n : ℕ) (q : a ≡ Done n) (d : ℕ) (s : d ≡ (judgementOf (readSheet b)) .header .dimension) where
-    solid : (y : Concrete × List Member) × (members ≡ passed y) × (length (found .members) ≡ n)
-    solid = found-done members lent n (sym answered ∙ q)
+  solid : (n : ℕ) → a ≡ Done n → (y : Concrete × List Member) × (members ≡ passed y) × (length (found .members) ≡ n)
+  solid n q = found-done members lent n (sym answered ∙ q)
 
+  -- A sheet whose search is done was accepted, so its D can be read from its bits.
+  pub accepted : (n : ℕ) → a ≡ Done n → (judgementOf (readSheet b)) .verdict ≡ Accepted
+  unfolding judgementOf
+  accepted n q =
+      let y = solid n q in
+      let p = every-passed b workWords workFloats (y .0 .0) (members-confirm b workWords workFloats .read (y .0) (y .1)) in
+      ap (λ (j : Judged Parsed). (judgementOf j) .verdict) (p .read)
+
+  module _ (n : ℕ) (q : a ≡ Done n) (d : ℕ) (s : d ≡ (judgementOf (readSheet b)) .header .dimension) where
     pub flat : d ≤ maxDimension
-    flat = let h = dimension-is b workWords workFloats (solid .0) (solid .1) in omega (arith, s, h .0, h .1)
+    flat = let h = dimension-is b workWords workFloats (solid n q .0) (solid n q .1) in omega (arith, s, h .0, h .1)
 
     square : (x : Member) → In x (found .members) → Square d (x .matrix)
     unfolding Shaped
@@ -108,14 +117,14 @@ module _ (b : List ℕ) (old new : SearchOut) (a : Answer) (words floats : ℕ) 
         rw (s, ← dimension-is b workWords workFloats (h .0) (h .1) .0) m
 
     pub marks-hold : n ≤ 512
-    marks-hold = omega (arith, found-cells members (members-shaped b workWords workFloats) lent .marks, length-map (found .members) (λ x. x .mark), solid .2)
+    marks-hold = omega (arith, found-cells members (members-shaped b workWords workFloats) lent .marks, length-map (found .members) (λ x. x .mark), solid n q .2)
 
     pub matrices-hold : n * (d * d) ≤ 1024
     matrices-hold =
         let c = found-cells members (members-shaped b workWords workFloats) lent .matrices in
         let j = wide-join (d * d) (map (λ x. join (x .matrix)) (found .members)) (squares-wide d (found .members) square) in
         let l = length-map (found .members) (λ x. join (x .matrix)) in
-        let k : length (map (λ (x : Member). join (x .matrix)) (found .members)) ≡ n = l ∙ solid .2 in
+        let k : length (map (λ (x : Member). join (x .matrix)) (found .members)) ≡ n = l ∙ solid n q .2 in
         subst (λ (i : ℕ). i ≤ 1024) (j ∙ ap (λ (i : ℕ). i * (d * d)) k) c
 
     pub done-last : membersText n (sum (take n (new .marks))) (rotationCount (map (parts d d) (parts n (d * d) (new .matrices)))) ≡ lastLine found
@@ -123,4 +132,4 @@ module _ (b : List ℕ) (old new : SearchOut) (a : Answer) (words floats : ℕ) 
     done-last =
         let m = ap (λ (x : Answer × SearchOut). x .1 .marks) wrote in
         let t = ap (λ (x : Answer × SearchOut). x .1 .matrices) wrote in
-        rw (m, t, ← solid .2) (members-out d (found .members) (old .marks) (old .matrices) square) ∙ sym (done-line found n (sym answered ∙ q))
+        rw (m, t, ← solid n q .2) (members-out d (found .members) (old .marks) (old .matrices) square) ∙ sym (done-line found n (sym answered ∙ q))

@@ -1,12 +1,9 @@
 // Document 01's program `kit` reads a sheet from standard input and prints its types and what the search found, or the refusal. The text grows in one
 // buffer, the types first.
-ghost use mathlib.Core.Path.{_≡_};
 ghost use Prim.Native.Nat.{_+_, _*_, _≤_};
 ghost use lib.ListN.{length, take};
-ghost use Rattle.spec.specs.Sheet.{readSheet};
 ghost use Rattle.spec.specs.Calls.{outcome, membersIn};
 ghost use Rattle.spec.specs.KitText.{typesLines, lastLine, lent, workWords, workFloats, kitText};
-ghost use Rattle.sheet.specs.Judge.{judgementOf};
 ghost use Rattle.text.specs.Puts.{Puts};
 ghost use Rattle.text.specs.Cells.{typesFrom};
 use spec::Answer;
@@ -45,14 +42,6 @@ fn put_types(out: &mut [u8; TEXT], table: &[u16], n: usize) -> usize
     lines::element_types(out, 0, table, n)
 }
 
-// Returns the sheet's dimension D.
-fn dimension(sheet: &[u8]) -> usize
-    ensures { λ r. ⌜ r ≡ (judgementOf (readSheet (now (sheet .entry)))) .header .dimension ⌝ }
-{
-    let judgement = sheet::judge(sheet);
-    judgement.header.dimension
-}
-
 // Writes the last line, behind the types: what the search found, or its refusal.
 fn last_line(sheet: &[u8], out: &mut [u8; TEXT], from: usize) -> usize
     requires { ⌜ from + 91 ≤ 6262 ⌝ }
@@ -73,7 +62,7 @@ fn last_line(sheet: &[u8], out: &mut [u8; TEXT], from: usize) -> usize
     );
     match answer {
         Answer::Done(n) => {
-            let d = dimension(sheet);
+            let d = sheet::dimension(sheet);
             let confirmed = counting::confirmed(&marks, n);
             let rotations = counting::rotations(&matrices, d, n);
             lines::members(out, from, n, confirmed, rotations)

@@ -10,6 +10,7 @@ use lib.ListN.{length, getD, drop, replicate, length-append, length-replicate}
 use lib.Dec.{lit≤}
 use Rattle.spec.specs.declared.Refusal.{Refusal}
 use Rattle.spec.specs.Limits.{maxRank, maxDimension, maxCount, maxEntries}
+use Rattle.spec.specs.Bits.{field}
 use Rattle.spec.specs.Lists.{In, range, sum}
 use Rattle.spec.specs.Judged.{Judged, refused, passed}
 use Rattle.laws.proofs.Accepted.{never, same, bound-by, times-read, times-each, rank-read, dimension-read, count-read}
@@ -214,3 +215,14 @@ module _ (b : List ℕ) (r : Judgement) (is : r ≡ judgementOf (readSheet b)) w
       go : (o : Judged Parsed) → readSheet b ≡ o → r ≡ judgementOf o → r .verdict ≡ verdict.Refused why → readSheet b ≡ refused why
       go (refused y) q e v = let f : r .verdict ≡ verdict.Refused y = ap (λ (z : Judgement). z .verdict) e in let g : y ≡ why = cc in q ∙ ap refused g
       go (passed p) q e v = absurd (let f : r .verdict ≡ verdict.Accepted = ap (λ (z : Judgement). z .verdict) e in let z : _≡_ {A = ℕ} 0 1 = cc in omega arith)
+
+-- ---- the dimension
+
+-- The three bits behind R of an accepted sheet stand for its D.
+pub dimension-field : (b : List ℕ) → (judgementOf (readSheet b)) .verdict ≡ verdict.Accepted
+    → (6 ≤ 8 * length b) × (field b 3 3 ≡ (judgementOf (readSheet b)) .header .dimension)
+unfolding headerOf
+dimension-field b a =
+    let x = accepted-is b (judgementOf (readSheet b)) refl a in
+    let r = accepted.read-dimension b (x .0) (x .1) in
+    (r .0, sym (r .1) ∙ ap (λ (h : Header). h .dimension) (sym (x .2)))

@@ -4,6 +4,7 @@ ghost use Prim.Native.Nat.{ℕ, _+_, _-_, _*_, _/_, _^_, _≤_, _<_};
 ghost use lib.ListN.{length, getD, take};
 ghost use lib.Dec.{leb};
 ghost use lib.Ieee.{binary64, ofBits};
+ghost use Rattle.spec.specs.declared.Verdict.the-variants.{Accepted};
 ghost use Rattle.spec.specs.Limits.{maxRank, maxDimension, maxCount, maxEntries};
 ghost use Rattle.spec.specs.Float.{inRange};
 ghost use Rattle.spec.specs.Bits as bits;
@@ -377,4 +378,12 @@ pub fn judge(sheet: &[u8]) -> Judgement
         return refused(Refusal::Format);
     }
     rest(sheet, rank, dimension)
+}
+
+// Returns the dimension D of a sheet that `judge` accepts. It stands behind R, so that no more of the sheet is read.
+pub fn dimension(sheet: &[u8]) -> usize
+    requires { ⌜ (judgementOf (form.readSheet (now sheet))) .verdict ≡ Accepted ⌝ }
+    ensures { λ r. ⌜ r ≡ (judgementOf (form.readSheet (now (sheet .entry)))) .header .dimension ⌝ }
+{
+    field(sheet, 3, 3) as usize
 }

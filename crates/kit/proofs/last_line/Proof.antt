@@ -5,7 +5,7 @@ use native.Mathlib.Omega.{arith}
 use borrow.Author.Needs.{needs}
 use Rattle.text.proofs.Growing.{puts-is}
 use Rattle.text.proofs.Pieces.{refused-long, members-long}
-use Rattle.kit.proofs.Last.{flat, marks-hold, matrices-hold, done-last, refused-last}
+use Rattle.kit.proofs.Last.{accepted, flat, marks-hold, matrices-hold, done-last, refused-last}
 use Rattle.kit.proofs.last_line.Statement.{statement}
 use Rattle.kit.proofs.last_line.Tie as tie
 
@@ -29,7 +29,7 @@ last-line-spec =
     (λ c κs. search needs)
     -- The needs are enum-known-answer, dimension-requires and slice-aggregate-confirmed.
     (λ c. search needs)
-    (λ c κs. search needs)
+    (λ c κs. let a = c .before in accepted _ _ _ _ _ _ (searched a .search .ensures .0) refl refl refl refl refl _ (a .answer .given .1))
     (λ c. search needs)
     -- The need is confirmed-requires.
     (λ c κs. let d = c .before in
