@@ -10,7 +10,8 @@ use lib.Seq.{take-at, drop-drop, length-take-le, drop-append-add}
 use borrow.Rule.Slice.PartMut.{midOf, putMid}
 use Rattle.spec.specs.Lists.{join, written}
 use Rattle.spec.specs.Matrix.{Vector, Matrix}
-use Rattle.spec.specs.Copying.{copyRow, copyTable}
+use Rattle.spec.specs.Points.{rowOf}
+use Rattle.spec.specs.Copying.{copyTable}
 use Rattle.laws.proofs.Lists.{getD-map}
 use Rattle.laws.proofs.CopyLaws.{Wide, wide-join}
 use Rattle.points.specs.Cells.{Closed, Opened}
@@ -34,20 +35,20 @@ join-at n (l ∷ ls) (suc j) w h =
     let e : suc j * n ≡ length l + j * n = suc-mul j n ∙ add-comm (j * n) n ∙ ap (λ (k : ℕ). k + j * n) (sym (w .0)) in
     rw (e, drop-append-add l (join ls) (j * n)) (join-at n ls j (w .1) (omega arith))
 
-rows-wide : (cs : List Vector) (ms : List Matrix) → Wide (length cs) (map (copyRow cs) ms)
+rows-wide : (cs : List Vector) (ms : List Matrix) → Wide (length cs) (map (rowOf cs) ms)
 rows-wide cs [] = tt
 rows-wide cs (m ∷ ms) = (length-row cs m, rows-wide cs ms)
 
 module _ (cs : List Vector) where
-  pub row-piece : (ms : List Matrix) (n j : ℕ) → length cs ≡ n → j < length ms → Piece (copyTable ms cs) (j * n) n (copyRow cs (getD ms j []))
+  pub row-piece : (ms : List Matrix) (n j : ℕ) → length cs ≡ n → j < length ms → Piece (copyTable ms cs) (j * n) n (rowOf cs (getD ms j []))
   unfolding copyTable
   row-piece ms n j e h =
-      let rows = map (copyRow cs) ms in
-      let l : length rows ≡ length ms = length-map ms (copyRow cs) in
+      let rows = map (rowOf cs) ms in
+      let l : length rows ≡ length ms = length-map ms (rowOf cs) in
       let w : Wide n rows = rw e at (rows-wide cs ms) in
       record {
         fits = omega (arith, part-end (length ms) n j h, wide-join n rows w, ap (λ (k : ℕ). k * n) l);
-        is = sym (join-at n rows j w (omega (arith, l)) ∙ getD-map (copyRow cs) [] [] ms j h);
+        is = sym (join-at n rows j w (omega (arith, l)) ∙ getD-map (rowOf cs) [] [] ms j h);
       }
 
 -- ---- a row, back from a call on the part from cell k to the end

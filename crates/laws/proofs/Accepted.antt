@@ -2,7 +2,7 @@
 -- Assumes nothing.
 use mathlib.Core.Path.{_≡_, refl, sym, _∙_, ap, subst}
 use mathlib.Core.Logic.{_⊎_, inl, inr}
-use Prim.Native.Nat.{ℕ, zero, suc, _+_, _-_, _≤_, _<_}
+use Prim.Native.Nat.{ℕ, zero, suc, _+_, _-_, _*_, _≤_, _<_}
 use mathlib.Core.Bool.{Bool, true, false, _&&_}
 use mathlib.Core.List.{List, [], _∷_, _++_}
 use native.Mathlib.Omega.{arith}
@@ -12,7 +12,8 @@ use lib.Dec.{leb, ltb, leb→le, T}
 use lib.Ieee.{Float, binary64, ofBits}
 use Rattle.spec.specs.declared.Refusal.{Refusal}
 use Rattle.spec.specs.Limits.{maxRank, maxDimension, maxCount, maxEntries}
-use Rattle.spec.specs.declared.Refusal.the-variants.{Format, OffTheBoard, BadList, Loose, Mitre, Bench}
+use Rattle.spec.specs.declared.Refusal.the-variants.{CutSheet, Format, OffTheBoard, BadList, Loose, Mitre, Bench}
+use Rattle.spec.specs.Bits.{field}
 use Rattle.spec.specs.Float.{inRange}
 use Rattle.spec.specs.Lists.{In, range}
 use Rattle.spec.specs.Types.{Solid, top, size, subs}
@@ -182,6 +183,31 @@ module _ (b : List ℕ) (i : ℕ) where
       let k = both (ltb 0 (h .0)) (leb (h .0) maxCount) (h .1) in
       rw (h .2) (lt-test 0 (h .0) (k .0), le-test (h .0) maxCount (k .1))
 
+  -- The bits that were read are whole, and the next field starts behind them.
+  bits-read : (w : ℕ) (y : ℕ × ℕ) → bits b w i ≡ passed y → (i + w ≤ 8 * length b) × (y ≡ (field b i w, i + w))
+  unfolding bits
+  bits-read w y e = go (leb (i + w) (8 * length b)) refl e
+    where
+      go : (t : Bool) → leb (i + w) (8 * length b) ≡ t
+          → elim t as (λ z. Judged (ℕ × ℕ)) [ true ↦ passed (field b i w, i + w) | false ↦ refused CutSheet ] ≡ passed y
+          → (i + w ≤ 8 * length b) × (y ≡ (field b i w, i + w))
+      go true q e = (le-test (i + w) (8 * length b) q, sym (same (field b i w, i + w) y e))
+      go false q e = absurd (never CutSheet y e)
+
+  -- A field of w bits that no test refused is what those bits say.
+  field-read : (w : ℕ) (k : Refusal) (t : ℕ → Bool) (y : ℕ × ℕ) → (bits b w >>= λ n. judge k (t n) >> done n) i ≡ passed y
+      → (i + w ≤ 8 * length b) × (y ≡ (field b i w, i + w))
+  unfolding done judge
+  field-read w k t y e =
+      let h₁ = bound-by (bits b w) _ i y e in
+      let h₂ = after (judge k (t (h₁ .0 .0))) _ _ y (h₁ .2) in
+      let r = bits-read w (h₁ .0) (h₁ .1) in
+      (r .0, sym (same (h₁ .0 .0, h₂ .0 .1) y (h₂ .2)) ∙ ap (λ (n : ℕ). (h₁ .0 .0, n)) (stays (t (h₁ .0 .0)) (h₂ .0) (h₂ .1)) ∙ r .1)
+    where
+      stays : (ok : Bool) {j : ℕ} (z : Unit {0} × ℕ) → judge k ok j ≡ passed z → z .1 ≡ j
+      stays true {j} z q = ap (λ (u : Unit {0} × ℕ). u .1) (sym (same (tt, j) z q))
+      stays false z q = absurd (never k z q)
+
   coordinate-read : (y : Float × ℕ) → coordinate b i ≡ passed y → inRange (y .0) ≡ true
   unfolding coordinate
   coordinate-read y e = let h = judged-field b 64 OffTheBoard (λ n. inRange (ofBits binary64 n)) (λ n. ofBits binary64 n) i y e in rw (h .2) (h .1)
@@ -321,6 +347,20 @@ sheet-read b y e =
       pointed = times-read (vertexCount (h₁ .0 .0) (h₃ .0 .0)) (times (h₂ .0 .0) (coordinate b)) (h₃ .0 .1) (h₄ .0) (h₄ .1);
       low = λ c counts q. lists-read b c counts (h₄ .0 .1) (h₅ .0) (subst (λ (l : List ℕ). lists b l (h₄ .0 .1) ≡ passed (h₅ .0)) q (h₅ .1));
     })
+
+-- R and D come first, 3 bits each, so D is what the three bits behind R say.
+sheet-dimension : (b : List ℕ) (y : Parsed × ℕ) → sheet b 0 ≡ passed y → (6 ≤ 8 * length b) × (y .0 .dimension ≡ field b 3 3)
+unfolding sheet done rank dimension
+sheet-dimension b y e =
+    let h₁ = bound-by (rank b) _ 0 y e in
+    let h₂ = bound-by (dimension b) _ _ y (h₁ .2) in
+    let h₃ = bound-by (times (h₁ .0 .0 - 1) (count b)) _ _ y (h₂ .2) in
+    let h₄ = bound-by (times (vertexCount (h₁ .0 .0) (h₃ .0 .0)) (times (h₂ .0 .0) (coordinate b))) _ _ y (h₃ .2) in
+    let h₅ = bound-by (lists b (h₃ .0 .0)) _ _ y (h₄ .2) in
+    let h₆ = after (end b) _ _ y (h₅ .2) in
+    let at : h₁ .0 .1 ≡ 3 = ap (λ (z : ℕ × ℕ). z .1) (field-read b 0 3 Format (λ n. leb n maxRank) (h₁ .0) (h₁ .1) .1) in
+    let r = field-read b (h₁ .0 .1) 3 Format (λ n. leb n maxDimension) (h₂ .0) (h₂ .1) in
+    (rw at at (r .0), ap (λ (z : Parsed × ℕ). z .0 .dimension) (sym (same _ y (h₆ .2))) ∙ ap (λ (z : ℕ × ℕ). z .0) (r .1) ∙ ap (λ (n : ℕ). field b n 3) at)
 
 module _ (p : Parsed) (w : Read p) where
   proper-stack : (counts : List ℕ) → p .counts ≡ counts → Stack 1 (properLists counts (p .lists))
@@ -475,18 +515,26 @@ unfolding Judging.judge
 tested why true y e = refl
 tested why false y e = absurd (never why y e)
 
-whole-sheet : (b : List ℕ) (p : Parsed) → readSheet b ≡ passed p → Read p
+-- What was read is what the reading of the whole sheet gave.
+sheet-of : (b : List ℕ) (p : Parsed) → readSheet b ≡ passed p → (y : Parsed × ℕ) × (sheet b 0 ≡ passed y) × (y .0 ≡ p)
 unfolding readSheet
-whole-sheet b p = go (sheet b 0) refl
+sheet-of b p = go (sheet b 0) refl
   where
-    go : (o : Judged (Parsed × ℕ)) → sheet b 0 ≡ o → elim o as (λ z. Judged Parsed) [ refused why ↦ refused why | passed x ↦ passed (x .0) ] ≡ passed p → Read p
+    go : (o : Judged (Parsed × ℕ)) → sheet b 0 ≡ o → elim o as (λ z. Judged Parsed) [ refused why ↦ refused why | passed x ↦ passed (x .0) ] ≡ passed p
+        → (y : Parsed × ℕ) × (sheet b 0 ≡ passed y) × (y .0 ≡ p)
     go (refused why) q e = absurd (never why p e)
-    go (passed x) q e = rw (← same (x .0) p e) (sheet-read b x q)
+    go (passed x) q e = (x, q, same (x .0) p e)
+
+whole-sheet : (b : List ℕ) (p : Parsed) → readSheet b ≡ passed p → Read p
+whole-sheet b p e = let y = sheet-of b p e in rw (← y .2) (sheet-read b (y .0) (y .1))
 
 -- This is the solid of a sheet that was read, whatever workspaces are lent.
 module _ (b : List ℕ) (p : Parsed) (e : readSheet b ≡ passed p) where
   pub read-rank : top (solidOf p) ≡ p .rank
   read-rank = rank-of p (whole-sheet b p e)
+
+  pub read-dimension : (6 ≤ 8 * length b) × (p .dimension ≡ field b 3 3)
+  read-dimension = let y = sheet-of b p e in rw (← y .2) (sheet-dimension b (y .0) (y .1))
 
   pub read-sound : Sound (solidOf p)
   read-sound = sound-of p (whole-sheet b p e)

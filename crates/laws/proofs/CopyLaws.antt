@@ -13,8 +13,8 @@ use lib.Ieee.{Float}
 use Rattle.spec.specs.Lists.{In, place, holds, join, parts, written}
 use Rattle.spec.specs.Float.{dot}
 use Rattle.spec.specs.Matrix.{Vector, Matrix, mulVec}
-use Rattle.spec.specs.Copying.{spread, copiesFrom, copies, copyRow, copyTable, points, matrices}
-use Rattle.spec.specs.Points.{near, found, find}
+use Rattle.spec.specs.Copying.{spread, copiesFrom, copies, copyTable, points, matrices}
+use Rattle.spec.specs.Points.{near, found, find, rowOf}
 use Rattle.laws.specs.CallLaws.{Closed, NotClosed, EveryFind}
 use Rattle.laws.proofs.Lists.{map-in, in-map}
 use Rattle.laws.proofs.Counts.{holds-in, in-holds}
@@ -139,10 +139,10 @@ unfolding written
 written-length new old h = rw (length-append, length-drop) (omega arith)
 
 pub table-length : (ms : List Matrix) (cs : List Vector) → length (copyTable ms cs) ≡ length ms * length cs
-unfolding copyTable copyRow
-table-length ms cs = wide-join (length cs) (map (copyRow cs) ms) (rows ms) ∙ ap (λ (x : ℕ). x * length cs) (length-map ms (copyRow cs))
+unfolding copyTable rowOf
+table-length ms cs = wide-join (length cs) (map (rowOf cs) ms) (rows ms) ∙ ap (λ (x : ℕ). x * length cs) (length-map ms (rowOf cs))
   where
-    rows : (ms : List Matrix) → Wide (length cs) (map (copyRow cs) ms)
+    rows : (ms : List Matrix) → Wide (length cs) (map (rowOf cs) ms)
     rows [] = tt
     rows (m ∷ ms) = (length-map cs (λ c. find cs (mulVec m c)), rows ms)
 
@@ -162,8 +162,8 @@ kept-fit n d l cs w h =
 module _ (ms : List Matrix) (cs : List Vector) where
   -- An image that is not found has the number of copies for its entry.
   missing-in-table : (m : Matrix) (c : Vector) → In m ms → In c cs → found cs (mulVec m c) ≡ false → In (length cs) (copyTable ms cs)
-  unfolding copyTable copyRow
-  missing-in-table m c hm hc e = join-in (copyRow cs) (length cs) m ms hm (rw (← not-found cs (mulVec m c) e) (map-in (λ x. find cs (mulVec m x)) c cs hc))
+  unfolding copyTable rowOf
+  missing-in-table m c hm hc e = join-in (rowOf cs) (length cs) m ms hm (rw (← not-found cs (mulVec m c) e) (map-in (λ x. find cs (mulVec m x)) c cs hc))
 
   pub closed-table : holds eqb (length cs) (copyTable ms cs) ≡ false → Closed ms cs
   closed-table h m c hm hc = go (found cs (mulVec m c)) refl
@@ -173,9 +173,9 @@ module _ (ms : List Matrix) (cs : List Vector) where
       go false e = absurd (true≢false (sym (holds-in (length cs) (copyTable ms cs) (missing-in-table m c hm hc e)) ∙ h))
 
   pub open-table : holds eqb (length cs) (copyTable ms cs) ≡ true → NotClosed ms cs
-  unfolding copyTable copyRow
+  unfolding copyTable rowOf
   open-table h =
-      let r = in-join (copyRow cs) (length cs) ms (in-holds (length cs) (copyTable ms cs) h) in
+      let r = in-join (rowOf cs) (length cs) ms (in-holds (length cs) (copyTable ms cs) h) in
       let i = in-map (λ x. find cs (mulVec (r .0) x)) (length cs) cs (r .2) in
       (r .0, i .0, r .1, i .1, go (r .0) (i .0) (i .2) (found cs (mulVec (r .0) (i .0))) refl)
     where

@@ -15,13 +15,13 @@ use Rattle.spec.specs.Lists.{In, range, every, noRepeats}
 use Rattle.spec.specs.Types.{Solid, top, size, Classes}
 use Rattle.spec.specs.Mark.{marked}
 use Rattle.spec.specs.Matrix.{Matrix, inverse}
-use Rattle.spec.specs.Points.{near}
+use Rattle.spec.specs.Points.{near, rowOf}
 use Rattle.spec.specs.Judged as Judging
 use Rattle.spec.specs.Judged.{Judged, refused, passed}
 use Rattle.spec.specs.Solid.{Concrete, preflight}
 use Rattle.spec.specs.Flags.{Flag, firstFlag, flags}
 use Rattle.spec.specs.Classes.{classTable, byTable, typesOf}
-use Rattle.spec.specs.Search.{Setting, Member, firstFar, exchanged, flagColumns, candidate, sameTypes, rowOf, examplesGo, markOf, tested, membersOf, isRotation, rotationsOf, full, allFinite, setting, search}
+use Rattle.spec.specs.Search.{Setting, Member, firstFar, exchanged, flagColumns, candidate, sameTypes, examplesGo, markOf, tested, membersOf, isRotation, rotationsOf, full, allFinite, setting, search}
 use Rattle.spec.specs.Calls.{Room, Outcome, haveRoom, fitting, keptOf, outcome, membersIn, rotationsIn}
 use Rattle.laws.proofs.Accepted.{same, bound-to, then-to}
 

@@ -18,13 +18,13 @@ use Rattle.spec.specs.Lists.{In, range, join, every, noRepeats}
 use Rattle.spec.specs.Types.{ElementType, top, size}
 use Rattle.spec.specs.Float.{zeroF, zip, dot}
 use Rattle.spec.specs.Matrix.{Matrix, Vector, row, entry, columns, mulMat, identity, Work, pivotRow, swapRows, clear, column, eliminate, gaussJordan, inverse}
-use Rattle.spec.specs.Points.{near}
+use Rattle.spec.specs.Points.{near, rowOf}
 use Rattle.spec.specs.Judged as Judging
 use Rattle.spec.specs.Judged.{Judged, refused, passed}
 use Rattle.spec.specs.Solid.{Concrete, preflight}
 use Rattle.spec.specs.Flags.{Flag, firstFlag, flags}
 use Rattle.spec.specs.Classes.{pointOf, byTable, typesOf}
-use Rattle.spec.specs.Search.{Setting, Member, firstFar, exchanged, walk, flagColumns, candidate, sameTypes, rowOf, examplesGo, markOf, tested, membersOf, full, allFinite, setting, search}
+use Rattle.spec.specs.Search.{Setting, Member, firstFar, exchanged, walk, flagColumns, candidate, sameTypes, examplesGo, markOf, tested, membersOf, full, allFinite, setting, search}
 use Rattle.spec.specs.Calls.{typeCells, Room, Outcome, haveRoom, fitting, keptOf, outcome, membersIn, rotationsIn}
 use Rattle.laws.proofs.Lists.{length-range, in-map}
 use Rattle.laws.proofs.Listed.{rotation-in, fitting-in}

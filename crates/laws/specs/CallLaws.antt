@@ -23,7 +23,7 @@ use Rattle.spec.specs.Sheet.{Parsed, readSheet}
 use Rattle.spec.specs.Solid.{Concrete, preflight}
 use Rattle.spec.specs.Classes.{typesOf}
 use Rattle.spec.specs.Search.{Member}
-use Rattle.spec.specs.Copying.{copies, copyTable, points, matrices, copyCall}
+use Rattle.spec.specs.Copying.{copies, copyTable, points, matrices, copyCall, noImage}
 use Rattle.spec.specs.Points.{near, found, find}
 use Rattle.spec.specs.Calls.{Given, typeCells, TypesOut, typesCall, haveRoom, membersIn, rotationsIn, SearchOut, roomOf, searchCall, rotationsCall}
 use Rattle.spec.specs.Workspace.{SameLength}
@@ -167,7 +167,7 @@ module _ (d : ℕ) (ms : List Matrix) (cs : List Vector) (outPoints : List Float
     pub points-fit : k * d ≤ length outPoints
     pub table-fit : length ms * k ≤ length outTable
     pub points : newPoints ≡ written (join cs) outPoints
-    pub table : newTable ≡ written (replicate (length ms * k) 65535) outTable
+    pub table : newTable ≡ written (replicate (length ms * k) noImage) outTable
     pub missing : NotClosed ms cs
 
   -- These are the laws of such a call, where o is what it answers and what it leaves in its two outputs.

@@ -13,8 +13,7 @@ use lib.Dec.{eqb, ltb}
 use borrow.Author.Tests.{eq-eqb, ne-eqb, lt-ltb, le-ltb}
 use Rattle.spec.specs.Lists.{holds, every, written}
 use Rattle.spec.specs.Matrix.{Vector, Matrix, mulVec}
-use Rattle.spec.specs.Copying.{copyRow}
-use Rattle.spec.specs.Points.{find, found}
+use Rattle.spec.specs.Points.{find, found, rowOf}
 use Rattle.laws.proofs.Lists.{getD-map}
 use Rattle.laws.proofs.CopyLaws.{found-near, not-found}
 use Rattle.points.specs.Cells.{Closed, Opened, Tabled}
@@ -133,12 +132,12 @@ cell-set l k y h = rw (set-split l k y h, drop-drop 1 k l, add-one)
 -- ---- a row
 
 module _ (cs : List Vector) where
-  pub length-row : (m : Matrix) → length (copyRow cs m) ≡ length cs
-  unfolding copyRow
+  pub length-row : (m : Matrix) → length (rowOf cs m) ≡ length cs
+  unfolding rowOf
   length-row m = length-map cs (λ c. find cs (mulVec m c))
 
-  pub cell-is : (m : Matrix) (k : ℕ) → k < length cs → getD (copyRow cs m) k 0 ≡ find cs (mulVec m (getD cs k []))
-  unfolding copyRow
+  pub cell-is : (m : Matrix) (k : ℕ) → k < length cs → getD (rowOf cs m) k 0 ≡ find cs (mulVec m (getD cs k []))
+  unfolding rowOf
   cell-is m k h = getD-map (λ c. find cs (mulVec m c)) [] 0 cs k h
 
 -- ---- what the answer says of every image
@@ -154,21 +153,21 @@ every-below x (y ∷ l) h = go (ℕ-discrete y x) (every-below x l (λ i k. h (s
     go (no e) r = rw (ne-eqb y x e, lt-ltb y x (omega (arith, h 0 (omega arith))), every, holds) r
 
 module _ (cs : List Vector) (m : Matrix) where
-  below : (i : ℕ) → i < length (copyRow cs m) → getD (copyRow cs m) i 0 ≤ length cs
+  below : (i : ℕ) → i < length (rowOf cs m) → getD (rowOf cs m) i 0 ≤ length cs
   below i h =
       let q = mulVec m (getD cs i []) in
-      let e : getD (copyRow cs m) i 0 ≡ find cs q = cell-is cs m i (omega (arith, length-row cs m)) in
+      let e : getD (rowOf cs m) i 0 ≡ find cs q = cell-is cs m i (omega (arith, length-row cs m)) in
       go q (found cs q) refl e
     where
-      go : (q : Vector) (b : Bool) → found cs q ≡ b → getD (copyRow cs m) i 0 ≡ find cs q → getD (copyRow cs m) i 0 ≤ length cs
+      go : (q : Vector) (b : Bool) → found cs q ≡ b → getD (rowOf cs m) i 0 ≡ find cs q → getD (rowOf cs m) i 0 ≤ length cs
       go q true t e = omega (arith, e, found-near cs q t)
       go q false t e = omega (arith, e, not-found cs q t)
 
-  pub all-found : (n : ℕ) → length cs ≡ n → (before after : List ℕ) (r : Bool) → Tabled n (copyRow cs m) before after r → r ≡ every (λ v. ltb v n) (copyRow cs m)
-  all-found n e before after true t = sym (every-below n (copyRow cs m) (rw e at below) ∙ ap not (t .none))
-  all-found n e before after false t = sym (every-below n (copyRow cs m) (rw e at below) ∙ ap not (t .some))
+  pub all-found : (n : ℕ) → length cs ≡ n → (before after : List ℕ) (r : Bool) → Tabled n (rowOf cs m) before after r → r ≡ every (λ v. ltb v n) (rowOf cs m)
+  all-found n e before after true t = sym (every-below n (rowOf cs m) (rw e at below) ∙ ap not (t .none))
+  all-found n e before after false t = sym (every-below n (rowOf cs m) (rw e at below) ∙ ap not (t .some))
 
   -- The row, in the cells.
-  pub row-read : (n : ℕ) → length cs ≡ n → {before after : List ℕ} → Closed n (copyRow cs m) before after → take n after ≡ copyRow cs m
+  pub row-read : (n : ℕ) → length cs ≡ n → {before after : List ℕ} → Closed n (rowOf cs m) before after → take n after ≡ rowOf cs m
   unfolding written
-  row-read n e t = ap (take n) (t .is) ∙ take-at (copyRow cs m) _ n (length-row cs m ∙ e)
+  row-read n e t = ap (take n) (t .is) ∙ take-at (rowOf cs m) _ n (length-row cs m ∙ e)

@@ -8,8 +8,7 @@ ghost use lib.ListN.{length, take};
 ghost use lib.Ieee.{le};
 ghost use Rattle.spec.specs.Limits.{maxDimension, maxCount};
 ghost use Rattle.spec.specs.Float.{absF};
-ghost use Rattle.spec.specs.Copying.{copyRow};
-ghost use Rattle.spec.specs.Points.{find};
+ghost use Rattle.spec.specs.Points.{find, rowOf};
 ghost use Rattle.spec.specs.Lists.{parts};
 ghost use Rattle.matrix.specs.Reading.{corner};
 ghost use Rattle.points.specs.Finding.{foundAt};
@@ -199,7 +198,7 @@ pub fn row_of(
 ) -> bool
     requires { ⌜ (1 ≤ d) × (d ≤ maxDimension) × (n ≤ maxCount) × (n * d ≤ length (now points)) × (n ≤ length (now row)) ⌝ }
     requires { ⌜ Guesses (parts n d (now points)) (now places) ⌝ }
-    ensures { λ r. ⌜ Tabled n (copyRow (parts n d (now (points .entry))) (corner d m)) (now (row .entry)) (now (row .exit)) r ⌝ }
+    ensures { λ r. ⌜ Tabled n (rowOf (parts n d (now (points .entry))) (corner d m)) (now (row .entry)) (now (row .exit)) r ⌝ }
 {
     let mut k: usize = 0;
     while k < n {

@@ -15,7 +15,8 @@ use Rattle.spec.specs.Matrix.{Matrix}
 use Rattle.spec.specs.Solid.{Concrete}
 use Rattle.spec.specs.Classes.{byTable}
 use Rattle.spec.specs.Flags.{Flag}
-use Rattle.spec.specs.Search.{Member, Setting, candidate, sameTypes, rowOf, examplesGo, markOf, tested, membersOf}
+use Rattle.spec.specs.Points.{rowOf}
+use Rattle.spec.specs.Search.{Member, Setting, candidate, sameTypes, examplesGo, markOf, tested, membersOf}
 use Rattle.spec.specs.Calls.{Room, haveRoom, fitting}
 use Rattle.laws.proofs.Lists.{map-map, map-same, in-map}
 use Rattle.laws.proofs.Listed.{Marked, member-mark, rotation-in, fitting-in}

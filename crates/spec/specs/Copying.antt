@@ -14,7 +14,7 @@ use Rattle.spec.specs.Judged.{Judged, refused, passed, _>>_, judge}
 use Rattle.spec.specs.Lists.{holds, range, join, every, parts, written}
 use Rattle.spec.specs.Float.{zeroF, oneF, inRange, zip}
 use Rattle.spec.specs.Matrix.{Vector, Matrix, mulVec}
-use Rattle.spec.specs.Points.{found, find}
+use Rattle.spec.specs.Points.{found, rowOf}
 
 -- ---- copying
 
@@ -34,13 +34,13 @@ copiesFrom ms (p ∷ ps) cs = elim (found cs p) [ true ↦ copiesFrom ms ps cs |
 unfoldable pub copies : List Matrix → List Vector → List Vector
 copies ms ps = copiesFrom ms ps []
 
--- This is the number of each copy's image under m, or the number of copies where the image isn't among them.
-unfoldable pub copyRow : List Vector → Matrix → List ℕ
-copyRow cs m = map (λ c. find cs (mulVec m c)) cs
-
 -- This is the whole table: "a table row per matrix gives each copy's image". The rows are stored one after another.
 unfoldable pub copyTable : List Matrix → List Vector → List ℕ
-copyTable ms cs = join (map (copyRow cs) ms)
+copyTable ms cs = join (map (rowOf cs) ms)
+
+-- This fills the table where an image isn't among the copies: 14 "sets the table's entries, matrices times copies, to 65,535".
+abbrev pub noImage : ℕ
+noImage = 65535
 
 -- ---- the constant table
 
@@ -87,7 +87,7 @@ copyOut n ms cs outPoints outTable =
     elim (leb (length cs) n && leb cells (length outTable)) [
       | false ↦ (Refused ShortSheet (length kept), written (join kept) outPoints, outTable)
       | true ↦ elim (holds eqb (length cs) table) [
-        | true ↦ (Refused Open (length kept), written (join kept) outPoints, written (replicate cells 65535) outTable)
+        | true ↦ (Refused Open (length kept), written (join kept) outPoints, written (replicate cells noImage) outTable)
         | false ↦ (Done (length cs), written (join kept) outPoints, written table outTable)
       ]
     ]

@@ -23,9 +23,17 @@ maxEntries = 8192
 abbrev pub maxStarts : ℕ
 maxStarts = maxRank + 2
 
--- A solid can have this many elements: as many as are allowed in each proper rank, the least and the top.
+-- A solid can have this many proper elements, which are those of ranks 1 to R - 1.
+abbrev pub maxProper : ℕ
+maxProper = (maxRank - 1) * maxCount
+
+-- A solid can have this many elements: its proper ones, the least and the top.
 abbrev pub maxElements : ℕ
-maxElements = (maxRank - 1) * maxCount + 2
+maxElements = maxProper + 2
+
+-- A solid can have this many stored list entries, which are those of ranks 2 to R - 1.
+abbrev pub maxStored : ℕ
+maxStored = (maxRank - 2) * maxEntries
 
 -- This is the greatest magnitude: "coordinate magnitude at most 1,048,576", which is 2 ^ 20.
 unfoldable pub maxMagnitude : Float

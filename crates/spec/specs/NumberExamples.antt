@@ -14,8 +14,8 @@ use Rattle.spec.specs.Float.{eps, zeroF, oneF, absF, finite, inRange, zi
 use Rattle.spec.specs.Matrix.{Matrix, columns, mulVec, mulMat, unit, identity, scan, pivotRow, swapRows, divided, cleared, clear, column, eliminate, gaussJordan, inverse, timesOn, product, determinant}
 use Rattle.spec.specs.Hull.{joined, nothing, along, project, rest, joins, addAll, hullOf, origin, distance, nearer, smaller, listedFor, listing, classesFrom, classes, classNumbers}
 use Rattle.spec.specs.Hull.{add as addPoint}
-use Rattle.spec.specs.Copying.{spread, copiesFrom, copies, copyRow, copyTable, orders, signed, axisOrder, axisOrders, points, matrices, judgeCopy, copyOut, copyCall}
-use Rattle.spec.specs.Points.{near, found, find}
+use Rattle.spec.specs.Copying.{spread, copiesFrom, copies, copyTable, orders, signed, axisOrder, axisOrders, points, matrices, judgeCopy, copyOut, copyCall}
+use Rattle.spec.specs.Points.{near, found, find, rowOf}
 use Rattle.spec.specs.Judged.{_>>_, judge}
 
 -- This name on an `unfolding` line opens every definition of sections 1, 3 and 7, except the last ones of copying.
@@ -29,7 +29,7 @@ most = 0
 
 -- This name opens those as well.
 unfoldable pub all : ℕ
-unfolding most copyRow copyTable written copyOut
+unfolding most rowOf copyTable written copyOut
 all = 0
 
 -- Floats are given by their bit patterns.

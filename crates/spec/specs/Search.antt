@@ -12,8 +12,8 @@ use Rattle.spec.specs.Lists.{holds, eqList, range, every, noRepeats}
 use Rattle.spec.specs.Types.{Solid, top, size, properRanks, State, Classes, typeOf, elementTypesAt, vertices, vertexSets}
 use Rattle.spec.specs.Mark.{marked}
 use Rattle.spec.specs.Float.{eps, zeroF, finite}
-use Rattle.spec.specs.Matrix.{Matrix, columns, mulVec, mulMat, inverse, determinant}
-use Rattle.spec.specs.Points.{near, find}
+use Rattle.spec.specs.Matrix.{Matrix, columns, mulMat, inverse, determinant}
+use Rattle.spec.specs.Points.{near, rowOf}
 use Rattle.spec.specs.Judged.{Judged, _>>=_, _>>_, judge, passed, wanted}
 use Rattle.spec.specs.Solid.{Concrete}
 use Rattle.spec.specs.Flags.{Flag, elementAt, firstFlag, flags, change}
@@ -73,10 +73,6 @@ unfoldable pub sameTypes : Setting → Flag → Bool
 sameTypes w F =
     let G = firstFlag (w .searched .abs) in
     every (λ r. eqb (typeOf (w .types) r (elementAt F r)) (typeOf (w .types) r (elementAt G r))) (range 0 (length (w .searched .abs)))
-
--- This is the vertex that each vertex's image is "within EPS, EPS included, of .. on every axis (lowest number taken)", or V where there is none.
-unfoldable pub rowOf : List (List Float) → Matrix → List ℕ
-rowOf ps m = map (λ p. find ps (mulVec m p)) ps
 
 unfoldable pub insert : ℕ → List ℕ → List ℕ
 insert x [] = x ∷ []

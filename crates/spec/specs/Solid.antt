@@ -30,9 +30,17 @@ solidOf p = elim (p .rank) [ zero ↦ ([] ∷ []) ∷ [] | suc r ↦ withTop (([
 unfoldable pub entries : Solid → ℕ
 entries s = sum (map (λ r. sum (map length (getD s r []))) (range 2 (top s - 2)))
 
--- Tells whether the workspace is large enough. Refusal 7, "workspace under 16 times (E+I+4) 32-bit words or 8 times (E+8) floats", is the contrary.
+-- These are the words and floats that a solid of E proper elements and I stored entries needs: refusal 7 comes at a "workspace under 16 times (E+I+4)
+-- 32-bit words or 8 times (E+8) floats".
+abbrev pub wordsFor : ℕ → ℕ → ℕ
+wordsFor E I = 16 * (E + I + 4)
+
+abbrev pub floatsFor : ℕ → ℕ
+floatsFor E = 8 * (E + 8)
+
+-- Tells whether the workspace is large enough. Refusal 7 is the contrary.
 unfoldable pub roomy : Solid → ℕ → ℕ → Bool
-roomy s words floats = leb (16 * (elements s + entries s + 4)) words && leb (8 * (elements s + 8)) floats
+roomy s words floats = leb (wordsFor (elements s) (entries s)) words && leb (floatsFor (elements s)) floats
 
 -- Tells whether every proper element below rank R−1 is in a list. Refusal 5, "a proper element below rank R−1 is in no list", is the contrary.
 unfoldable pub bound : Solid → Bool

@@ -12,6 +12,11 @@ pub const MAX_COUNT: usize = 2048;
 
 pub const MAX_ENTRIES: usize = 8192;
 
+// These are the greatest numbers of proper elements and of stored list entries that a solid can have.
+pub const MAX_PROPER: usize = (MAX_RANK - 1) * MAX_COUNT;
+
+pub const MAX_STORED: usize = (MAX_RANK - 2) * MAX_ENTRIES;
+
 pub const MAX_MAGNITUDE: f64 = 1048576.0;
 
 // This is the pattern of that magnitude, for a test of patterns that may be those of a NaN.

@@ -10,8 +10,8 @@ use lib.Ieee.{Float}
 use Rattle.spec.specs.Lists.{every, parts}
 use Rattle.spec.specs.Types.{Solid, size, State}
 use Rattle.spec.specs.Matrix.{Matrix, Vector}
-use Rattle.spec.specs.Copying.{copyRow}
-use Rattle.spec.specs.Search.{rowOf, examplesGo}
+use Rattle.spec.specs.Points.{rowOf}
+use Rattle.spec.specs.Search.{examplesGo}
 use Rattle.ranked.specs.declared.Shape.{Shape}
 use Rattle.ranked.specs.Words.{sizeAt, listsOf, absIn}
 use Rattle.ranked.specs.Layout.{solidIn}
@@ -22,16 +22,15 @@ use Rattle.symmetry.specs.Searching.{Searching, passing}
 use Rattle.symmetry.proofs.Bounds.{vertices-are, points-many, points-read}
 
 module _ {sh : Shape} {ws : List ℕ} {fs : List Float} (h : Searching sh ws fs) (z : State) (m : Matrix) (v : ℕ) (many : v ≡ sizeAt sh 1)
-    (before cells : List ℕ) (r : Bool) (row : Tabled v (copyRow (parts v (sh .dimension) fs) m) before cells r) where
+    (before cells : List ℕ) (r : Bool) (row : Tabled v (rowOf (parts v (sh .dimension) fs) m) before cells r) where
   abbrev s : Solid
   s = absIn sh (listsOf sh ws)
 
   abbrev found : List ℕ
   found = rowOf (solidIn sh ws fs .points) m
 
-  same-row : copyRow (parts v (sh .dimension) fs) m ≡ found
-  unfolding rowOf copyRow
-  same-row = ap (λ (ps : List Vector). copyRow ps m) (sym (points-read sh ws fs v many))
+  same-row : rowOf (parts v (sh .dimension) fs) m ≡ found
+  same-row = ap (λ (ps : List Vector). rowOf ps m) (sym (points-read sh ws fs v many))
 
   passed : r ≡ every (λ u. ltb u (length (solidIn sh ws fs .points))) found
   passed =

@@ -17,7 +17,8 @@ use Rattle.spec.specs.Matrix.{Matrix, mulMat, determinant}
 use Rattle.spec.specs.Solid.{Concrete}
 use Rattle.spec.specs.Flags.{Flag, IsFlag, firstFlag}
 use Rattle.spec.specs.Classes.{classTable, byTable}
-use Rattle.spec.specs.Search.{Member, flagColumns, candidate, sameTypes, rowOf, markOf, tested, isRotation}
+use Rattle.spec.specs.Points.{rowOf}
+use Rattle.spec.specs.Search.{Member, flagColumns, candidate, sameTypes, markOf, tested, isRotation}
 use Rattle.laws.proofs.Lists.{length-table}
 use Rattle.laws.proofs.Marked.{both}
 use Rattle.laws.proofs.FlagList.{every-first}

@@ -10,10 +10,10 @@ use lib.Ieee.{Float}
 use Rattle.spec.specs.Lists.{every, noRepeats}
 use Rattle.spec.specs.Types.{State}
 use Rattle.spec.specs.Matrix.{Matrix}
-use Rattle.spec.specs.Points.{near}
+use Rattle.spec.specs.Points.{near, rowOf}
 use Rattle.spec.specs.Solid.{Concrete}
 use Rattle.spec.specs.Flags.{flags}
-use Rattle.spec.specs.Search.{Setting, rowOf, examplesGo, tested}
+use Rattle.spec.specs.Search.{Setting, examplesGo, tested}
 use Rattle.spec.specs.Calls.{Room}
 use Rattle.matrix.specs.Reading.{corner}
 use Rattle.ranked.specs.declared.Shape.{Shape}

@@ -5,7 +5,7 @@ ghost use Prim.Native.Nat.{_≤_};
 ghost use lib.ListN.{length, take};
 ghost use Rattle.spec.specs.Limits.{maxDimension};
 ghost use Rattle.spec.specs.Flags.{IsFlag, firstFlag};
-ghost use Rattle.spec.specs.Search.{rowOf};
+ghost use Rattle.spec.specs.Points.{rowOf};
 ghost use Rattle.matrix.specs.Reading.{corner};
 ghost use Rattle.points.specs.Guesses.{Guesses};
 ghost use Rattle.ranked.specs.Words.{sizeAt};

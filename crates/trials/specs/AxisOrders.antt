@@ -14,8 +14,8 @@ use Rattle.spec.specs.declared.Answer.the-variants.{Done, Refused}
 use Rattle.spec.specs.Lists.{join, range, place, eqList, every, holds, written, noRepeats}
 use Rattle.spec.specs.Float.{zeroF, oneF, zip, dot}
 use Rattle.spec.specs.Matrix.{Vector, Matrix, columns, mulVec, mulMat}
-use Rattle.spec.specs.Copying.{orders, signed, axisOrder, axisOrders, copyCall, copyRow, copyTable, copyOut}
-use Rattle.spec.specs.Points.{find}
+use Rattle.spec.specs.Copying.{orders, signed, axisOrder, axisOrders, copyCall, copyTable, copyOut}
+use Rattle.spec.specs.Points.{find, rowOf}
 use Rattle.spec.specs.NumberExamples.{most, all}
 
 -- ---- the numbers
@@ -115,8 +115,8 @@ pub images : map (λ m. map (mulVec m) cs) axisOrders ≡ map (map (λ j. getD c
 unfolding mulVec cs axes zip orders range join signed axisOrder axisOrders rowNumbers zeroF oneF neg products place eqList ofBits
 images = ap (λ t. map (λ rs. map (λ k. map (λ a. getD (getD t a []) k zeroF) rs) (range 0 48)) rowNumbers) copy-dots
 
-pub rows : map (copyRow cs) axisOrders ≡ products
-unfolding cs zip orders range join signed axisOrder axisOrders rowNumbers zeroF oneF neg products place eqList ofBits copyRow
+pub rows : map (rowOf cs) axisOrders ≡ products
+unfolding cs zip orders range join signed axisOrder axisOrders rowNumbers zeroF oneF neg products place eqList ofBits rowOf
 rows = ap (map (map (find cs))) images ∙ ap (λ t. map (map (λ j. getD t j 48)) products) self
 
 pub before : copyCall 3 abc (join (join axisOrders)) (replicate 144 zeroF) (replicate 2304 0) ≡ copyOut 48 axisOrders cs (replicate 144 zeroF) (replicate 2304 0)
@@ -128,7 +128,7 @@ abbrev out : List (List ℕ) → Answer × List Float × List ℕ
 out t = elim (holds eqb 48 (join t)) [ true ↦ (Refused Open 48, join cs, replicate 2304 65535) | false ↦ (Done 48, join cs, join t) ]
 
 pub after : copyOut 48 axisOrders cs (replicate 144 zeroF) (replicate 2304 0) ≡ (Done 48, join cs, join products)
-unfolding copyOut copyTable copyRow written cs zip orders range join signed axisOrder axisOrders rowNumbers zeroF oneF neg products place eqList ofBits holds
+unfolding copyOut copyTable rowOf written cs zip orders range join signed axisOrder axisOrders rowNumbers zeroF oneF neg products place eqList ofBits holds
 after = ap out rows
 
 -- This is the case "(1,2,3) 48", which document 01 marks P, with the points and the table written out.

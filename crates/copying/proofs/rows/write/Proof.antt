@@ -9,7 +9,8 @@ use native.Mathlib.Omega.{arith}
 use lib.ListN.{length, getD, length-drop}
 use borrow.Author.Needs.{needs}
 use borrow.Rule.Slice.PartMut.{same-len-mid}
-use Rattle.spec.specs.Copying.{matrices, copyRow, copyTable}
+use Rattle.spec.specs.Points.{rowOf}
+use Rattle.spec.specs.Copying.{matrices, copyTable}
 use Rattle.spec.specs.Lists.{parts}
 use Rattle.laws.proofs.CopyLaws.{table-length}
 use Rattle.matrix.specs.Reading.{corner}
@@ -75,7 +76,7 @@ row-of-requires c κs =
 abbrev line : (c : tie.After-row-of Inv-loop μ-loop) → List ℕ
 line c =
     let a = c .before .before .before .before .before .before .before .before .before .before .args in
-    copyRow (parts (a .n) (a .d) (a .copies .now)) (corner (a .d) (c .before .before .before .matrix-at .result))
+    rowOf (parts (a .n) (a .d) (a .copies .now)) (corner (a .d) (c .before .before .before .matrix-at .result))
 
 line-long : (c : tie.After-row-of Inv-loop μ-loop) → length (line c) ≡ c .before .before .before .before .before .before .before .before .before .before .args .n
 line-long c =

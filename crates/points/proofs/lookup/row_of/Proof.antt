@@ -8,8 +8,7 @@ use lib.ListN.{length, getD, length-set}
 use borrow.Author.Needs.{needs}
 use Rattle.spec.specs.Limits.{maxDimension}
 use Rattle.spec.specs.Matrix.{Vector, mulVec}
-use Rattle.spec.specs.Copying.{copyRow}
-use Rattle.spec.specs.Points.{find}
+use Rattle.spec.specs.Points.{find, rowOf}
 use Rattle.spec.specs.Lists.{parts}
 use Rattle.laws.proofs.CopyLaws.{not-found}
 use Rattle.matrix.specs.Reading.{corner}
@@ -24,7 +23,7 @@ use Rattle.points.proofs.lookup.row_of.Tie as tie
 
 abbrev Inv-loop : tie.InvT-loop
 Inv-loop points d n places m row₀ k₀ row k =
-    (k ≤ n) × (length row ≡ length row₀) × Filled n (copyRow (parts n d points) (corner d m)) row₀ row k
+    (k ≤ n) × (length row ≡ length row₀) × Filled n (rowOf (parts n d points) (corner d m)) row₀ row k
 
 abbrev μ-loop : tie.MeasureT-loop
 μ-loop points d n places m row₀ k₀ row k = n - k
@@ -38,7 +37,7 @@ loaded-requires c κs =
 abbrev whole : (c : tie.After-found Inv-loop μ-loop) → List ℕ
 whole c =
     let a = c .before .before .before .before .before .before .before .args in
-    copyRow (parts (a .n) (a .d) (a .points .now)) (corner (a .d) (a .m))
+    rowOf (parts (a .n) (a .d) (a .points .now)) (corner (a .d) (a .m))
 
 -- The number of point k's image.
 abbrev imageOf : (c : tie.After-found Inv-loop μ-loop) → ℕ

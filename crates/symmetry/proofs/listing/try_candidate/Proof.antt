@@ -14,7 +14,7 @@ use Rattle.spec.specs.Types.{State}
 use Rattle.spec.specs.Matrix.{Matrix, determinant}
 use Rattle.spec.specs.Solid.{Concrete}
 use Rattle.spec.specs.Lists.{written}
-use Rattle.spec.specs.Search.{rowOf}
+use Rattle.spec.specs.Points.{rowOf}
 use Rattle.matrix.specs.Reading.{corner}
 use Rattle.ranked.specs.declared.Shape.{Shape}
 use Rattle.ranked.specs.Words.{sizeAt}
