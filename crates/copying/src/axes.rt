@@ -8,79 +8,105 @@ ghost use Rattle.spec.specs.Lists.{join};
 ghost use Rattle.spec.specs.Copying.{axisOrders};
 ghost use Rattle.matrix.specs.Reading.{corner, paddedRows};
 use float::DIMENSION;
+use float::vector;
 
-// These are the rows that occur: the unit of each axis, as it is and negated, and the fourth row, which no matrix of three dimensions uses.
-const X: [f64; DIMENSION] = [1.0, 0.0, 0.0, 0.0];
+// These are the rows that occur: the unit of each axis, as it is and negated.
+const X: [f64; 3] = [1.0, 0.0, 0.0];
 
-const Y: [f64; DIMENSION] = [0.0, 1.0, 0.0, 0.0];
+const Y: [f64; 3] = [0.0, 1.0, 0.0];
 
-const Z: [f64; DIMENSION] = [0.0, 0.0, 1.0, 0.0];
+const Z: [f64; 3] = [0.0, 0.0, 1.0];
 
-const NX: [f64; DIMENSION] = [-1.0, 0.0, 0.0, 0.0];
+const NX: [f64; 3] = [-1.0, 0.0, 0.0];
 
-const NY: [f64; DIMENSION] = [0.0, -1.0, 0.0, 0.0];
+const NY: [f64; 3] = [0.0, -1.0, 0.0];
 
-const NZ: [f64; DIMENSION] = [0.0, 0.0, -1.0, 0.0];
+const NZ: [f64; 3] = [0.0, 0.0, -1.0];
 
-const O: [f64; DIMENSION] = [0.0, 0.0, 0.0, 0.0];
-
-// These are the entries. Like every matrix they are rows of rows with room for four dimensions, and every cell past the third is 0.
-const AXIS_ORDERS: [[[f64; DIMENSION]; DIMENSION]; 48] = [
-    [X, Y, Z, O],
-    [X, Y, NZ, O],
-    [X, NY, Z, O],
-    [X, NY, NZ, O],
-    [NX, Y, Z, O],
-    [NX, Y, NZ, O],
-    [NX, NY, Z, O],
-    [NX, NY, NZ, O],
-    [X, Z, Y, O],
-    [X, Z, NY, O],
-    [X, NZ, Y, O],
-    [X, NZ, NY, O],
-    [NX, Z, Y, O],
-    [NX, Z, NY, O],
-    [NX, NZ, Y, O],
-    [NX, NZ, NY, O],
-    [Y, X, Z, O],
-    [Y, X, NZ, O],
-    [Y, NX, Z, O],
-    [Y, NX, NZ, O],
-    [NY, X, Z, O],
-    [NY, X, NZ, O],
-    [NY, NX, Z, O],
-    [NY, NX, NZ, O],
-    [Y, Z, X, O],
-    [Y, Z, NX, O],
-    [Y, NZ, X, O],
-    [Y, NZ, NX, O],
-    [NY, Z, X, O],
-    [NY, Z, NX, O],
-    [NY, NZ, X, O],
-    [NY, NZ, NX, O],
-    [Z, X, Y, O],
-    [Z, X, NY, O],
-    [Z, NX, Y, O],
-    [Z, NX, NY, O],
-    [NZ, X, Y, O],
-    [NZ, X, NY, O],
-    [NZ, NX, Y, O],
-    [NZ, NX, NY, O],
-    [Z, Y, X, O],
-    [Z, Y, NX, O],
-    [Z, NY, X, O],
-    [Z, NY, NX, O],
-    [NZ, Y, X, O],
-    [NZ, Y, NX, O],
-    [NZ, NY, X, O],
-    [NZ, NY, NX, O],
+// These are the entries, each with its three rows of three.
+const AXIS_ORDERS: [[[f64; 3]; 3]; 48] = [
+    [X, Y, Z],
+    [X, Y, NZ],
+    [X, NY, Z],
+    [X, NY, NZ],
+    [NX, Y, Z],
+    [NX, Y, NZ],
+    [NX, NY, Z],
+    [NX, NY, NZ],
+    [X, Z, Y],
+    [X, Z, NY],
+    [X, NZ, Y],
+    [X, NZ, NY],
+    [NX, Z, Y],
+    [NX, Z, NY],
+    [NX, NZ, Y],
+    [NX, NZ, NY],
+    [Y, X, Z],
+    [Y, X, NZ],
+    [Y, NX, Z],
+    [Y, NX, NZ],
+    [NY, X, Z],
+    [NY, X, NZ],
+    [NY, NX, Z],
+    [NY, NX, NZ],
+    [Y, Z, X],
+    [Y, Z, NX],
+    [Y, NZ, X],
+    [Y, NZ, NX],
+    [NY, Z, X],
+    [NY, Z, NX],
+    [NY, NZ, X],
+    [NY, NZ, NX],
+    [Z, X, Y],
+    [Z, X, NY],
+    [Z, NX, Y],
+    [Z, NX, NY],
+    [NZ, X, Y],
+    [NZ, X, NY],
+    [NZ, NX, Y],
+    [NZ, NX, NY],
+    [Z, Y, X],
+    [Z, Y, NX],
+    [Z, NY, X],
+    [Z, NY, NX],
+    [NZ, Y, X],
+    [NZ, Y, NX],
+    [NZ, NY, X],
+    [NZ, NY, NX],
 ];
+
+// Returns the entries by themselves. The table is named here alone, because every function that names it is checked against all of its cells.
+fn entries() -> [[[f64; 3]; 3]; 48]
+    ensures { λ r. ⌜ r ≡ axisOrders ⌝ }
+{
+    AXIS_ORDERS
+}
+
+// Returns an entry in the form of every matrix, rows of rows with room for the largest dimension. Every cell past the third holds 0.
+fn widened(m: [[f64; 3]; 3]) -> [[f64; DIMENSION]; DIMENSION]
+    ensures { λ r. ⌜ r ≡ paddedRows m ⌝ }
+{
+    let mut r = [[0.0; DIMENSION]; DIMENSION];
+    let mut i: usize = 0;
+    while i < 3 {
+        r[i] = vector::load(&m[i]);
+        i += 1;
+    }
+    r
+}
 
 // Returns the table, with every cell of its matrices. It is made anew at each call, so a caller makes it once, in a local, and lends that.
 pub fn axis_orders() -> [[[f64; DIMENSION]; DIMENSION]; 48]
     ensures { λ r. ⌜ r ≡ map paddedRows axisOrders ⌝ }
 {
-    AXIS_ORDERS
+    let table = entries();
+    let mut r = [[[0.0; DIMENSION]; DIMENSION]; 48];
+    let mut k: usize = 0;
+    while k < 48 {
+        r[k] = widened(table[k]);
+        k += 1;
+    }
+    r
 }
 
 // Writes the nine floats of a matrix of three dimensions, row by row, to the first cells.
