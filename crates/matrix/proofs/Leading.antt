@@ -46,32 +46,32 @@ row-map n [] p = sym (take-nil n)
 row-map n (x ∷ l) zero = refl
 row-map n (x ∷ l) (suc p) = row-map n l p
 
-module _ (d n : ℕ) (w : Matrix) where
-  pub length-leading : d ≤ length w → length (leading d n w) ≡ d
+module _ (d n : ℕ) (rows : Matrix) where
+  pub length-leading : d ≤ length rows → length (leading d n rows) ≡ d
   unfolding leading
-  length-leading h = length-map (take d w) (take n) ∙ length-take-le d w h
+  length-leading h = length-map (take d rows) (take n) ∙ length-take-le d rows h
 
-  pub row-leading : (p : ℕ) → p < d → row (leading d n w) p ≡ take n (row w p)
+  pub row-leading : (p : ℕ) → p < d → row (leading d n rows) p ≡ take n (row rows p)
   unfolding leading
-  row-leading p h = row-map n (take d w) p ∙ rw (getD-take d w p [] h)
+  row-leading p h = row-map n (take d rows) p ∙ rw (getD-take d rows p [] h)
 
-  pub entry-leading : (p c : ℕ) → p < d → c < n → entry (leading d n w) p c ≡ entry w p c
-  entry-leading p c h k = rw (row-leading p h, getD-take n (row w p) c zeroF k)
+  pub entry-leading : (p c : ℕ) → p < d → c < n → entry (leading d n rows) p c ≡ entry rows p c
+  entry-leading p c h k = rw (row-leading p h, getD-take n (row rows p) c zeroF k)
 
   -- ---- the three steps of a column
 
-  pub swap-leading : (p c : ℕ) → p < d → c < d → leading d n (swapRows w p c) ≡ swapRows (leading d n w) p c
+  pub swap-leading : (p c : ℕ) → p < d → c < d → leading d n (swapRows rows p c) ≡ swapRows (leading d n rows) p c
   unfolding leading swapRows
   swap-leading p c h k =
-      rw (take-set-lt d (set w p (row w c)) c (row w p), take-set-lt d w p (row w c), map-set, map-set)
-      (ap₂ (λ (x y : Vector). set (set (map (take n) (take d w)) p x) c y) (sym (row-leading c k)) (sym (row-leading p h)))
+      rw (take-set-lt d (set rows p (row rows c)) c (row rows p), take-set-lt d rows p (row rows c), map-set, map-set)
+      (ap₂ (λ (x y : Vector). set (set (map (take n) (take d rows)) p x) c y) (sym (row-leading c k)) (sym (row-leading p h)))
 
-  pub clear-leading : (c : ℕ) (pivot : Vector) → d ≤ length w → map (λ r. nextRow c pivot r (take n (row w r))) (range 0 d) ≡ clear c pivot (leading d n w)
+  pub clear-leading : (c : ℕ) (pivot : Vector) → d ≤ length rows → map (λ r. nextRow c pivot r (take n (row rows r))) (range 0 d) ≡ clear c pivot (leading d n rows)
   unfolding clear leading
   clear-leading c pivot h =
-      table-count (λ r v. nextRow c pivot r (take n v)) [] w d h
-      ∙ sym (zip-map (nextRow c pivot) (take n) (range 0 d) (take d w))
-      ∙ ap (λ (k : ℕ). zip (nextRow c pivot) (range 0 k) (map (take n) (take d w))) (sym (length-leading h))
+      table-count (λ r v. nextRow c pivot r (take n v)) [] rows d h
+      ∙ sym (zip-map (nextRow c pivot) (take n) (range 0 d) (take d rows))
+      ∙ ap (λ (k : ℕ). zip (nextRow c pivot) (range 0 k) (map (take n) (take d rows))) (sym (length-leading h))
 
 pub divided-take : (n : ℕ) (v : Vector) (x : Float) → take n (divided v x) ≡ divided (take n v) x
 unfolding divided
@@ -91,9 +91,9 @@ next-take n c pivot r v h = go (eqb r c)
     go false = cleared-take n c pivot v h
 
 -- A whole column takes the swap, the division and the clearing.
-pub column-leading : (d n : ℕ) (w : Matrix) (p c : ℕ) (x : Float) → p < d → c < d →
-    clear c (take n (divided (row (swapRows w p c) c) x)) (leading d n (swapRows w p c))
-    ≡ (let a = swapRows (leading d n w) p c in clear c (divided (row a c) x) a)
-column-leading d n w p c x h k =
-    ap (λ (v : Vector). clear c v (leading d n (swapRows w p c))) (divided-take n _ x ∙ ap (λ (v : Vector). divided v x) (sym (row-leading d n (swapRows w p c) c k)))
-    ∙ ap (λ (a : Matrix). clear c (divided (row a c) x) a) (swap-leading d n w p c h k)
+pub column-leading : (d n : ℕ) (rows : Matrix) (p c : ℕ) (x : Float) → p < d → c < d →
+    clear c (take n (divided (row (swapRows rows p c) c) x)) (leading d n (swapRows rows p c))
+    ≡ (let a = swapRows (leading d n rows) p c in clear c (divided (row a c) x) a)
+column-leading d n rows p c x h k =
+    ap (λ (v : Vector). clear c v (leading d n (swapRows rows p c))) (divided-take n _ x ∙ ap (λ (v : Vector). divided v x) (sym (row-leading d n (swapRows rows p c) c k)))
+    ∙ ap (λ (a : Matrix). clear c (divided (row a c) x) a) (swap-leading d n rows p c h k)

@@ -46,22 +46,22 @@ fn beside_identity(m: [[f64; DIMENSION]; DIMENSION], d: usize) -> [[f64; WIDTH];
 }
 
 // Returns the entry in row r and column c of the half that began as the matrix.
-fn entry(w: [[f64; WIDTH]; DIMENSION], r: usize, c: usize) -> f64
+fn entry(rows: [[f64; WIDTH]; DIMENSION], r: usize, c: usize) -> f64
     requires { ⌜ (r < maxDimension) × (c < maxDimension) ⌝ }
-    ensures { λ x. ⌜ x ≡ entry w r c ⌝ }
+    ensures { λ x. ⌜ x ≡ entry rows r c ⌝ }
 {
-    w[r][c]
+    rows[r][c]
 }
 
 // Returns the row of the largest magnitude in column c, from row c down. A later row is taken only if strictly larger, which a NaN never is.
-fn pivot_row(w: [[f64; WIDTH]; DIMENSION], c: usize, d: usize) -> usize
+fn pivot_row(rows: [[f64; WIDTH]; DIMENSION], c: usize, d: usize) -> usize
     requires { ⌜ (d ≤ maxDimension) × (c < d) ⌝ }
-    ensures { λ r. ⌜ (r ≡ pivotRow (leading d (d + d) w) c) × (r < d) ⌝ }
+    ensures { λ r. ⌜ (r ≡ pivotRow (leading d (d + d) rows) c) × (r < d) ⌝ }
 {
     let mut p = c;
     let mut r = c + 1;
     while r < d {
-        if tolerance::magnitude(entry(w, p, c)) < tolerance::magnitude(entry(w, r, c)) {
+        if tolerance::magnitude(entry(rows, p, c)) < tolerance::magnitude(entry(rows, r, c)) {
             p = r;
         }
         r += 1;
@@ -70,13 +70,13 @@ fn pivot_row(w: [[f64; WIDTH]; DIMENSION], c: usize, d: usize) -> usize
 }
 
 // Returns the working rows with rows p and c in each other's place.
-fn swapped(w: [[f64; WIDTH]; DIMENSION], p: usize, c: usize) -> [[f64; WIDTH]; DIMENSION]
+fn swapped(rows: [[f64; WIDTH]; DIMENSION], p: usize, c: usize) -> [[f64; WIDTH]; DIMENSION]
     requires { ⌜ (p < maxDimension) × (c < maxDimension) ⌝ }
-    ensures { λ r. ⌜ r ≡ swapRows w p c ⌝ }
+    ensures { λ r. ⌜ r ≡ swapRows rows p c ⌝ }
 {
-    let mut r = w;
-    r[p] = w[c];
-    r[c] = w[p];
+    let mut r = rows;
+    r[p] = rows[c];
+    r[c] = rows[p];
     r
 }
 
@@ -120,18 +120,18 @@ fn row_next(v: [f64; WIDTH], pivot: [f64; WIDTH], r: usize, c: usize) -> [f64; W
 
 // Returns the working rows with the divided pivot row at c and every other row cleared by it.
 fn rows_cleared(
-    w: [[f64; WIDTH]; DIMENSION],
+    rows: [[f64; WIDTH]; DIMENSION],
     pivot: [f64; WIDTH],
     c: usize,
     d: usize,
 ) -> [[f64; WIDTH]; DIMENSION]
     requires { ⌜ (d ≤ maxDimension) × (c < d) ⌝ }
-    ensures { λ x. ⌜ leading d (d + d) x ≡ clear c (take (d + d) pivot) (leading d (d + d) w) ⌝ }
+    ensures { λ x. ⌜ leading d (d + d) x ≡ clear c (take (d + d) pivot) (leading d (d + d) rows) ⌝ }
 {
-    let mut x = w;
+    let mut x = rows;
     let mut r: usize = 0;
     while r < d {
-        x[r] = row_next(w[r], pivot, r, c);
+        x[r] = row_next(rows[r], pivot, r, c);
         r += 1;
     }
     x
@@ -139,16 +139,16 @@ fn rows_cleared(
 
 // Makes one column of the elimination, whose pivot x stands in row p: rows p and c are swapped, row c is divided, and the others are cleared.
 fn column(
-    w: [[f64; WIDTH]; DIMENSION],
+    rows: [[f64; WIDTH]; DIMENSION],
     p: usize,
     x: f64,
     c: usize,
     d: usize,
 ) -> [[f64; WIDTH]; DIMENSION]
     requires { ⌜ (d ≤ maxDimension) × (c < d) × (p < d) ⌝ }
-    ensures { λ r. ⌜ leading d (d + d) r ≡ (let a = swapRows (leading d (d + d) w) p c in clear c (divided (row a c) x) a) ⌝ }
+    ensures { λ r. ⌜ leading d (d + d) r ≡ (let a = swapRows (leading d (d + d) rows) p c in clear c (divided (row a c) x) a) ⌝ }
 {
-    let s = swapped(w, p, c);
+    let s = swapped(rows, p, c);
     let pivot = row_divided(s[c], x);
     rows_cleared(s, pivot, c, d)
 }
@@ -168,14 +168,14 @@ fn right_half(v: [f64; WIDTH], d: usize) -> [f64; DIMENSION]
 }
 
 // Returns the right halves of the working rows. They are d rows of d entries, so that the matrix they make up can be read back from the array.
-fn right_halves(w: [[f64; WIDTH]; DIMENSION], d: usize) -> [[f64; DIMENSION]; DIMENSION]
+fn right_halves(rows: [[f64; WIDTH]; DIMENSION], d: usize) -> [[f64; DIMENSION]; DIMENSION]
     requires { ⌜ d ≤ maxDimension ⌝ }
-    ensures { λ r. ⌜ (r ≡ paddedRows (map (drop d) (leading d (d + d) w))) × (corner d r ≡ map (drop d) (leading d (d + d) w)) ⌝ }
+    ensures { λ r. ⌜ (r ≡ paddedRows (map (drop d) (leading d (d + d) rows))) × (corner d r ≡ map (drop d) (leading d (d + d) rows)) ⌝ }
 {
     let mut r = [[0.0; DIMENSION]; DIMENSION];
     let mut i: usize = 0;
     while i < d {
-        r[i] = right_half(w[i], d);
+        r[i] = right_half(rows[i], d);
         i += 1;
     }
     r
@@ -223,25 +223,25 @@ pub fn eliminate(
     ensures { λ r. ⌜ (ifRegular (now (regular .exit)) (corner d r) ≡ inverse (corner d m)) × (r ≡ inverseCells (inverse (corner d m)))
         × (now (product .exit) ≡ determinant (corner d m)) ⌝ }
 {
-    let mut w = beside_identity(m, d);
+    let mut rows = beside_identity(m, d);
     let mut t = 1.0;
     let mut odd = false;
     let mut c: usize = 0;
     while c < d {
-        let p = pivot_row(w, c, d);
-        let x = entry(w, p, c);
+        let p = pivot_row(rows, c, d);
+        let x = entry(rows, p, c);
         if x == 0.0 {
             *regular = false;
             *product = 0.0;
             return [[0.0; DIMENSION]; DIMENSION];
         }
-        let next = column(w, p, x, c, d);
-        w = next;
+        let next = column(rows, p, x, c, d);
+        rows = next;
         t = multiplied(t, x, c);
         odd = parity(odd, p, c);
         c += 1;
     }
     *regular = true;
     *product = signed(t, odd);
-    right_halves(w, d)
+    right_halves(rows, d)
 }

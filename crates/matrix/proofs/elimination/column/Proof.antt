@@ -14,7 +14,7 @@ returns c =
     let a = s .before .args in
     c .rows-cleared .ensures
     ∙ rw (c .before .row-divided .ensures, s .swapped .ensures)
-    (column-leading (a .d) (a .d + a .d) (a .w) (a .p) (a .c) (a .x) (omega arith) (omega arith))
+    (column-leading (a .d) (a .d + a .d) (a .rows) (a .p) (a .c) (a .x) (omega arith) (omega arith))
 
 pub column-spec : {M : Type 1} → statement M
 column-spec =

@@ -16,10 +16,10 @@ use Rattle.matrix.proofs.elimination.eliminate.Statement.{statement}
 use Rattle.matrix.proofs.elimination.eliminate.Tie as tie
 
 abbrev Inv-loop : tie.InvT-loop
-Inv-loop d regular₀ product₀ w₀ t₀ odd₀ c₀ regular product w t odd c = (c ≤ d) × Run d (leading d (d + d) w₀) (leading d (d + d) w) t odd c
+Inv-loop d regular₀ product₀ rows₀ t₀ odd₀ c₀ regular product rows t odd c = (c ≤ d) × Run d (leading d (d + d) rows₀) (leading d (d + d) rows) t odd c
 
 abbrev μ-loop : tie.MeasureT-loop
-μ-loop d regular₀ product₀ w₀ t₀ odd₀ c₀ regular product w t odd c = d - c
+μ-loop d regular₀ product₀ rows₀ t₀ odd₀ c₀ regular product rows t odd c = d - c
 
 loop-holds : tie.Need-loop-holds Inv-loop μ-loop
 unfolding ofBits oneF
@@ -32,12 +32,12 @@ long c = search needs
 pivot-is : (c : tie.After-entry Inv-loop μ-loop) →
     let l = c .before .before .before in
     let d = l .before .before .args .d in
-    c .entry .result ≡ entry (leading d (d + d) (l .loop .w)) (c .before .pivot-row .result) (l .loop .c)
+    c .entry .result ≡ entry (leading d (d + d) (l .loop .rows)) (c .before .pivot-row .result) (l .loop .c)
 pivot-is c =
     let l = c .before .before .before in
     let d = l .before .before .args .d in
     c .entry .ensures
-    ∙ sym (entry-leading d (d + d) (l .loop .w) (c .before .pivot-row .result) (l .loop .c) (c .before .pivot-row .ensures .1) (omega arith))
+    ∙ sym (entry-leading d (d + d) (l .loop .rows) (c .before .pivot-row .result) (l .loop .c) (c .before .pivot-row .ensures .1) (omega arith))
 
 returns : tie.Need-returns Inv-loop μ-loop
 unfolding ofBits zeroF paddedRows ifRegular inverseCells

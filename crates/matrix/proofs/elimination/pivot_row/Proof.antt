@@ -15,23 +15,23 @@ use Rattle.matrix.proofs.elimination.pivot_row.Statement.{statement}
 use Rattle.matrix.proofs.elimination.pivot_row.Tie as tie
 
 abbrev Inv-loop : tie.InvT-loop
-Inv-loop w c d p₀ r₀ p r = (r ≤ d) × (p < d) × Scanned (leading d (d + d) w) d c p r
+Inv-loop rows c d p₀ r₀ p r = (r ≤ d) × (p < d) × Scanned (leading d (d + d) rows) d c p r
 
 abbrev μ-loop : tie.MeasureT-loop
-μ-loop w c d p₀ r₀ p r = d - r
+μ-loop rows c d p₀ r₀ p r = d - r
 
 loop-holds : tie.Need-loop-holds Inv-loop μ-loop
 loop-holds c =
     let a = c .args in
-    let k : length (a .w) ≡ maxDimension = search needs in
-    (search needs, search needs, first (length-leading (a .d) (a .d + a .d) (a .w) (omega arith)))
+    let k : length (a .rows) ≡ maxDimension = search needs in
+    (search needs, search needs, first (length-leading (a .d) (a .d + a .d) (a .rows) (omega arith)))
 
 loop-again : tie.Need-loop-again Inv-loop μ-loop
 loop-again c =
     let n = c .before .before .before in
     let l = n .before .before .before in
     let a = l .before .args in
-    let view = entry-leading (a .d) (a .d + a .d) (a .w) in
+    let view = entry-leading (a .d) (a .d + a .d) (a .rows) in
     let eu = n .magnitude .ensures ∙ ap absF (n .before .entry .ensures ∙ sym (view (l .loop .p) (a .c) (omega arith) (omega arith))) in
     let ev = c .before .magnitude2 .ensures ∙ ap absF (c .before .before .entry2 .ensures ∙ sym (view (l .loop .r) (a .c) (omega arith) (omega arith))) in
     let h : l .loop .r < a .d = n .before .before .loop-test .taken in

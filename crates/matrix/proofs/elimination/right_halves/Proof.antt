@@ -23,13 +23,13 @@ use Rattle.matrix.proofs.elimination.right_halves.Tie as tie
 
 -- This is the right half of row k.
 abbrev half : List (List Float) → ℕ → ℕ → List Float
-half w d k = drop d (take (d + d) (row w k))
+half rows d k = drop d (take (d + d) (row rows k))
 
 abbrev Inv-loop : tie.InvT-loop
-Inv-loop d w r₀ i₀ r i = (i ≤ d) × Written (λ x. x) (λ k. padded (half w d k)) r₀ r i
+Inv-loop d rows r₀ i₀ r i = (i ≤ d) × Written (λ x. x) (λ k. padded (half rows d k)) r₀ r i
 
 abbrev μ-loop : tie.MeasureT-loop
-μ-loop d w r₀ i₀ r i = d - i
+μ-loop d rows r₀ i₀ r i = d - i
 
 loop-again : tie.Need-loop-again Inv-loop μ-loop
 loop-again c = (search needs, next _ (omega arith) (c .right-half .ensures) (c .before .before .before .loop .inv .1))
@@ -38,14 +38,14 @@ returns : tie.Need-returns Inv-loop μ-loop
 unfolding ofBits zeroF
 returns c =
     let s = c .before .before in
-    let w = s .args .t1 in
+    let rows = s .args .t1 in
     let d = s .args .d in
-    let k : length w ≡ maxDimension = search needs in
-    let long : (i : ℕ) → i < d → length (half w d i) ≡ d =
-    λ i h. half-long d (row w i) (omega (arith, wide (FloatOf binary64) width maxDimension w _ i (s .good .0) (omega arith))) in
-    let e = over-leading (drop d) d (d + d) w (omega arith) in
-    let z = padded-rows-table (half w d) _ _ d (c .before .loop .inv .0) (c .loop-test .left) (c .before .loop .inv .1) in
-    (z ∙ ap paddedRows e, corner-padded d _ _ (square-table (half w d) d long) z ∙ e)
+    let k : length rows ≡ maxDimension = search needs in
+    let long : (i : ℕ) → i < d → length (half rows d i) ≡ d =
+    λ i h. half-long d (row rows i) (omega (arith, wide (FloatOf binary64) width maxDimension rows _ i (s .good .0) (omega arith))) in
+    let e = over-leading (drop d) d (d + d) rows (omega arith) in
+    let z = padded-rows-table (half rows d) _ _ d (c .before .loop .inv .0) (c .loop-test .left) (c .before .loop .inv .1) in
+    (z ∙ ap paddedRows e, corner-padded d _ _ (square-table (half rows d) d long) z ∙ e)
 
 pub right-halves-spec : {M : Type 1} → statement M
 right-halves-spec =

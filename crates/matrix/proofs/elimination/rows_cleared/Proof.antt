@@ -14,11 +14,11 @@ use Rattle.matrix.proofs.elimination.rows_cleared.Statement.{statement}
 use Rattle.matrix.proofs.elimination.rows_cleared.Tie as tie
 
 abbrev Inv-loop : tie.InvT-loop
-Inv-loop pivot c d w x₀ r₀ x r =
-    (r ≤ d) × Written (take (d + d)) (λ k. nextRow c (take (d + d) pivot) k (take (d + d) (row w k))) x₀ x r
+Inv-loop pivot c d rows x₀ r₀ x r =
+    (r ≤ d) × Written (take (d + d)) (λ k. nextRow c (take (d + d) pivot) k (take (d + d) (row rows k))) x₀ x r
 
 abbrev μ-loop : tie.MeasureT-loop
-μ-loop pivot c d w x₀ r₀ x r = d - r
+μ-loop pivot c d rows x₀ r₀ x r = d - r
 
 loop-again : tie.Need-loop-again Inv-loop μ-loop
 loop-again c =
@@ -35,10 +35,10 @@ unfolding leading
 returns c =
     let s = c .before .before in
     let d = s .args .d in
-    let w = s .args .t1 in
-    let k : length w ≡ maxDimension = search needs in
+    let rows = s .args .t1 in
+    let k : length rows ≡ maxDimension = search needs in
     end d (c .before .loop .inv .0) (c .loop-test .left) (c .before .loop .inv .1)
-    ∙ clear-leading d (d + d) w (s .args .c) (take (d + d) (s .args .pivot)) (omega arith)
+    ∙ clear-leading d (d + d) rows (s .args .c) (take (d + d) (s .args .pivot)) (omega arith)
 
 pub rows-cleared-spec : {M : Type 1} → statement M
 rows-cleared-spec =
