@@ -18,13 +18,13 @@ use Rattle.flag.specs.Reading.{Follows, Nth}
 use Rattle.flag.proofs.Numbered.{nth-next, nth-last}
 
 -- Flag number `from` is F, and P holds of the flags from it on.
-pub record Turn (s : Solid) (F : Flag) (P : List Flag → Type 0) : Type 0 where
+pub record FlagsFrom (s : Solid) (F : Flag) (P : List Flag → Type 0) : Type 0 where
   pub from : ℕ
   pub flag : Nth s F from
   pub stands : P (drop from (flags s))
 
-pub turn-first : (s : Solid) (P : List Flag → Type 0) (F : Flag) → Nth s F 0 → P (flags s) → Turn s F P
-turn-first s P F n p = record { from = 0; flag = n; stands = p }
+pub flags-first : (s : Solid) (P : List Flag → Type 0) (F : Flag) → Nth s F 0 → P (flags s) → FlagsFrom s F P
+flags-first s P F n p = record { from = 0; flag = n; stands = p }
 
 -- The measure is how many flags are to come.
 unfoldable pub toCome : Solid → Flag → ℕ
@@ -44,7 +44,7 @@ place-first x (y ∷ l) (suc i) h e f = go (eqList y x) refl (place-first x l i 
     go true q p = absurd (f 0 (omega arith) (sym (lists .sound y x q)))
     go false q p = ap suc p
 
-module _ (sh : Shape) (w : List ℕ) (h : Held sh w) (P : List Flag → Type 0) (F : Flag) (t : Turn (absIn sh w) F P) where
+module _ (sh : Shape) (w : List ℕ) (h : Held sh w) (P : List Flag → Type 0) (F : Flag) (t : FlagsFrom (absIn sh w) F P) where
   abbrev s : Solid
   s = absIn sh w
 
@@ -52,8 +52,8 @@ module _ (sh : Shape) (w : List ℕ) (h : Held sh w) (P : List Flag → Type 0) 
   abbrev pub later : List Flag
   later = drop (suc (t .from)) (flags s)
 
-  pub turn-at : P (F ∷ later)
-  turn-at = let n = t .flag in subst P (drop-cons (flags s) (t .from) [] (n .low) ∙ ap (λ G. G ∷ later) (sym (n .is))) (t .stands)
+  pub flags-at : P (F ∷ later)
+  flags-at = let n = t .flag in subst P (drop-cons (flags s) (t .from) [] (n .low) ∙ ap (λ G. G ∷ later) (sym (n .is))) (t .stands)
 
   place-is : (G : Flag) (i : ℕ) → Nth s G i → place eqList G (flags s) ≡ i
   place-is G i n =
@@ -62,8 +62,8 @@ module _ (sh : Shape) (w : List ℕ) (h : Held sh w) (P : List Flag → Type 0) 
 
   module _ (more : Bool) (G : Flag) (f : Follows s F more G) where
     -- There is more, and G is the flag after F.
-    pub turn-next : more ≡ true → (Q : List Flag → Type 0) → Q later → Turn s G Q
-    turn-next e Q q = record { from = suc (t .from); flag = nth-next sh w h F more G f (t .from) (t .flag) e; stands = q }
+    pub flags-next : more ≡ true → (Q : List Flag → Type 0) → Q later → FlagsFrom s G Q
+    flags-next e Q q = record { from = suc (t .from); flag = nth-next sh w h F more G f (t .from) (t .flag) e; stands = q }
 
     pub fewer : more ≡ true → toCome s G < toCome s F
     unfolding toCome place-is
@@ -73,5 +73,5 @@ module _ (sh : Shape) (w : List ℕ) (h : Held sh w) (P : List Flag → Type 0) 
         omega (arith, place-is F (t .from) n, place-is G (suc (t .from)) m, m .low)
 
     -- The last flag is F.
-    pub turn-end : more ≡ false → (Q : List Flag → Type 0) → Q later → Q []
-    turn-end e Q q = subst Q (drop-of-length-le (flags s) {i = suc (t .from)} (omega (arith, nth-last sh w h F more G f (t .from) (t .flag) e))) q
+    pub flags-end : more ≡ false → (Q : List Flag → Type 0) → Q later → Q []
+    flags-end e Q q = subst Q (drop-of-length-le (flags s) {i = suc (t .from)} (omega (arith, nth-last sh w h F more G f (t .from) (t .flag) e))) q

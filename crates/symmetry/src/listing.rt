@@ -161,7 +161,7 @@ fn try_flag(
     if !same_types(words, sh, flag, first) {
         return Tried::Skipped;
     }
-    let m = candidate(&words[..sh.low], sh, floats, flag, inverse);
+    let m = candidate(sh.lists(words), sh, floats, flag, inverse);
     try_candidate(words, floats, places, trial, m, matrices, rows)
 }
 
@@ -180,7 +180,7 @@ pub fn list_members(
     ensures { λ r. ⌜ SolidListed sh (now (words .entry)) (now (floats .entry)) inverse rotations room r
         (now (matrices .entry)) (now (matrices .exit)) (now (rows .entry)) (now (rows .exit)) ⌝ }
 {
-    let first = Flag::first(&words[..sh.low], sh);
+    let first = Flag::first(sh.lists(words), sh);
     let d = sh.dimension;
     let v = sh.vertices();
     let places = places(floats, d, v);
@@ -210,7 +210,7 @@ pub fn list_members(
             }
             Tried::Short => return Members::of(n, true),
         }
-        let next = flag.next(&words[..sh.low], sh);
+        let next = flag.next(sh.lists(words), sh);
         flag = next.flag;
         let advance = next.advance;
         match advance {

@@ -8,7 +8,7 @@ use lib.ListN.{getD, take}
 use lib.Ieee.{Float, nan, inf, fin, lt}
 use Rattle.spec.specs.Float.{absF, finite}
 use Rattle.spec.specs.Matrix.{row}
-use Rattle.matrix.specs.Reading.{corner, leading}
+use Rattle.matrix.specs.Reading.{corner}
 use Rattle.matrix.proofs.Leading.{row-leading}
 
 -- A float is finite exactly if its magnitude is below infinity.

@@ -2,7 +2,7 @@
 -- Assumes nothing.
 use mathlib.Core.Path.{_≡_, sym, ap, ap₂, _∙_}
 use mathlib.Core.Bool.{Bool}
-use mathlib.Core.List.{List, map}
+use mathlib.Core.List.{List}
 use Prim.Native.Nat.{ℕ, suc, _+_, _≤_, _<_}
 use native.Mathlib.Omega.{arith}
 use lib.ListN.{length, getD, take}
@@ -10,11 +10,10 @@ use lib.Seq.{getD-take}
 use lib.Dec.{eqb}
 use Rattle.spec.specs.Lists.{range, every}
 use Rattle.spec.specs.Types.{typeOf}
-use Rattle.spec.specs.Flags.{Flag, IsFlag, elementAt, firstFlag}
-use Rattle.spec.specs.Search.{Setting, sameTypes}
-use Rattle.laws.proofs.Lists.{length-table, of-range}
+use Rattle.spec.specs.Flags.{IsFlag, elementAt}
+use Rattle.laws.proofs.Lists.{of-range}
 use Rattle.ranked.specs.declared.Shape.{Shape}
-use Rattle.ranked.specs.Words.{sizeAt, listsOf, subsIn, absIn, Held}
+use Rattle.ranked.specs.Words.{listsOf, absIn, Held}
 use Rattle.ranked.specs.Layout.{typesAt, scratchAt}
 use Rattle.ranked.proofs.Solids.{number-in}
 use Rattle.ranked.proofs.Judged.{every-same}
@@ -43,11 +42,3 @@ module _ (sh : Shape) (w : List ℕ) (h : Held sh (listsOf sh w)) (room : scratc
   agree-is a b f g =
       every-same _ _ (range 0 (suc (sh .rank)))
       (λ r m. let q : r ≤ sh .rank = omega (arith, of-range 0 (suc (sh .rank)) r m) in ap₂ eqb (read a f r q) (read b g r q))
-
--- With the first flag for the second, it is the test of a search.
-pub with-first : (sh : Shape) (w : List ℕ) (t : Setting) → t .searched .abs ≡ absIn sh w → (F : Flag)
-    → typesAgree (t .types) (sh .rank) F (firstFlag (absIn sh w)) ≡ sameTypes t F
-unfolding sameTypes absIn
-with-first sh w t e F =
-    let n : length (t .searched .abs) ≡ suc (sh .rank) = ap length e ∙ length-table (λ r. map (subsIn sh w r) (range 0 (sizeAt sh r))) (suc (sh .rank)) in
-    rw (n, e)

@@ -62,11 +62,8 @@ module _ {sh : Shape} {w : List ℕ} (h : Held sh w) {r e : ℕ} (m : ProperElem
 
 -- ---- in the words with the fingerprints
 
--- The lists are the words' front, and each rank's fingerprints lie within the words.
+-- Each rank's fingerprints lie within the words.
 module _ (sh : Shape) (words : List ℕ) (h : Held sh (listsOf sh words)) (room : fingerprintsAt sh (suc (sh .rank)) ≤ length words) where
-  pub front-is : sh .low ≡ length (listsOf sh words)
-  front-is = sym (length-take-le (sh .low) words (omega arith))
-
   pub fingerprint-in : (r e : ℕ) → r < sh .rank → e < sizeAt sh r → fingerprintsAt sh r + e < length words
   fingerprint-in r e k i = omega (arith, number-in sh (listsOf sh words) h r e (omega arith) i)
 

@@ -20,7 +20,7 @@ fn is_repeated(words: &[u32], sh: Shape, r: usize, e: usize) -> bool
         (drop (suc e) (vertexSets (abstractIn sh (now (words .entry))) r)) ⌝ }
 {
     let mut list = [0u16; MAX_COUNT];
-    let n = vertex_list(&words[..sh.low], sh, r, e, &mut list);
+    let n = vertex_list(sh.lists(words), sh, r, e, &mut list);
     is_vertex_set(words, sh, r, e + 1, &list[..n])
 }
 

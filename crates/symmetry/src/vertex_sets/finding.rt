@@ -59,7 +59,7 @@ pub fn is_vertex_set(words: &[u32], sh: Shape, r: usize, from: usize, list: &[u1
         let i = e;
         e += 1;
         if get(words, first + i) == p {
-            if same_vertices(&words[..sh.low], sh, r, i, list) {
+            if same_vertices(sh.lists(words), sh, r, i, list) {
                 return true;
             }
         }

@@ -51,7 +51,7 @@ fn write_rank(words: &mut [u32], sh: Shape, r: usize)
     let many = sh.size(r);
     let mut e: usize = 0;
     while e < many {
-        let p = element_fingerprint(&words[..sh.low], sh, r, e);
+        let p = element_fingerprint(sh.lists(words), sh, r, e);
         words[first + e] = p;
         e += 1;
     }

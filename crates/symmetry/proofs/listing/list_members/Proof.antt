@@ -7,28 +7,27 @@ use Prim.Native.Nat.{ℕ, _+_, _-_, _*_, _≤_, _<_}
 use native.Mathlib.Nat.{mul-le-mul-left}
 use native.Mathlib.Omega.{arith}
 use lib.ListN.{length}
-use lib.Seq.{length-take-le}
 use lib.Ieee.{Float}
 use borrow.Author.Needs.{needs}
 use borrow.Rule.Slice.PartMut.{putMid, same-len-mid}
 use Rattle.spec.specs.Limits.{maxDimension, maxCount}
-use Rattle.spec.specs.Flags.{Flag, IsFlag}
+use Rattle.spec.specs.Flags.{Flag, IsFlag, firstFlag}
 use Rattle.points.specs.Guesses.{Guesses}
 use Rattle.ranked.specs.Words.{listsOf, absIn}
 use Rattle.ranked.specs.Layout.{solidIn}
-use Rattle.flag.specs.Reading.{flagIn, moreOf}
+use Rattle.flag.specs.Reading.{flagIn, moreOf, Follows}
 use Rattle.flag.proofs.Numbered.{nth-first, nth-flag}
 use Rattle.symmetry.specs.declared.listing.Tried.the-variants.{Skipped, Added}
 use Rattle.symmetry.proofs.Bounds.{vertices-few, coordinates-in, points-read}
 use Rattle.symmetry.proofs.Members.{Tally, tally-first, tally-end, inside, tally-skipped, tally-added, tally-short}
-use Rattle.symmetry.proofs.Turning.{Turn, toCome, turn-first, turn-end, later, turn-at, turn-next, fewer}
+use Rattle.symmetry.proofs.Turning.{FlagsFrom, toCome, flags-first, flags-end, later, flags-at, flags-next, fewer}
 use Rattle.symmetry.proofs.listing.list_members.Statement.{statement}
 use Rattle.symmetry.proofs.listing.list_members.Tie as tie
 
 abbrev Inv : tie.InvT-loop
 Inv words sh floats inverse rotations room matrices₀ rows₀ first d v places flag₀ n₀ matrices rows flag n =
     (length matrices ≡ length matrices₀) × (length rows ≡ length rows₀)
-    × Turn (absIn sh (listsOf sh words)) (flagIn (sh .rank) flag) (Tally sh words floats inverse rotations room v matrices₀ matrices rows₀ rows n)
+    × FlagsFrom (absIn sh (listsOf sh words)) (flagIn (sh .rank) flag) (Tally sh words floats inverse rotations room v matrices₀ matrices rows₀ rows n)
 
 abbrev μ : tie.MeasureT-loop
 μ words sh floats inverse rotations room matrices₀ rows₀ first d v places flag₀ n₀ matrices rows flag n =
@@ -41,11 +40,16 @@ start c = c .before .before .before .before .before .before .before .before .bef
 abbrev counted : tie.At-loop Inv μ → tie.After-vertices Inv μ
 counted l = l .before .before
 
-slice-aggregate-first : tie.Need-slice-aggregate-first Inv μ
-slice-aggregate-first c = let s = c .before .before .before .before .before in sym (length-take-le (s .args .sh .low) (s .args .words .now) (s .pre .bench .words-in))
+lists-requires : tie.Need-lists-requires Inv μ
+lists-requires c κs = c .before .before .before .before .pre .bench .words-in
 
 first-requires : tie.Need-first-requires Inv μ
-first-requires c κs = c .before .before .before .before .before .pre .bench .held
+first-requires c κs = rw (c .lists .ensures) (c .before .before .before .before .before .pre .bench .held)
+
+-- The first flag is that of the solid.
+first-is : (f : tie.After-first Inv μ) → let a = f .before .before .before .before .before .before .args in
+    flagIn (a .sh .rank) (f .first .result) ≡ firstFlag (absIn (a .sh) (listsOf (a .sh) (a .words .now)))
+first-is f = rw (f .before .lists .ensures) at (f .first .ensures)
 
 tall : (s : tie.Start Inv μ) → s .args .sh .dimension ≤ length (s .args .inverse)
 tall s = let k : length (s .args .inverse) ≡ maxDimension = search needs in omega (arith, k, s .pre .bench .held .wide)
@@ -65,8 +69,8 @@ loop-holds c =
     let a = s .args in (
       refl,
       refl,
-      turn-first (absIn (a .sh) (listsOf (a .sh) (a .words .now))) _ (flagIn (a .sh .rank) (v .before .first .result))
-          (nth-first (a .sh) (listsOf (a .sh) (a .words .now)) (s .pre .bench .held) _ (v .before .first .ensures))
+      flags-first (absIn (a .sh) (listsOf (a .sh) (a .words .now))) _ (flagIn (a .sh .rank) (v .before .first .result))
+          (nth-first (a .sh) (listsOf (a .sh) (a .words .now)) (s .pre .bench .held) _ (first-is (v .before)))
           (tally-first (a .sh) (a .words .now) (a .floats .now) (a .inverse) (tall s) (a .rotations) (a .room) (v .vertices .result) (v .vertices .ensures) (a .matrices .now) (a .rows .now)),
     )
 
@@ -87,7 +91,7 @@ rest l =
 stands : (l : tie.At-loop Inv μ) → Stands l (flag l ∷ rest l)
 stands l =
     let s = start l in
-    turn-at (s .args .sh) (listsOf (s .args .sh) (s .args .words .now)) (s .pre .bench .held) (Stands l) (flag l) (l .loop .inv .2)
+    flags-at (s .args .sh) (listsOf (s .args .sh) (s .args .words .now)) (s .pre .bench .held) (Stands l) (flag l) (l .loop .inv .2)
 
 -- The parts after the members start within the outputs, whose lengths fit a word.
 within : (l : tie.At-loop Inv μ) → let a = start l .args in
@@ -131,7 +135,7 @@ try-flag-requires : tie.Need-try-flag-requires Inv μ
 try-flag-requires c κs =
     let l = c .before .before .before in
     let s = start l in
-    (s .pre, (is-flag l, (counted l .before .first .ensures, subst (λ ps. Guesses ps (l .before .places .result)) (sym (points-read (s .args .sh) (s .args .words .now) (s .args .floats .now) (counted l .vertices .result) (counted l .vertices .ensures))) (l .before .places .ensures))))
+    (s .pre, (is-flag l, (first-is (counted l .before), subst (λ ps. Guesses ps (l .before .places .result)) (sym (points-read (s .args .sh) (s .args .words .now) (s .args .floats .now) (counted l .vertices .result) (counted l .vertices .ensures))) (l .before .places .ensures))))
 
 -- These are the outputs after the flag is tried.
 abbrev matrices : tie.After-try-flag Inv μ → List Float
@@ -205,15 +209,19 @@ returns r x =
     (tally-short (a .sh) (a .words .now) (a .floats .now) (a .inverse) (tall s) (a .rotations) (a .room) (counted l .vertices .result) (counted l .vertices .ensures) (a .matrices .now) (a .rows .now) (l .loop .matrices) (l .loop .rows) (l .loop .n) (flag l) (rest l) (stands l)
     (t .try-flag .result) (t .try-flag .last .1 .1 .1 .1 .1 .0) (t .try-flag .last .1 .1 .1 .1 .1 .1 .0) (t .try-flag .ensures) (e .enum-told3 .given .1) x)
 
-slice-aggregate-next : tie.Need-slice-aggregate-next Inv μ
-slice-aggregate-next c =
-    let s = start (c .before .before .before .before .before .before .before .before .before .before) in
-    sym (length-take-le (s .args .sh .low) (s .args .words .now) (s .pre .bench .words-in))
+lists-requires-2 : tie.Need-lists-requires-2 Inv μ
+lists-requires-2 c κs = start (c .before .before .before .before .before .before .before .before .before) .pre .bench .words-in
 
 next-requires : tie.Need-next-requires Inv μ
 next-requires c κs =
     let l = c .before .before .before .before .before .before .before .before .before .before in
-    (start l .pre .bench .held, is-flag l)
+    rw (c .lists2 .ensures) (start l .pre .bench .held, is-flag l)
+
+-- The flag that is asked for follows the present one in the solid.
+next-is : (x : tie.After-next Inv μ) → let l = x .before .before .before .before .before .before .before .before .before .before .before in
+    let a = start l .args in
+    Follows (absIn (a .sh) (listsOf (a .sh) (a .words .now))) (flag l) (moreOf (x .next .result .advance)) (flagIn (a .sh .rank) (x .next .result .flag))
+next-is x = rw (x .before .lists2 .ensures) at (x .next .ensures)
 
 -- Where the flag after it is asked for, the flags after it are to come.
 follows : (x : tie.After-next Inv μ) → let m = x .before .before in let t = m .before .before .before .before .before in Stood t (m .match .n) (rest (t .before .before .before .before))
@@ -230,7 +238,7 @@ loop-less c =
     let l = x .before .before .before .before .before .before .before .before .before .before .before in
     let s = start l in
     fewer (s .args .sh) (listsOf (s .args .sh) (s .args .words .now)) (s .pre .bench .held) (Stands l) (flag l) (l .loop .inv .2)
-    (moreOf (x .next .result .advance)) (flagIn (s .args .sh .rank) (x .next .result .flag)) (x .next .ensures) (ap moreOf (c .enum-told4 .given .1))
+    (moreOf (x .next .result .advance)) (flagIn (s .args .sh .rank) (x .next .result .flag)) (next-is x) (ap moreOf (c .enum-told4 .given .1))
 
 loop-again : tie.Need-loop-again Inv μ
 unfolding moreOf
@@ -242,8 +250,8 @@ loop-again c =
     let s = start l in (
       many t,
       long t,
-      turn-next (s .args .sh) (listsOf (s .args .sh) (s .args .words .now)) (s .pre .bench .held) (Stands l) (flag l) (l .loop .inv .2)
-          (moreOf (x .next .result .advance)) (flagIn (s .args .sh .rank) (x .next .result .flag)) (x .next .ensures) (ap moreOf (c .enum-told4 .given .1)) (Stood t (m .match .n)) (follows x),
+      flags-next (s .args .sh) (listsOf (s .args .sh) (s .args .words .now)) (s .pre .bench .held) (Stands l) (flag l) (l .loop .inv .2)
+          (moreOf (x .next .result .advance)) (flagIn (s .args .sh .rank) (x .next .result .flag)) (next-is x) (ap moreOf (c .enum-told4 .given .1)) (Stood t (m .match .n)) (follows x),
     )
 
 same-length-3 : tie.Need-same-length-3 Inv μ
@@ -264,8 +272,8 @@ returns-2 r y =
     let a = s .args in
     rw (r .of2 .ensures)
     (tally-end (a .sh) (a .words .now) (a .floats .now) (a .inverse) (tall s) (a .rotations) (a .room) (counted l .vertices .result) (counted l .vertices .ensures) (a .matrices .now) (a .rows .now) (matrices t) (rows t) (m .match .n)
-    (turn-end (a .sh) (listsOf (a .sh) (a .words .now)) (s .pre .bench .held) (Stands l) (flag l) (l .loop .inv .2)
-    (moreOf (x .next .result .advance)) (flagIn (a .sh .rank) (x .next .result .flag)) (x .next .ensures) (ap moreOf (c .enum-told5 .given .1)) (Stood t (m .match .n)) (follows x)) y)
+    (flags-end (a .sh) (listsOf (a .sh) (a .words .now)) (s .pre .bench .held) (Stands l) (flag l) (l .loop .inv .2)
+    (moreOf (x .next .result .advance)) (flagIn (a .sh .rank) (x .next .result .flag)) (next-is x) (ap moreOf (c .enum-told5 .given .1)) (Stood t (m .match .n)) (follows x)) y)
 
 pub list-members-spec : {M : Type 1} → statement M
 list-members-spec =
@@ -273,7 +281,7 @@ list-members-spec =
     (tie.spec
     Inv
     μ
-    slice-aggregate-first
+    lists-requires
     first-requires
     (λ c κs. search needs)
     (λ c κs. points-requires c)
@@ -299,7 +307,7 @@ list-members-spec =
     same-length
     same-length-2
     returns
-    slice-aggregate-next
+    lists-requires-2
     next-requires
     (λ c. search needs)
     loop-less

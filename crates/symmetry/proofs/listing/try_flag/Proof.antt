@@ -4,7 +4,6 @@ use mathlib.Core.Path.{sym, _∙_}
 use native.Mathlib.Omega.{arith}
 use borrow.Author.Needs.{needs}
 use borrow.Author.Tests.{not-true, not-false}
-use lib.Seq.{length-take-le}
 use Rattle.spec.specs.Flags.{Flag}
 use Rattle.spec.specs.Matrix.{Matrix}
 use Rattle.spec.specs.Solid.{Concrete}
@@ -53,14 +52,14 @@ returns c x =
     (a .trial .rotations) (shape s .dimension) (sizeAt (shape s) 1) (a .trial .left) (a .matrices .now) (a .rows .now) x (inverse s)
     (sym (not-true _ (c .if1 .taken)) ∙ t .same-types .ensures)
 
-slice-aggregate-candidate : tie.Need-slice-aggregate-candidate
-slice-aggregate-candidate c = let s = start (c .before .before) in sym (length-take-le (shape s .low) (s .args .words .now) (s .pre .0 .bench .words-in))
+lists-requires : tie.Need-lists-requires
+lists-requires c κs = start (c .before) .pre .0 .bench .words-in
 
 candidate-requires : tie.Need-candidate-requires
 candidate-requires c κs =
     let s = start (c .before .before) in
     let h = s .pre .0 in
-    (h .bench .held, (h .bench .diamonds, (s .pre .1 .0, (omega (arith, h .tall), coordinates-in h))))
+    rw (c .lists .ensures) (h .bench .held, (h .bench .diamonds, (s .pre .1 .0, (omega (arith, h .tall), coordinates-in h))))
 
 try-candidate-requires : tie.Need-try-candidate-requires
 try-candidate-requires c κs = let s = start (c .before .before .before .before .before) in (s .pre .0, s .pre .1 .1 .1)
@@ -74,7 +73,7 @@ returns-2 c x =
     let a = s .args in
     flag-is (solid s) (shape s .rank) (ranks-are (shape s) (listsOf (shape s) (a .words .now))) (stateIn (shape s) (a .words .now)) (flag s) (first s) (s .pre .1 .1 .0)
     (a .trial .rotations) (shape s .dimension) (sizeAt (shape s) 1) (a .trial .left) (a .matrices .now) (a .rows .now) x (inverse s)
-    (sym (not-false _ (e .if1 .left)) ∙ e .before .same-types .ensures) (corner (shape s .dimension) (m .candidate .result)) (m .candidate .ensures)
+    (sym (not-false _ (e .if1 .left)) ∙ e .before .same-types .ensures) (corner (shape s .dimension) (m .candidate .result)) (rw (m .before .lists .ensures) at (m .candidate .ensures))
     (g .try-candidate .result) (g .try-candidate .last .1 .1 .1 .1 .1 .0) (g .try-candidate .last .1 .1 .1 .1 .1 .1 .0) (g .try-candidate .ensures x (inverse s))
 
 pub try-flag-spec : {M : Type 1} → statement M
@@ -83,7 +82,7 @@ try-flag-spec =
     (tie.spec
     same-types-requires
     returns
-    slice-aggregate-candidate
+    lists-requires
     candidate-requires
     try-candidate-requires
     (λ c. search needs)

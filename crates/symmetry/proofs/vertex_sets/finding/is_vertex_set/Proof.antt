@@ -9,7 +9,7 @@ use Rattle.spec.specs.Types.{size}
 use Rattle.ranked.specs.Words.{listsOf, absIn}
 use Rattle.symmetry.specs.Fingerprints.{ProperElement}
 use Rattle.symmetry.proofs.vertex_sets.Sets.{Sought, sought-yes, sought-no, sought-end}
-use Rattle.symmetry.proofs.vertex_sets.Looks.{can-count, many-is, few-here, element, front-is, fingerprint-in, fingerprints-in, fingerprint-differs}
+use Rattle.symmetry.proofs.vertex_sets.Looks.{can-count, many-is, few-here, element, fingerprint-in, fingerprints-in, fingerprint-differs}
 use Rattle.symmetry.proofs.vertex_sets.finding.is_vertex_set.Statement.{statement}
 use Rattle.symmetry.proofs.vertex_sets.finding.is_vertex_set.Tie as tie
 
@@ -54,15 +54,15 @@ is-vertex-set-spec =
     (λ c. let s = start c in omega (arith, few-here (s .pre .0 .held) (s .args .r) (c .before .loop .e) (s .pre .1 .0 .1) (inside c)))
     (λ c. omega (arith, cell c))
     (λ c κs. cell c)
-    -- The needs are slice-aggregate-same-vertices and same-vertices-requires.
-    (λ c. let s = start (c .before .before .before) in front-is (s .args .sh) (s .args .words .now) (s .pre .0 .held) (s .pre .0 .room))
-    (λ c κs. let i = c .before .before .before in (start i .pre .0 .held, here i))
+    -- The needs are lists-requires and same-vertices-requires.
+    (λ c κs. omega (arith, start (c .before .before) .pre .0 .room))
+    (λ c κs. let i = c .before .before .before in (rw (c .lists .ensures) (start i .pre .0 .held), here i))
     -- The needs are returns, loop-less and loop-again.
     (λ c. let i = c .before .before .before .before .before in let l = i .before in
-    sought-yes _ _ _ (start i .args .from) (l .loop .e) (inside i) (l .loop .inv .1) (sym (c .if2 .taken) ∙ c .before .same-vertices .ensures))
+    sought-yes _ _ _ (start i .args .from) (l .loop .e) (inside i) (l .loop .inv .1) (sym (c .if2 .taken) ∙ (rw (c .before .before .lists .ensures) at (c .before .same-vertices .ensures))))
     (λ c. search needs)
     (λ c. let i = c .before .before .before .before .before in let l = i .before in
-    (l .loop .inv .0, sought-no _ _ _ (start i .args .from) (l .loop .e) (inside i) (l .loop .inv .1) (sym (c .if2 .left) ∙ c .before .same-vertices .ensures)))
+    (l .loop .inv .0, sought-no _ _ _ (start i .args .from) (l .loop .e) (inside i) (l .loop .inv .1) (sym (c .if2 .left) ∙ (rw (c .before .before .lists .ensures) at (c .before .same-vertices .ensures)))))
     -- The needs are loop-less-2, loop-again-2 and returns-2.
     (λ c. search needs)
     (λ c. let i = c .before .before in let l = i .before in let f = l .before .before in let s = start i in (
