@@ -150,7 +150,7 @@ pub fewer-left : (n e : ℕ) → e < n → n - (e + 1) < n - e
 fewer-left n e h = omega arith
 
 -- The first e elements of rank r are carried, and their cells are written.
-pub record Turn (sh : Shape) (w row : List ℕ) (cls : Classes) (cells₀ : List ℕ) (r n base : ℕ) (cells : List ℕ) (e : ℕ) : Type 0 where
+pub record ElementsCarried (sh : Shape) (w row : List ℕ) (cls : Classes) (cells₀ : List ℕ) (r n base : ℕ) (cells : List ℕ) (e : ℕ) : Type 0 where
   pub base-is : base ≡ firstAt sh r
   pub bound : e ≤ n
   pub long : length cells ≡ length cells₀
@@ -159,9 +159,9 @@ pub record Turn (sh : Shape) (w row : List ℕ) (cls : Classes) (cells₀ : List
   pub done : (f : ℕ) → f < e → (getD cells (firstAt sh r + f) 0 ≡ goes (absIn sh w) row r f) × (goes (absIn sh w) row r f < sizeAt sh r)
   pub rest : Every (carriesElement (absIn sh w) cls row r) (range 0 (size (absIn sh w) r)) e
 
-pub first-turn : (sh : Shape) (w row : List ℕ) (cls : Classes) (cells : List ℕ) (r n base : ℕ) → Rank sh w row cells r → base ≡ firstAt sh r → n ≡ sizeAt sh r
-    → Turn sh w row cls cells r n base cells 0
-first-turn sh w row cls cells r n base b q m = record {
+pub elements-first : (sh : Shape) (w row : List ℕ) (cls : Classes) (cells : List ℕ) (r n base : ℕ) → Rank sh w row cells r → base ≡ firstAt sh r → n ≡ sizeAt sh r
+    → ElementsCarried sh w row cls cells r n base cells 0
+elements-first sh w row cls cells r n base b q m = record {
   base-is = q;
   bound = omega arith;
   long = refl;
@@ -172,23 +172,23 @@ first-turn sh w row cls cells r n base b q m = record {
 }
 
 module _ {sh : Shape} {w row : List ℕ} {cls : Classes} {cells₀ : List ℕ} {r n base : ℕ} {cells : List ℕ} {e : ℕ}
-    (t : Turn sh w row cls cells₀ r n base cells e) (h : Held sh w) where
+    (t : ElementsCarried sh w row cls cells₀ r n base cells e) (h : Held sh w) where
   many-in : n ≡ size (absIn sh w) r
   many-in = t .many ∙ sym (sizes-are sh w h r)
 
   -- An element of the rank is below the code's number of them.
-  pub turn-in : {x : ℕ} → x < size (absIn sh w) r → x < n
-  turn-in h = omega (arith, many-in)
+  pub elements-in : {x : ℕ} → x < size (absIn sh w) r → x < n
+  elements-in h = omega (arith, many-in)
 
   module _ (more : e < n) where
     pub cell-in : base + e < length cells
     cell-in = omega (arith, t .base-is, t .rank .room, number-in sh w h r e (omega (arith, t .rank .high)) (omega (arith, t .many)))
 
-    pub turn-stop : Landed (absIn sh w) cls row r e Nothing → false ≡ every (carriesElement (absIn sh w) cls row r) (range 0 (size (absIn sh w) r))
-    turn-stop z = range-no (carriesElement (absIn sh w) cls row r) 0 (size (absIn sh w) r) e e (omega arith) (omega (arith, many-in)) (t .rest) z
+    pub elements-stop : Landed (absIn sh w) cls row r e Nothing → false ≡ every (carriesElement (absIn sh w) cls row r) (range 0 (size (absIn sh w) r))
+    elements-stop z = range-no (carriesElement (absIn sh w) cls row r) 0 (size (absIn sh w) r) e e (omega arith) (omega (arith, many-in)) (t .rest) z
 
-    pub turn-next : (x : ℕ) → Landed (absIn sh w) cls row r e (At x) → Turn sh w row cls cells₀ r n base (set cells (base + e) x) (e + 1)
-    turn-next x l = record {
+    pub elements-next : (x : ℕ) → Landed (absIn sh w) cls row r e (At x) → ElementsCarried sh w row cls cells₀ r n base (set cells (base + e) x) (e + 1)
+    elements-next x l = record {
       base-is = t .base-is;
       bound = omega arith;
       long = length-set cells (base + e) x ∙ t .long;
@@ -217,8 +217,8 @@ module _ {sh : Shape} {w row : List ℕ} {cls : Classes} {cells₀ : List ℕ} {
             let i = t .done f (omega arith) in
             (getD-set-other cells (base + e) (firstAt sh r + f) x 0 (λ (d : firstAt sh r + f ≡ base + e). y (omega (arith, t .base-is))) ∙ i .0, i .1)
 
-  pub turn-end : n ≤ e → (true ≡ every (carriesElement (absIn sh w) cls row r) (range 0 (size (absIn sh w) r))) × Images sh w row cells r
-  turn-end k = (
+  pub elements-end : n ≤ e → (true ≡ every (carriesElement (absIn sh w) cls row r) (range 0 (size (absIn sh w) r))) × Images sh w row cells r
+  elements-end k = (
     range-end (carriesElement (absIn sh w) cls row r) 0 (size (absIn sh w) r) e (omega (arith, many-in)) (t .rest),
     λ f m. t .done f (omega (arith, t .many)),
   )
@@ -226,40 +226,40 @@ module _ {sh : Shape} {w row : List ℕ} {cls : Classes} {cells₀ : List ℕ} {
 -- ---- the ranks
 
 -- The ranks below r are carried, and the one just below has its cells.
-pub record Round (sh : Shape) (w row : List ℕ) (cls : Classes) (cells₀ : List ℕ) (cells : List ℕ) (r : ℕ) : Type 0 where
+pub record RanksCarried (sh : Shape) (w row : List ℕ) (cls : Classes) (cells₀ : List ℕ) (cells : List ℕ) (r : ℕ) : Type 0 where
   pub low : 1 ≤ r
   pub long : length cells ≡ length cells₀
   pub room : total sh ≤ length cells
   pub below : 2 ≤ r → Images sh w row cells (r - 1)
   pub rest : Every (λ q. every (carriesElement (absIn sh w) cls row q) (range 0 (size (absIn sh w) q))) (range 1 (sh .rank - 1)) (r - 1)
 
-pub first-round : (sh : Shape) (w row : List ℕ) (cls : Classes) (cells : List ℕ) → total sh ≤ length cells → Round sh w row cls cells cells 1
-first-round sh w row cls cells h = record { low = omega arith; long = refl; room = h; below = λ two. absurd (omega arith); rest = refl }
+pub ranks-first : (sh : Shape) (w row : List ℕ) (cls : Classes) (cells : List ℕ) → total sh ≤ length cells → RanksCarried sh w row cls cells cells 1
+ranks-first sh w row cls cells h = record { low = omega arith; long = refl; room = h; below = λ two. absurd (omega arith); rest = refl }
 
-module _ {sh : Shape} {w row : List ℕ} {cls : Classes} {cells₀ cells : List ℕ} {r : ℕ} (t : Round sh w row cls cells₀ cells r) where
+module _ {sh : Shape} {w row : List ℕ} {cls : Classes} {cells₀ cells : List ℕ} {r : ℕ} (t : RanksCarried sh w row cls cells₀ cells r) where
   module _ (more : r < sh .rank) where
     pub rank-now : Rank sh w row cells r
     rank-now = record { low = t .low; high = more; room = t .room; below = t .below }
 
-    pub round-stop : false ≡ every (carriesElement (absIn sh w) cls row r) (range 0 (size (absIn sh w) r))
+    pub ranks-stop : false ≡ every (carriesElement (absIn sh w) cls row r) (range 0 (size (absIn sh w) r))
         → false ≡ every (λ q. every (carriesElement (absIn sh w) cls row q) (range 0 (size (absIn sh w) q))) (properRanks (absIn sh w))
     unfolding properRanks
-    round-stop e =
+    ranks-stop e =
         let l = t .low in
         rw (top-is sh w) (range-no (λ q. every (carriesElement (absIn sh w) cls row q) (range 0 (size (absIn sh w) q))) 1 (sh .rank - 1) (r - 1) r (omega arith) (omega arith) (t .rest) (sym e))
 
-    pub round-next : true ≡ every (carriesElement (absIn sh w) cls row r) (range 0 (size (absIn sh w) r)) → (new : List ℕ) → length new ≡ length cells
-        → Images sh w row new r → Round sh w row cls cells₀ new (r + 1)
-    round-next e new k i =
+    pub ranks-next : true ≡ every (carriesElement (absIn sh w) cls row r) (range 0 (size (absIn sh w) r)) → (new : List ℕ) → length new ≡ length cells
+        → Images sh w row new r → RanksCarried sh w row cls cells₀ new (r + 1)
+    ranks-next e new k i =
         let l = t .low in
         let z : r + 1 - 1 ≡ r = omega arith in
         let y : r - 1 + 1 ≡ r = omega arith in
         let m = range-yes (λ q. every (carriesElement (absIn sh w) cls row q) (range 0 (size (absIn sh w) q))) 1 (sh .rank - 1) (r - 1) r (omega arith) (omega arith) (t .rest) (sym e) in
         record { low = omega arith; long = k ∙ t .long; room = rw k (t .room); below = λ two. rw z i; rest = rw z (rw y at m) }
 
-  pub round-end : sh .rank ≤ r → true ≡ every (λ q. every (carriesElement (absIn sh w) cls row q) (range 0 (size (absIn sh w) q))) (properRanks (absIn sh w))
+  pub ranks-end : sh .rank ≤ r → true ≡ every (λ q. every (carriesElement (absIn sh w) cls row q) (range 0 (size (absIn sh w) q))) (properRanks (absIn sh w))
   unfolding properRanks
-  round-end h =
+  ranks-end h =
       rw (top-is sh w) (range-end (λ q. every (carriesElement (absIn sh w) cls row q) (range 0 (size (absIn sh w) q))) 1 (sh .rank - 1) (r - 1) (omega arith) (t .rest))
 
 -- ---- the vertices

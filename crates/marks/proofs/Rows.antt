@@ -28,12 +28,12 @@ once-of (x ∷ l) h = (
   once-of l (λ i j p q e. h (suc i) (suc j) (omega arith) (omega arith) e),
 )
 
-repeats-not : (l : List ℕ) → Once l → noRepeats eqb l ≡ true
+pub repeats-not : (l : List ℕ) → Once l → noRepeats eqb l ≡ true
 unfolding noRepeats
 repeats-not [] o = refl
 repeats-not (x ∷ l) o = rw (not-passed (holds eqb x l) (λ e. o .0 (in-holds x l e))) (repeats-not l (o .1))
 
-same-place : (l : List ℕ) → Once l → (i j : ℕ) → i < length l → j < length l → getD l i 0 ≡ getD l j 0 → i ≡ j
+pub same-place : (l : List ℕ) → Once l → (i j : ℕ) → i < length l → j < length l → getD l i 0 ≡ getD l j 0 → i ≡ j
 same-place l o i j p q e = sym (place-self eqb numbers 0 l o i p) ∙ ap (λ (x : ℕ). place eqb x l) e ∙ place-self eqb numbers 0 l o j q
 
 -- ---- the test, and what it says

@@ -14,12 +14,12 @@ use Rattle.ranked.specs.Words.{firstAt, sizeAt, absIn}
 use Rattle.ranked.specs.Layout.{classAt}
 use Rattle.marks.specs.Rises.{Landed}
 use Rattle.marks.specs.Rows.{classesOn, ClassesOf}
-use Rattle.marks.proofs.Carried.{ranks-lie, cells-long, cells-share, Turn, fewer-left, first-turn, cell-in, turn-in, turn-stop, turn-next, turn-end}
+use Rattle.marks.proofs.Carried.{ranks-lie, cells-long, cells-share, ElementsCarried, fewer-left, elements-first, cell-in, elements-in, elements-stop, elements-next, elements-end}
 use Rattle.marks.proofs.carry_rank.Statement.{statement}
 use Rattle.marks.proofs.carry_rank.Tie as tie
 
 abbrev Inv : tie.InvT-loop
-Inv lists sh floats row goes₀ r base n from cells e₀ goes e = Turn sh lists row (classesOn sh lists floats) goes₀ r n base goes e
+Inv lists sh floats row goes₀ r base n from cells e₀ goes e = ElementsCarried sh lists row (classesOn sh lists floats) goes₀ r n base goes e
 
 abbrev μ : tie.MeasureT-loop
 μ lists sh floats row goes₀ r base n from cells e₀ goes e = n - e
@@ -68,7 +68,7 @@ small c =
     let t = turn c in
     let l = t .before in
     let s = start t in
-    omega (arith, turn-in (l .loop .inv) (s .pre .0 .0 .held) (carried c .1), s .pre .0 .0 .held .few (s .args .r) (omega (arith, l .loop .inv .rank .high)))
+    omega (arith, elements-in (l .loop .inv) (s .pre .0 .0 .held) (carried c .1), s .pre .0 .0 .held .few (s .args .r) (omega (arith, l .loop .inv .rank .high)))
 
 pub carry-rank-spec : {M : Type 1} → statement M
 carry-rank-spec =
@@ -86,7 +86,7 @@ carry-rank-spec =
     (λ c. omega (arith, c .class .ensures, bounds (c .before .before .before .before .before .before .before) .3))
     -- The needs are loop-holds, image-of-requires, enum-known-x, enum-told, same-length and returns.
     (λ c. let s = c .before .before .before .before .before .before .before .before in let a = s .args in
-    first-turn (a .sh) (a .lists .now) (a .row .now) (classesOn (a .sh) (a .lists .now) (a .floats .now)) (a .goes .now) (a .r) _ _ (s .pre .1) (c .before .before .before .start .ensures) (c .before .before .size .ensures))
+    elements-first (a .sh) (a .lists .now) (a .row .now) (classesOn (a .sh) (a .lists .now) (a .floats .now)) (a .goes .now) (a .r) _ _ (s .pre .1) (c .before .before .before .start .ensures) (c .before .before .size .ensures))
     (λ c κs. let l = c .before .before in let s = start (c .before) in let a = s .args in
     let long = cells-long (a .sh) (a .lists .now) (a .floats .now) (s .pre .0 .0 .held) (s .pre .0 .1) (a .r) (s .pre .1 .low) (s .pre .1 .high) _ (l .before .before .class .ensures) in
     ((s .pre .0 .0, long), (l .loop .inv .rank, omega (arith, c .before .loop-test .taken, l .loop .inv .many))))
@@ -96,7 +96,7 @@ carry-rank-spec =
     (λ c. let i = c .before .before in
     let t = i .before .before in
     let l = t .before in
-    (turn-stop (l .loop .inv) (start t .pre .0 .0 .held) (t .loop-test .taken) (rw (c .enum-told .given .1) at (i .image-of .ensures (classesHere t) (share t))), (λ z. absurd (false≢true z))))
+    (elements-stop (l .loop .inv) (start t .pre .0 .0 .held) (t .loop-test .taken) (rw (c .enum-told .given .1) at (i .image-of .ensures (classesHere t) (share t))), (λ z. absurd (false≢true z))))
     -- The needs are cast-goes, add-goes, mul-goes, slice-write-goes and add-e.
     (λ c. omega (arith, small c))
     (λ c. omega (arith, lies c))
@@ -105,9 +105,9 @@ carry-rank-spec =
     (λ c. search needs)
     -- The needs are loop-less, loop-again, same-length-2 and returns-2.
     (λ c. fewer-left _ _ (turn c .loop-test .taken))
-    (λ c. let t = turn c in turn-next (t .before .loop .inv) (start t .pre .0 .0 .held) (t .loop-test .taken) _ (carried c))
+    (λ c. let t = turn c in elements-next (t .before .loop .inv) (start t .pre .0 .0 .held) (t .loop-test .taken) _ (carried c))
     (λ c. c .before .loop .inv .long)
     (λ c. let l = c .before in
     let s = l .before .before .before .before .before .before .before .before .before in
-    let e = turn-end (l .loop .inv) (s .pre .0 .0 .held) (c .loop-test .left) in
+    let e = elements-end (l .loop .inv) (s .pre .0 .0 .held) (c .loop-test .left) in
     (e .0, (λ z. e .1))))

@@ -1,34 +1,28 @@
 -- The product of two confirmed rows is confirmed, because it takes an element where a takes what b takes it to.
 -- Assumes nothing.
-use mathlib.Core.Path.{_≡_, refl, sym, _∙_, ap}
+use mathlib.Core.Path.{_≡_, sym, _∙_, ap}
 use Prim.Native.Nat.{ℕ, zero, suc, pred, _<_}
 use mathlib.Core.Bool.{true, _&&_}
-use mathlib.Core.List.{List, [], _∷_, map}
+use mathlib.Core.List.{List, map}
 use native.Mathlib.Omega.{arith}
 use native.Mathlib.Nat.{not-suc-le-zero}
 use lib.ListN.{length, getD, length-map}
 use lib.Dec.{eqb, ltb}
 use borrow.Author.Tests.{lt-ltb, eq-eqb}
-use Rattle.spec.specs.Lists.{In, holds, place, eqList, range, every, noRepeats, inOrder}
+use Rattle.spec.specs.Lists.{In, place, eqList, range, every, noRepeats, inOrder}
 use Rattle.spec.specs.Types.{Solid, size, subs, properRanks, Classes, reach, vertices, vertexSets}
 use Rattle.spec.specs.Demand.{Sound, Proper}
-use Rattle.spec.specs.Mark.{image, goes, carriesElement, marked}
-use Rattle.laws.proofs.Distinct.{Once}
+use Rattle.spec.specs.Mark.{setsApart, image, goes, carriesElement, marked}
 use Rattle.laws.proofs.Lists.{map-in, in-map, in-range, of-range, getD-map, once-map}
-use Rattle.laws.proofs.Counts.{numbers, lists, in-holds}
+use Rattle.laws.proofs.Counts.{numbers, lists}
 use Rattle.laws.proofs.Steps.{proper?}
 use Rattle.laws.proofs.Result.{proper-rank}
-use Rattle.laws.proofs.Scan.{place-self}
 use Rattle.laws.proofs.Marked.{both, lt-test, every-in, no-repeats, in-order, of-order, order-same, goes-proper, goes-improper, goes-vertices, Permutes, row-low, Fit, fit-of}
-use Rattle.marks.proofs.Sets.{not-passed, every-of}
+use Rattle.marks.proofs.Sets.{every-of}
+use Rattle.marks.proofs.Rows.{repeats-not, same-place}
 use Rattle.marks.specs.Products.{composed}
 
 -- ---- what a confirmed row is
-
-repeats-not : (l : List ℕ) → Once l → noRepeats eqb l ≡ true
-unfolding noRepeats
-repeats-not [] o = refl
-repeats-not (x ∷ l) o = rw (not-passed (holds eqb x l) (λ e. o .0 (in-holds x l e))) (repeats-not l (o .1))
 
 module _ (s : Solid) (cls : Classes) (row : List ℕ) where
   fit-is : (r e : ℕ) → Fit s cls row r e → carriesElement s cls row r e ≡ true
@@ -36,7 +30,7 @@ module _ (s : Solid) (cls : Classes) (row : List ℕ) where
   fit-is r e f = rw (lt-ltb (goes s row r e) (size s r) (f .inside), eq-eqb (cls r (goes s row r e)) (cls r e) (f .class), f .onto) (lists .pass _)
 
   record Confirmed : Type 0 where
-    sets : every (λ r. noRepeats eqList (vertexSets s r)) (properRanks s) ≡ true
+    sets : setsApart s ≡ true
     permutes : Permutes s row
     fit : (r e : ℕ) → Proper s r → e < size s r → Fit s cls row r e
 
@@ -44,7 +38,7 @@ module _ (s : Solid) (cls : Classes) (row : List ℕ) where
   unfolding marked
   confirmed ok =
       let n₁ = size s 1 in
-      let a = every (λ r. noRepeats eqList (vertexSets s r)) (properRanks s) in
+      let a = setsApart s in
       let b = eqb (length row) n₁ in
       let c = every (λ v. ltb v n₁) row in
       let d = noRepeats eqb row in
@@ -116,14 +110,11 @@ unfolding composed
 permutes-composed s a b p q = record {
   full = length-map b to ∙ q .full;
   low = λ v m. let u = in-map to v b m in rw (u .2) (row-low s a p (u .0) (q .low (u .0) (u .1)));
-  once = once-map to b (λ u v mu mv e. sym (at u (q .low u mu)) ∙ ap (λ (x : ℕ). place eqb x a) e ∙ at v (q .low v mv)) (q .once);
+  once = once-map to b (λ u v mu mv e. same-place a (p .once) u v (rw (p .full) (q .low u mu)) (rw (p .full) (q .low v mv)) e) (q .once);
 }
   where
     to : ℕ → ℕ
     to v = getD a v 0
-
-    at : (v : ℕ) → v < size s 1 → place eqb (getD a v 0) a ≡ v
-    at v h = place-self eqb numbers 0 a (p .once) v (rw (p .full) h)
 
 module _ (s : Solid) (w : Sound s) (cls : Classes) (a b : List ℕ) (ca : Confirmed s cls a) (cb : Confirmed s cls b) where
   inside : (r e : ℕ) → e < size s r → goes s b r e < size s r
