@@ -2,24 +2,28 @@
 -- Assumes nothing.
 use mathlib.Core.Path.{_≡_, refl, sym, ap, _∙_}
 use mathlib.Core.Logic.{inl, inr}
+use mathlib.Core.Bool.{Bool, true, false}
 use mathlib.Core.List.{List, [], _∷_, _++_, map}
 use Prim.Native.Nat.{ℕ, zero, suc, _+_, _-_, _*_, _^_, _≤_, _<_, zero-le}
 use native.Mathlib.Nat.{le-refl, le-trans, zero-mul, add-mul, mul-le-mul}
 use native.Mathlib.Decide.{ℕ-discrete}
 use native.Mathlib.Omega.{arith}
-use lib.Dec.{eqb}
-use lib.ListN.{length, getD, length-map}
+use borrow.Author.Tests.{ltb-true, ltb-false}
+use lib.Dec.{eqb, ltb}
+use lib.ListN.{length, getD, length-map, List·getD-eq-default}
 use lib.Seq.{ext-getD}
-use Rattle.spec.specs.Limits.{maxRank, maxCount, maxEntries}
-use Rattle.spec.specs.Lists.{In, range, sum}
+use Rattle.spec.specs.Limits.{maxRank, maxEntries}
+use Rattle.spec.specs.Lists.{In, holds, every, range, sum}
 use Rattle.spec.specs.Types.{Solid, top, size, subs}
 use Rattle.spec.specs.Demand.{RisingAbove, Rising, Sound}
-use Rattle.spec.specs.Solid.{entries}
+use Rattle.spec.specs.Solid.{entries, between, diamond}
 use Rattle.spec.specs.Flags.{Flag, flagsTo, flags}
 use Rattle.laws.proofs.Lists.{length-range, in-range, map-same, getD-map, getD-table, length-table}
 use Rattle.laws.proofs.Distinct.{pigeons}
-use Rattle.laws.proofs.Counts.{numbers, sum-le}
+use Rattle.laws.proofs.Counts.{numbers, keep-in, holds-in, sum-le}
 use Rattle.laws.proofs.Carry.{rising-once}
+use Rattle.laws.proofs.Marked.{every-in}
+use Rattle.laws.proofs.FlagChange.{diamond-at}
 use Rattle.laws.proofs.Accepted.{From}
 use Rattle.element_types.proofs.Room.{sum-under}
 use Rattle.types.proofs.Call.{length-join}
@@ -95,8 +99,24 @@ module _ (s : Solid) (v : Sound s) where
 
 -- ---- the flags of a solid
 
-module _ (s : Solid) (v : Sound s) (sizes : (r : ℕ) → r ≤ top s → size s r ≤ maxCount) (few : entries s ≤ (maxRank - 1) * maxEntries) where
-  entries-in : (r : ℕ) → 2 ≤ r → r < top s → sum (map length (getD s r [])) ≤ (maxRank - 1) * maxEntries
+-- A sheet can have this many entries in its lists.
+abbrev mostEntries : ℕ
+mostEntries = (maxRank - 1) * maxEntries
+
+-- This many flags at most go down from an element of rank r: one from a vertex, two from an edge, and from two ranks up as many for each entry.
+unfoldable flagLimit : ℕ → ℕ
+flagLimit zero = 1
+flagLimit (suc zero) = 1
+flagLimit (suc (suc zero)) = 2
+flagLimit (suc (suc (suc r))) = mostEntries * flagLimit (suc r)
+
+-- A code has 32 bits for the count, and no rank that a sheet can have needs more. This is the one place that asks how great the limits are.
+limits-fit : every (λ r. ltb (flagLimit r) (2 ^ 32)) (range 0 (suc maxRank)) ≡ true
+unfolding every range flagLimit
+limits-fit = refl
+
+module _ (s : Solid) (v : Sound s) (d : diamond s ≡ true) (filled : (r e : ℕ) → e < size s (suc r) → 0 < length (subs s (suc r) e)) (few : entries s ≤ mostEntries) where
+  entries-in : (r : ℕ) → 2 ≤ r → r < top s → sum (map length (getD s r [])) ≤ mostEntries
   unfolding entries sum From
   entries-in r a b = omega (arith, few, sum-some (λ q. sum (map length (getD s q []))) (suc r) 2 (top s - 2) (r ∷ []) (a, omega arith, tt) (omega arith))
 
@@ -104,21 +124,51 @@ module _ (s : Solid) (v : Sound s) (sizes : (r : ℕ) → r ≤ top s → size s
   unfolding flagsTo
   at-one e = omega (arith, next s v 0 1 (λ f. omega arith) e, subs-few s v 0 e, ap length (v .least))
 
-  at-two : 2 ≤ top s → (e : ℕ) → many s v 2 e ≤ maxCount
-  at-two h e = omega (arith, next s v 1 1 at-one e, subs-few s v 1 e, sizes 1 (omega arith))
+  -- Each vertex has the least element as a sub.
+  on-least : (x : ℕ) → x < size s 1 → In 0 (subs s 1 x)
+  on-least x h = go (subs s 1 x) (filled 0 x h) (λ y m. omega (arith, v .below 0 x y m, ap length (v .least)))
+    where
+      go : (l : List ℕ) → 0 < length l → ((y : ℕ) → In y l → 0 ≡ y) → In 0 l
+      go [] k f = absurd (omega arith)
+      go (y ∷ l) k f = inl (f y (inl refl))
 
-  above : (r k : ℕ) → 1 ≤ r → suc r < top s → ((f : ℕ) → many s v r f ≤ k) → (e : ℕ) → many s v (suc (suc r)) e ≤ (maxRank - 1) * maxEntries * k
+  -- So all vertices of an edge lie between it and the least element, and the diamond says how many they are.
+  ends-two : 1 < top s → (e : ℕ) → length (subs s 2 e) ≤ 2
+  unfolding subs between
+  ends-two h e = at-rank (ltb e (size s 2)) refl
+    where
+      at-sub : (x : ℕ) → In x (subs s 2 e) → e < size s 2 → length (subs s 2 e) ≤ 2
+      at-sub x m k =
+          rw (diamond-at s d 1 (omega arith) h e 0 x k m (on-least x (v .below 1 e x m))) at
+          (pigeons eqb numbers (subs s 2 e) (between s 1 e 0) (rising-once (subs s 2 e) (v .rising 2 e)) λ y n.
+          keep-in (λ f. holds eqb 0 (subs s 1 f)) y (subs s 2 e) n (holds-in 0 (subs s 1 y) (on-least y (v .below 1 e y n))))
+
+      some : e < size s 2 → (l : List ℕ) → subs s 2 e ≡ l → length (subs s 2 e) ≤ 2
+      some k [] p = rw p (omega arith)
+      some k (x ∷ l) p = at-sub x (rw p (inl refl)) k
+
+      at-rank : (b : Bool) → ltb e (size s 2) ≡ b → length (subs s 2 e) ≤ 2
+      at-rank true p = some (ltb-true e (size s 2) p) (subs s 2 e) refl
+      at-rank false p = rw (List·getD-eq-default (getD s 2 []) [] {n = e} (ltb-false e (size s 2) p)) (omega arith)
+
+  at-two : 1 < top s → (e : ℕ) → many s v 2 e ≤ 2
+  at-two h e = omega (arith, next s v 1 1 at-one e, ends-two h e)
+
+  above : (r k : ℕ) → 1 ≤ r → suc r < top s → ((f : ℕ) → many s v r f ≤ k) → (e : ℕ) → many s v (suc (suc r)) e ≤ mostEntries * k
   above r k a b h e = le-trans (over s v r k h e) (mul-le-mul (entries-in (suc r) (omega arith) b) (le-refl k))
 
-  pub few-flags : top s ≤ maxRank → length (flags s) ≤ 2 ^ 30
-  unfolding flags flagsTo
-  few-flags h = go (top s) refl
-    where
-      go : (R : ℕ) → top s ≡ R → many s v R 0 ≤ 2 ^ 30
-      go zero e = omega arith
-      go (suc zero) e = omega (arith, at-one 0)
-      go (suc (suc zero)) e = omega (arith, at-two (omega arith) 0)
-      go (suc (suc (suc zero))) e = omega (arith, above 1 1 (omega arith) (omega arith) at-one 0)
-      go (suc (suc (suc (suc zero)))) e = omega (arith, above 2 maxCount (omega arith) (omega arith) (at-two (omega arith)) 0)
-      go (suc (suc (suc (suc (suc zero))))) e = omega (arith, above 3 ((maxRank - 1) * maxEntries) (omega arith) (omega arith) (λ f. omega (arith, above 1 1 (omega arith) (omega arith) at-one f)) 0)
-      go (suc (suc (suc (suc (suc (suc R)))))) e = absurd (omega arith)
+  to-rank : (r : ℕ) → r ≤ top s → (e : ℕ) → many s v r e ≤ flagLimit r
+  unfolding flagsTo flagLimit
+  to-rank zero h e = omega arith
+  to-rank (suc zero) h e = at-one e
+  to-rank (suc (suc zero)) h e = at-two h e
+  to-rank (suc (suc (suc r))) h e = above (suc r) (flagLimit (suc r)) (omega arith) (omega arith) (to-rank (suc r) (omega arith)) e
+
+  pub few-flags : top s ≤ maxRank → length (flags s) < 2 ^ 32
+  unfolding flags
+  few-flags h =
+      omega (
+        arith,
+        to-rank (top s) (omega arith) 0,
+        ltb-true (flagLimit (top s)) (2 ^ 32) (every-in (λ r. ltb (flagLimit r) (2 ^ 32)) (range 0 (suc maxRank)) limits-fit (top s) (in-range 0 (suc maxRank) (top s) (omega arith) (omega arith))),
+      )

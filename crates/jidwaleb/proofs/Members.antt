@@ -5,7 +5,6 @@ use mathlib.Core.Bool.{Bool, true, false}
 use mathlib.Core.Option.{Option, none, some}
 use mathlib.Core.List.{List, [], _∷_}
 use Prim.Native.Nat.{ℕ, suc, _-_, _*_, _^_, _≤_, _<_, zero-le}
-use native.Mathlib.Nat.{le-trans}
 use native.Mathlib.Omega.{arith}
 use lib.ListN.{length}
 use lib.Dec.{leb, eqb, ltb}
@@ -28,7 +27,7 @@ use Rattle.laws.proofs.Marked.{both}
 use Rattle.laws.proofs.Accepted as accepted
 use Rattle.laws.proofs.Accepted.{same, le-test, bound-to, then-to, every-passed}
 use Rattle.laws.proofs.Shapes.{wanted-some}
-use Rattle.laws.proofs.Exchange.{top-same, size-same, entries-same, every-exchange}
+use Rattle.laws.proofs.Exchange.{top-same, entries-same, every-exchange}
 use Rattle.sheet.proofs.Laws.{entries-is, header-small}
 use Rattle.search.proofs.Tested.{far-low}
 use Rattle.jidwaleb.proofs.Flagged.{few-flags}
@@ -76,7 +75,7 @@ kept-count (x ∷ l) kept = go (ltb (length kept) (length (x ∷ l)))
 -- ---- the members of a call
 
 abbrev Few : Judged (Concrete × List Member) → Type 0
-Few o = (y : Concrete × List Member) → o ≡ passed y → length (y .1) ≤ 2 ^ 30
+Few o = (y : Concrete × List Member) → o ≡ passed y → length (y .1) < 2 ^ 32
 
 found-count : (o : Judged (Concrete × List Member)) (m : Room) → Few o → answerCount (outcome o m .answer) < 2 ^ 32
 unfolding outcome
@@ -87,15 +86,14 @@ found-count (passed y) m h =
 
 -- A solid as it is searched has few flags, too.
 exchanged-few : (b : List ℕ) (words floats : ℕ) (c : Concrete) → preflight b words floats ≡ passed c → 2 ≤ top (c .abs)
-    → (f : ℕ) → f < size (c .abs) (top (c .abs) - 1) → length (flags (exchangedIn (c .abs) f)) ≤ 2 ^ 30
+    → (f : ℕ) → f < size (c .abs) (top (c .abs) - 1) → length (flags (exchangedIn (c .abs) f)) < 2 ^ 32
 exchanged-few b words floats c e tall f low =
     let s = c .abs in
     let p = every-passed b words floats c e in
     let t = top-same s tall f low in
     let k = every-exchange s (p .sound) (p .diamonds) (p .filled) tall f low in
     let small : entries s ≤ (maxRank - 1) * maxEntries = omega (arith, ap entries (p .solid), entries-is b (p .parsed) (p .read), header-small b (p .parsed) (p .read) .entries) in
-    few-flags (exchangedIn s f) (k .sound)
-    (λ r h. omega (arith, size-same s tall f low r, p .sizes r (omega arith) .1))
+    few-flags (exchangedIn s f) (k .sound) (k .diamonds) (k .filled)
     (omega (arith, entries-same s tall f low))
     (omega (arith, p .tall))
 
@@ -120,7 +118,7 @@ searched-is c w e =
       ),
     )
 
-search-few : (b : List ℕ) (words floats : ℕ) (c : Concrete) → preflight b words floats ≡ passed c → (ms : List Member) → search c ≡ passed ms → length ms ≤ 2 ^ 30
+search-few : (b : List ℕ) (words floats : ℕ) (c : Concrete) → preflight b words floats ≡ passed c → (ms : List Member) → search c ≡ passed ms → length ms < 2 ^ 32
 unfolding search exchanged
 search-few b words floats c e ms q =
     let h = bound-to (setting c) _ ms q in
@@ -134,13 +132,13 @@ unfolding membersIn
 all-few b words floats y e =
     let h₁ = bound-to (preflight b words floats) _ y e in
     let h₂ = bound-to (search (h₁ .0)) _ y (h₁ .2) in
-    subst (λ (z : Concrete × List Member). length (z .1) ≤ 2 ^ 30) (same _ y (h₂ .2)) (search-few b words floats (h₁ .0) (h₁ .1) (h₂ .0) (h₂ .1))
+    subst (λ (z : Concrete × List Member). length (z .1) < 2 ^ 32) (same _ y (h₂ .2)) (search-few b words floats (h₁ .0) (h₁ .1) (h₂ .0) (h₂ .1))
 
 turns-few : (b : List ℕ) (words floats : ℕ) → Few (rotationsIn b words floats)
 unfolding rotationsIn
 turns-few b words floats y e =
     let h = bound-to (membersIn b words floats) _ y e in
-    subst (λ (z : Concrete × List Member). length (z .1) ≤ 2 ^ 30) (same _ y (h .2)) (le-trans (rotations-few (h .0 .1)) (all-few b words floats (h .0) (h .1)))
+    subst (λ (z : Concrete × List Member). length (z .1) < 2 ^ 32) (same _ y (h .2)) (omega (arith, rotations-few (h .0 .1), all-few b words floats (h .0) (h .1)))
 
 pub search-count : (b : List ℕ) (words floats : ℕ) (old : SearchOut) → answerCount (searchCall b words floats old .0) < 2 ^ 32
 unfolding searchCall searchWritten
