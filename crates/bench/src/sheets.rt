@@ -1,15 +1,24 @@
 // This module judges large sheets again and again.
 ghost use Prim.Native.Nat.{_<_};
+use spec::MAX_COUNT;
+use spec::MAX_DIMENSION;
+use spec::MAX_ENTRIES;
+use spec::MAX_RANK;
 use wire::Run;
 use wire::writing;
 
-// There is room for the longest sheet there is, and for the workspace of the largest solid: 16 * (8,192 + 24,576 + 4) words and 8 * (8,192 + 8)
-// floats.
-const BYTES: usize = 131072;
+// The largest solid has this many proper elements, and its sheet this many list entries, which lie in the ranks from 2 on.
+const ELEMENTS: usize = (MAX_RANK - 1) * MAX_COUNT;
 
-const WORDS: usize = 524352;
+const ENTRIES: usize = (MAX_RANK - 2) * MAX_ENTRIES;
 
-const FLOATS: usize = 65600;
+// There is room for the longest sheet there is, with eight bytes for each coordinate, and two bytes for each count, length and sub; and for the
+// workspace of the largest solid.
+const BYTES: usize = 8 * (MAX_COUNT * MAX_DIMENSION) + 2 * (MAX_RANK + ELEMENTS + ENTRIES);
+
+const WORDS: usize = 16 * (ELEMENTS + ENTRIES + 4);
+
+const FLOATS: usize = 8 * (ELEMENTS + 8);
 
 // Prints the number of the refusal, or 0, and how many words the solid takes.
 fn print(run: Run, sheet: &[u8], words: &mut [u32], floats: &mut [f64]) -> Run {
