@@ -25,7 +25,7 @@ above n h = omega arith
 upto2 : (c : tie.Else2) → (let a = c .before .before .before .before .args in cutSheet (a .d) (a .from .now) (a .turns .now) ≡ judgeCopy (a .d) (a .from .now) (a .turns .now))
 upto2 c =
     let a = c .before .before .before .before .args in
-    both-pass Format (leb 1 (a .d)) (leb (a .d) maxDimension) (cutSheet (a .d) (a .from .now) (a .turns .now)) (le-leb 1 (a .d) (c .before .if1 .left)) (le-leb (a .d) 4 (c .if2 .left))
+    both-pass Format (leb 1 (a .d)) (leb (a .d) maxDimension) (cutSheet (a .d) (a .from .now) (a .turns .now)) (le-leb 1 (a .d) (c .before .if1 .left)) (le-leb (a .d) maxDimension (c .if2 .left))
     ∙ sym (judgements (a .d) (a .from .now) (a .turns .now))
 
 upto4 : (c : tie.Else4) →
@@ -53,7 +53,7 @@ returns c =
 returns-2 : tie.Need-returns-2
 returns-2 c =
     let a = c .before .before .before .before .args in
-    second-fails Format (leb 1 (a .d)) (leb (a .d) maxDimension) (cutSheet (a .d) (a .from .now) (a .turns .now)) (le-leb 1 (a .d) (c .before .if1 .left)) (lt-leb (a .d) 4 (c .if2 .taken))
+    second-fails Format (leb 1 (a .d)) (leb (a .d) maxDimension) (cutSheet (a .d) (a .from .now) (a .turns .now)) (le-leb 1 (a .d) (c .before .if1 .left)) (lt-leb (a .d) maxDimension (c .if2 .taken))
     ∙ sym (judgements (a .d) (a .from .now) (a .turns .now))
 
 returns-3 : tie.Need-returns-3
