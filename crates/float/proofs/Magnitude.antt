@@ -70,10 +70,18 @@ eqb-swap a b = go (eqb b a) refl
     go true e = eq-eqb a b (sym (eqb-true b a e))
     go false e = ne-eqb a b (λ h. eqb-false b a e (sym h))
 
-pub within-is : (x : Float) (n : ℕ) (d : ℤ) → (le x (fin false n d) && le (neg (fin false n d)) x) ≡ le (absF x) (fin false n d)
+within-is : (x : Float) (n : ℕ) (d : ℤ) → (le x (fin false n d) && le (neg (fin false n d)) x) ≡ le (absF x) (fin false n d)
 unfolding le lt eq neg absF
 within-is nan n d = refl
 within-is (inf false) n d = refl
 within-is (inf true) n d = refl
 within-is (fin false m e) n d = rw (under (n * up d * down e) (m * up e * down d)) (sym (and-true _))
 within-is (fin true m e) n d = rw (under (m * up e * down d) (n * up d * down e), eqb-swap (n * up d * down e) (m * up e * down d))
+
+-- So where the number is not above the bound, the test of the other side decides; where it is above, the magnitude is too.
+module _ (x : Float) (n : ℕ) (d : ℤ) where
+  pub not-above : le x (fin false n d) ≡ true → le (neg (fin false n d)) x ≡ le (absF x) (fin false n d)
+  not-above h = rw h at (within-is x n d)
+
+  pub is-above : le x (fin false n d) ≡ false → false ≡ le (absF x) (fin false n d)
+  is-above h = rw h at (within-is x n d)
