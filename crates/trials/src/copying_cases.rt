@@ -31,6 +31,15 @@ fn turns() -> [f64; 432]
     axes::axis_turns(&table)
 }
 
+// Copies one point under the 48.
+fn copies_of(point: [f64; 3], copies: &mut [f64], cells: &mut [u16]) -> Answer
+    ensures { λ r. ⌜ (r, now (copies .exit), now (cells .exit))
+        ≡ copyCall 3 point (join (join axisOrders)) (now (copies .entry)) (now (cells .entry)) ⌝ }
+{
+    let turns = turns();
+    copying::copy(3, &point, &turns, copies, cells)
+}
+
 // Copies (1,0,0) under the 48, with room for just the 6 copies.
 pub fn six_copies(copies: &mut [f64], cells: &mut [u16]) -> Answer
     requires { ⌜ (length (now copies) ≡ 18) × (length (now cells) ≡ 288) ⌝ }
@@ -39,8 +48,7 @@ pub fn six_copies(copies: &mut [f64], cells: &mut [u16]) -> Answer
     ensures { λ r. ⌜ r ≡ Done 6 ⌝ }
 {
     let point = [1.0, 0.0, 0.0];
-    let turns = turns();
-    copying::copy(3, &point, &turns, copies, cells)
+    copies_of(point, copies, cells)
 }
 
 // Copies (1,1,1) under the 48, with room for just the 8 copies.
@@ -51,8 +59,7 @@ pub fn eight_copies(copies: &mut [f64], cells: &mut [u16]) -> Answer
     ensures { λ r. ⌜ r ≡ Done 8 ⌝ }
 {
     let point = [1.0, 1.0, 1.0];
-    let turns = turns();
-    copying::copy(3, &point, &turns, copies, cells)
+    copies_of(point, copies, cells)
 }
 
 // Copies (1,2,3) under the 48, with room for just the 48 copies.
@@ -64,8 +71,7 @@ pub fn forty_eight_copies(copies: &mut [f64], cells: &mut [u16]) -> Answer
     ensures { λ r. ⌜ r ≡ Done 48 ⌝ }
 {
     let point = [1.0, 2.0, 3.0];
-    let turns = turns();
-    copying::copy(3, &point, &turns, copies, cells)
+    copies_of(point, copies, cells)
 }
 
 // Copies (1,0) under a quarter turn alone, with room for the one copy. The image of that copy is not among the copies.

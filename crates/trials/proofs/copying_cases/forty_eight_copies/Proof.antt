@@ -13,19 +13,9 @@ returns : tie.Need-returns
 unfolding zeroF oneF ofBits
 returns c =
     let w = c .before .before .before .before in
-    let t = w .before .before .before .before .before in
-    let s = t .before .before .before in
-    let e = rw (t .turns .ensures) at (w .copy .ensures) in
+    let e = w .copies-of .ensures in
+    let s = w .before .before .before .before .before in
     (e, ap (λ x. x .0) e ∙ call-zeros 3 48 _ _ _ _ (s .pre .0) (s .pre .1) ∙ trials .forty-eight-copies)
 
 pub forty-eight-copies-spec : {M : Type 1} → statement M
-forty-eight-copies-spec =
-    tie.close
-    (tie.spec
-    (λ c κs. search needs)
-    (λ c. search needs)
-    (λ c. search needs)
-    (λ c κs. search needs)
-    (λ c. search needs)
-    (λ c. search needs)
-    returns)
+forty-eight-copies-spec = tie.close (tie.spec (λ c κs. search needs) (λ c. search needs) (λ c. search needs) returns)
