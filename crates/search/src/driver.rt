@@ -69,7 +69,7 @@ fn from11(
         r (outOf (now (matrices .exit)) (now (rows .exit)) (now (marks .exit))) ⌝ }
 {
     let mut found = false;
-    let inverse = first_inverse(&words[..sh.low], sh, floats, &mut found);
+    let inverse = first_inverse(sh.lists(words), sh, floats, &mut found);
     if !is_regular(found, inverse, sh.dimension) {
         return Answer::Refused(Refusal::Flat, 0);
     }
@@ -121,7 +121,7 @@ fn from10(
         (outOf (now (matrices .entry)) (now (rows .entry)) (now (marks .entry)))
         r (outOf (now (matrices .exit)) (now (rows .exit)) (now (marks .exit))) ⌝ }
 {
-    let far = first_far(&words[..sh.low], sh, floats);
+    let far = first_far(sh.lists(words), sh, floats);
     match far {
         Far::Nothing => Answer::Refused(Refusal::Centred, 0),
         Far::Facet(f) => {

@@ -26,7 +26,7 @@ fn restore(words: &mut [u32], sh: Shape, f: usize, floats: &mut [f64])
         return;
     }
     exchange(words, sh, f);
-    all_classes(&words[..sh.low], sh, floats);
+    all_classes(sh.lists(words), sh, floats);
     write_fingerprints(words, sh);
 }
 
@@ -38,7 +38,7 @@ fn write_marks(words: &[u32], sh: Shape, floats: &[f64], rows: &[u16], marks: &m
         ≡ marksIn (solidIn sh (now (words .entry)) (now (floats .entry))) (parts (length (now (marks .entry))) (sizeAt sh 1) (now (rows .entry))) ⌝ }
 {
     let apart = are_apart(words, sh);
-    mark_rows(&words[..sh.low], sh, floats, apart, rows, marks);
+    mark_rows(sh.lists(words), sh, floats, apart, rows, marks);
 }
 
 // Writes the marks of the n members that are listed. The words and floats hold the solid that was searched, in which facet f of the solid as read

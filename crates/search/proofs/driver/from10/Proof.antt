@@ -1,14 +1,16 @@
 -- The judgement behind refusal 10, the exchange, and what follows give the rest of the call.
 -- Assumes nothing.
 use borrow.Author.Needs.{needs}
-use native.Mathlib.Omega.{arith}
-use mathlib.Core.Path.{sym}
+use mathlib.Core.Path.{_≡_}
 use Prim.Native.Nat.{_-_, _≤_, _<_}
-use lib.Seq.{length-take-le}
+use Rattle.spec.specs.Lists.{range}
+use Rattle.spec.specs.Search.{firstFar}
 use Rattle.spec.specs.Calls.{SearchOut}
 use Rattle.ranked.specs.Words.{sizeAt}
+use Rattle.ranked.specs.Layout.{solidIn}
 use Rattle.preflight.proofs.Benches.{laid}
 use Rattle.symmetry.specs.Tails.{outOf}
+use Rattle.search.specs.Reading.{farOf}
 use Rattle.search.proofs.Benched.{coordinates-in}
 use Rattle.search.proofs.Steps.{centred, facet-in, exchanged-bench, exchanged-parted, far-off}
 use Rattle.search.proofs.driver.from10.Statement.{statement}
@@ -18,10 +20,16 @@ abbrev old : tie.Start → SearchOut
 old s = outOf (s .args .matrices .now) (s .args .rows .now) (s .args .marks .now)
 
 entry : (c : tie.After-first-far) → tie.Start
-entry c = c .before .before .before .before .before .before .before .before
+entry c = c .before .before .before .before .before .before .before .before .before
 
 far : (c : tie.After-far) → tie.After-first-far
 far c = c .before .before
+
+-- What is found is the first far facet of the solid, if it has one.
+far-is : (c : tie.After-first-far) → let a = entry c .args in
+    farOf (c .first-far .result) ≡ firstFar (solidIn (a .sh) (a .words .now) (a .floats .now)) (range 0 (sizeAt (a .sh) (a .sh .rank - 1)))
+unfolding entry
+far-is c = rw (c .before .before .lists .ensures) at (c .first-far .ensures)
 
 -- The facet that is found is one of the solid's.
 found : (c : tie.After-far) → let sh = entry (far c) .args .sh in (2 ≤ sh .rank) × (c .far .given .0 .0 < sizeAt sh (sh .rank - 1))
@@ -29,17 +37,18 @@ unfolding entry far
 found c =
     let r = far c in
     let s = entry r in
-    facet-in (s .args .sh) (s .args .words .now) (s .args .floats .now) (s .pre .1 .0) _ (r .first-far .ensures) _ (c .far .given .1)
+    facet-in (s .args .sh) (s .args .words .now) (s .args .floats .now) (s .pre .1 .0) _ (far-is r) _ (c .far .given .1)
 
 pub from10-spec : {M : Type 1} → statement M
 unfolding entry far
 from10-spec =
     tie.close
     (tie.spec
-    -- The needs are slice-reshare-prefix-first-far, slice-aggregate-first-far and first-far-requires.
-    (λ c. let s = c .before .before .before .before .before in omega (arith, s .pre .0 .words-in))
-    (λ c. let s = c .before .before .before .before .before .before in sym (length-take-le (s .args .sh .low) (s .args .words .now) (s .pre .0 .words-in)))
-    (λ c κs. let s = c .before .before .before .before .before .before .before in (s .pre .0 .held, (s .pre .1 .0, coordinates-in (s .pre .0))))
+    -- The needs are lists-requires and first-far-requires.
+    (λ c κs. c .before .before .before .before .before .before .pre .0 .words-in)
+    (λ c κs. let l = c .before in
+    let s = l .before .before .before .before .before .before .before in
+    (rw (l .lists .ensures) (s .pre .0 .held), (s .pre .1 .0, coordinates-in (s .pre .0))))
     -- The needs are enum-told, enum-known-far, exchange-requires and from15-requires.
     (λ c. search needs)
     (λ c. search needs)
@@ -49,8 +58,8 @@ from10-spec =
     let r = far v in
     let s = entry r in
     let a = s .args in (
-      exchanged-bench (a .sh) (a .words .now) (a .floats .now) (s .pre .1 .0) _ (r .first-far .ensures) _ (v .far .given .1) (s .pre .0) _ (x .exchange .ensures .0) (x .exchange .ensures .1 .0),
-      (found v, exchanged-parted (a .sh) (a .words .now) (a .floats .now) (s .pre .1 .0) _ (r .first-far .ensures) _ (v .far .given .1) (s .pre .0) _ (x .exchange .ensures .0) (s .pre .1 .1)),
+      exchanged-bench (a .sh) (a .words .now) (a .floats .now) (s .pre .1 .0) _ (far-is r) _ (v .far .given .1) (s .pre .0) _ (x .exchange .ensures .0) (x .exchange .ensures .1 .0),
+      (found v, exchanged-parted (a .sh) (a .words .now) (a .floats .now) (s .pre .1 .0) _ (far-is r) _ (v .far .given .1) (s .pre .0) _ (x .exchange .ensures .0) (s .pre .1 .1)),
     ))
     -- The needs are same-length, same-length-2 and returns.
     (λ c. search needs)
@@ -58,7 +67,7 @@ from10-spec =
     (λ c. let r = c .before .before in
     let s = entry r in
     let a = s .args in
-    centred (a .sh) (a .words .now) (a .floats .now) (s .pre .1 .0) _ (r .first-far .ensures) (a .rotations) (old s) (c .enum-told .given .1))
+    centred (a .sh) (a .words .now) (a .floats .now) (s .pre .1 .0) _ (far-is r) (a .rotations) (old s) (c .enum-told .given .1))
     -- The needs are same-length-3 to same-length-7 and returns-2.
     (λ c. search needs)
     (λ c. search needs)
@@ -71,4 +80,4 @@ from10-spec =
     let r = far v in
     let s = entry r in
     let a = s .args in
-    far-off (a .sh) (a .words .now) (a .floats .now) (s .pre .1 .0) _ (r .first-far .ensures) _ (v .far .given .1) (s .pre .0) _ (x .exchange .ensures .0) (a .rotations) (old s) _ (k .from15 .ensures)))
+    far-off (a .sh) (a .words .now) (a .floats .now) (s .pre .1 .0) _ (far-is r) _ (v .far .given .1) (s .pre .0) _ (x .exchange .ensures .0) (a .rotations) (old s) _ (k .from15 .ensures)))

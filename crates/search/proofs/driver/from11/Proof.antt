@@ -2,11 +2,16 @@
 -- Assumes nothing.
 use borrow.Author.Needs.{needs}
 use borrow.Author.Tests.{not-true, not-false}
-use native.Mathlib.Omega.{arith}
-use mathlib.Core.Path.{sym}
-use lib.Seq.{length-take-le}
+use mathlib.Core.Path.{_≡_, ap, _∙_}
+use mathlib.Core.List.{List}
+use Prim.Native.Nat.{ℕ}
+use Rattle.spec.specs.Matrix.{inverse}
+use Rattle.spec.specs.Flags.{firstFlag}
+use Rattle.spec.specs.Search.{flagColumns}
 use Rattle.spec.specs.Calls.{SearchOut}
-use Rattle.ranked.specs.Layout.{solidIn}
+use Rattle.matrix.specs.Reading.{corner, ifRegular}
+use Rattle.ranked.specs.Words.{absIn}
+use Rattle.ranked.specs.Layout.{solidOn, solidIn}
 use Rattle.symmetry.specs.Tails.{outOf}
 use Rattle.search.proofs.Benched.{coordinates-in, fingerprints-in, searching, marks-ready}
 use Rattle.search.proofs.Steps.{flat, not-flat}
@@ -21,7 +26,19 @@ inverted : (c : tie.After-is-regular) → tie.After-first-inverse
 inverted c = c .before
 
 entry : (c : tie.After-is-regular) → tie.Start
-entry c = inverted c .before .before .before .before .before .before .before .before .before
+entry c = inverted c .before .before .before .before .before .before .before .before .before .before
+
+-- What is found is the inverse of the first flag's columns in the solid.
+inverse-is : (c : tie.After-is-regular) → let i = inverted c .first-inverse in
+    let a = entry c .args in
+    let d = solidIn (a .sh) (a .words .now) (a .floats .now) in
+    ifRegular (i .last .1 .1 .1 .0) (corner (a .sh .dimension) (i .result)) ≡ inverse (flagColumns d (firstFlag (d .abs)))
+unfolding inverted entry
+inverse-is c =
+    let i = inverted c in
+    let a = entry c .args in
+    i .first-inverse .ensures
+    ∙ ap (λ (w : List ℕ). inverse (flagColumns (solidOn (a .sh) w (a .floats .now)) (firstFlag (absIn (a .sh) w)))) (i .before .before .before .lists .ensures)
 
 judged : (c : tie.After-write-fingerprints) → tie.After-is-regular
 judged c = c .before .before .before
@@ -34,19 +51,19 @@ unfolding inverted entry judged printed
 from11-spec =
     tie.close
     (tie.spec
-    -- The needs are slice-reshare-prefix-first-inverse, slice-aggregate-first-inverse, first-inverse-requires and is-regular-requires.
-    (λ c. let s = c .before .before .before .before .before in omega (arith, s .pre .0 .words-in))
-    (λ c. let s = c .before .before .before .before .before .before in sym (length-take-le (s .args .sh .low) (s .args .words .now) (s .pre .0 .words-in)))
-    (λ c κs. let s = c .before .before .before .before .before .before .before .before in (s .pre .0 .held, (s .pre .0 .diamonds, (s .pre .1 .0 .0, coordinates-in (s .pre .0)))))
-    (λ c κs. c .before .before .before .before .before .before .before .before .before .pre .0 .held .wide)
+    -- The needs are lists-requires, first-inverse-requires and is-regular-requires.
+    (λ c κs. c .before .before .before .before .before .before .pre .0 .words-in)
+    (λ c κs. let l = c .before .before in
+    let s = l .before .before .before .before .before .before .before in
+    rw (l .lists .ensures) (s .pre .0 .held, (s .pre .0 .diamonds, (s .pre .1 .0 .0, coordinates-in (s .pre .0)))))
+    (λ c κs. c .before .before .before .before .before .before .before .before .before .before .pre .0 .held .wide)
     -- The needs are same-length, same-length-2 and returns.
     (λ c. search needs)
     (λ c. search needs)
     (λ c. let r = c .before in
-    let i = inverted r in
     let s = entry r in
     let a = s .args in
-    flat _ (solidIn (a .sh) (a .words .now) (a .floats .now)) _ _ _ (i .first-inverse .ensures) _ (r .is-regular .ensures) (a .rotations) (old s) (not-true _ (c .if1 .taken)))
+    flat _ (solidIn (a .sh) (a .words .now) (a .floats .now)) _ _ _ (inverse-is r) _ (r .is-regular .ensures) (a .rotations) (old s) (not-true _ (c .if1 .taken)))
     -- The needs are write-fingerprints-requires and list-members-requires.
     (λ c κs. let b = entry (c .before .before) .pre .0 in (b .held, fingerprints-in b))
     (λ c κs. let p = c .before .before .before .before .before .before in
@@ -75,9 +92,8 @@ from11-spec =
     let l = m .before .before .before .before .before .before .before .before .before in
     let p = printed l in
     let r = judged p in
-    let i = inverted r in
     let s = entry r in
     let a = s .args in
-    not-flat _ (solidIn (a .sh) (a .words .now) (a .floats .now)) _ _ _ (i .first-inverse .ensures) _ (r .is-regular .ensures) (a .rotations) (old s) (not-false _ (p .before .before .if1 .left)) _
+    not-flat _ (solidIn (a .sh) (a .words .now) (a .floats .now)) _ _ _ (inverse-is r) _ (r .is-regular .ensures) (a .rotations) (old s) (not-false _ (p .before .before .if1 .left)) _
     (all-listed _ _ _ (p .write-fingerprints .kept .0) (p .write-fingerprints .ensures .0) (s .pre .1 .1 .0 .0) _ (a .f) _ (a .rotations) (old s) _ _ _ (l .list-members .ensures)
     _ (c .answer-of .ensures) _ (m .mark-members .ensures))))

@@ -1,9 +1,6 @@
 -- Where facet 0 was searched from, nothing is to do; else the facets go back, and the classes and the fingerprints are worked out.
 -- Assumes nothing.
 use borrow.Author.Needs.{needs}
-use native.Mathlib.Omega.{arith}
-use mathlib.Core.Path.{sym}
-use lib.Seq.{length-take-le}
 use Rattle.preflight.specs.Bench.{Bench}
 use Rattle.preflight.proofs.Benches.{laid}
 use Rattle.geometry.proofs.elements.Room.{roomy-floats}
@@ -27,17 +24,19 @@ restore-spec =
     -- The needs are returns and exchange-requires.
     (λ c. let s = c .before .before .before in (s .pre .0, exchanged-none _ _ (c .if1 .taken)))
     (λ c κs. let s = c .before .before .before .before in (laid (s .pre .0 .bench), s .pre .1))
-    -- The needs are slice-reshare-prefix-all-classes, slice-aggregate-all-classes and all-classes-requires.
-    (λ c. omega (arith, back (c .before .before) .words-in))
-    (λ c. let x = c .before .before .before in sym (length-take-le (entry x .args .sh .low) (x .exchange .last .0) (back x .words-in)))
-    (λ c κs. let b = back (c .before .before .before .before) in (b .held, roomy-floats _ _ (b .held) _ (b .floats)))
+    -- The needs are lists-requires and all-classes-requires.
+    (λ c κs. back (c .before .before .before) .words-in)
+    (λ c κs. let l = c .before in
+    let b = back (l .before .before .before .before) in
+    (rw (l .lists .ensures) (b .held), roomy-floats _ _ (b .held) _ (b .floats)))
     -- The need is write-fingerprints-requires.
-    (λ c κs. let b = back (c .before .before .before .before .before .before .before .before) in (b .held, fingerprints-in b))
+    (λ c κs. let b = back (c .before .before .before .before .before .before .before .before .before) in (b .held, fingerprints-in b))
     -- The needs are same-length, same-length-2 and returns-2.
     (λ c. search needs)
     (λ c. search needs)
     (λ c. let w = c .before .before in
     let a = w .before .before .before .before in
-    let x = a .before .before .before .before .before in
+    let l = a .before .before in
+    let x = l .before .before .before .before in
     let s = entry x in
-    restored (s .pre .0) _ (s .pre .1) _ (x .exchange .ensures .0) (x .exchange .ensures .1 .0) _ _ (a .all-classes .ensures) _ (w .write-fingerprints .kept .0) (w .write-fingerprints .ensures .0) (w .write-fingerprints .ensures .1)))
+    restored (s .pre .0) _ (s .pre .1) _ (x .exchange .ensures .0) (x .exchange .ensures .1 .0) _ _ (rw (l .lists .ensures) at (a .all-classes .ensures)) _ (w .write-fingerprints .kept .0) (w .write-fingerprints .ensures .0) (w .write-fingerprints .ensures .1)))

@@ -1,8 +1,6 @@
 -- Whether the vertex sets are apart is told first, and then the marks are written.
 -- Assumes nothing.
 use borrow.Author.Needs.{needs}
-use mathlib.Core.Path.{sym}
-use lib.Seq.{length-take-le}
 use Rattle.preflight.proofs.Benches.{elements-few}
 use Rattle.search.proofs.marking.write_marks.Statement.{statement}
 use Rattle.search.proofs.marking.write_marks.Tie as tie
@@ -17,12 +15,13 @@ write-marks-spec =
     (tie.spec
     -- The need is are-apart-requires.
     (λ c κs. c .before .before .before .before .pre .0 .fingerprints)
-    -- The needs are slice-aggregate-mark-rows and mark-rows-requires.
-    (λ c. let s = entry (c .before) in sym (length-take-le (s .args .sh .low) (s .args .words .now) (s .pre .0 .bench .words-in)))
-    (λ c κs. let a = c .before .before in
+    -- The needs are lists-requires and mark-rows-requires.
+    (λ c κs. entry c .pre .0 .bench .words-in)
+    (λ c κs. let l = c .before in
+    let a = l .before in
     let s = entry a in
     let m = s .pre .0 in
-    ((record { held = m .bench .held; classes = m .classes; room = elements-few (m .bench) }, a .are-apart .ensures), s .pre .1))
+    rw (l .lists .ensures) ((record { held = m .bench .held; classes = m .classes; room = elements-few (m .bench) }, a .are-apart .ensures), s .pre .1))
     -- The needs are same-length and returns.
     (λ c. search needs)
-    (λ c. c .before .before .mark-rows .ensures))
+    (λ c. let k = c .before .before in rw (k .before .before .lists .ensures) at (k .mark-rows .ensures)))
