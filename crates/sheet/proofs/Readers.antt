@@ -306,5 +306,6 @@ ranks-size b (c ∷ d ∷ l) i y h e =
     let r = ranks-size b (d ∷ l) (h₁ .0 .1) (h₂ .0) (λ k. h (suc k)) (h₂ .1) in
     le-trans (le-of-eq (ap (λ z. z .1) (sym (same _ y (h₂ .2))))) (far i (h₁ .0 .1) (h₂ .0 .1) d (rankEntries (h₁ .0 .0)) (length l) (h 1) (p .0) (p .1) r)
   where
-    far : (i j k d u n : ℕ) → d ≤ maxCount → 0 + u ≤ maxEntries → j ≡ i + 12 * d + 11 * u → k ≤ j + 114688 * suc n → k ≤ i + 114688 * suc (suc n)
+    far : (i j k d u n : ℕ) → d ≤ maxCount → 0 + u ≤ maxEntries → j ≡ i + 12 * d + 11 * u → k ≤ j + (12 * maxCount + 11 * maxEntries) * suc n
+        → k ≤ i + (12 * maxCount + 11 * maxEntries) * suc (suc n)
     far i j k d u n a b p q = omega arith
