@@ -9,89 +9,40 @@ use lib.ListN.{length, take, replicate, length-replicate}
 use lib.Seq.{take-take}
 use lib.Ieee.{Float}
 use Rattle.spec.specs.Limits.{maxElements}
-use Rattle.spec.specs.Types.{Solid, top, size, properRanks, elements}
+use Rattle.spec.specs.Types.{Solid, size, elements}
 use Rattle.spec.specs.Float.{zeroF}
 use Rattle.spec.specs.Solid.{entries}
 use Rattle.ranked.specs.declared.Shape.{Shape}
-use Rattle.ranked.specs.Words.{firstAt, sizeAt, total, listsOf, absIn, Held}
-use Rattle.preflight.specs.Derive.{pairs, running}
-use Rattle.preflight.specs.Store.{subEntries, lowOf, baseOf}
+use Rattle.ranked.specs.Words.{total, listsOf, absIn, Held}
+use Rattle.preflight.specs.Derive.{pairs}
+use Rattle.ranked.specs.Layout.{subEntries, lowOf, baseOf}
 use Rattle.preflight.specs.Bench.{Bench, Laid}
-use Rattle.ranked.proofs.Solids.{top-is, size-is, size-past}
-use Rattle.preflight.proofs.Entries.{sub-entries-is, pairs-are}
-use Rattle.preflight.proofs.store.Pairs.{running-up}
-use Rattle.preflight.proofs.store.Whole.{sum-before}
+use Rattle.ranked.proofs.Low.{entries-0, entries-1, sub-entries-is}
+use Rattle.ranked.proofs.Solids.{size-is}
+use Rattle.ranked.proofs.Counted.{total-few, vertices-few}
+pub use Rattle.ranked.proofs.Counted.{proper-few}
+use Rattle.preflight.proofs.Entries.{pairs-are}
 
--- ---- the numbers of elements
+-- ---- the number of entries
 
 module _ (sh : Shape) (w : List ℕ) (h : Held sh w) where
   abbrev s : Solid
   s = absIn sh w
 
-  -- The offset of rank r is the number of elements below it.
-  below : (r : ℕ) → r ≤ suc (sh .rank) → firstAt sh r ≡ running 0 (λ q. size s q) r
-  unfolding running
-  below zero k = h .start
-  below (suc r) k = omega (arith, below r (omega arith), size-is sh w r (omega arith), h .some r (omega arith))
-
-  least-one : size s 0 ≡ 1
-  least-one = ap length (h .sound .least)
-
-  top-one : size s (sh .rank) ≡ 1
-  top-one = rw (top-is sh w) at (h .sound .one)
-
-  -- All elements are the E proper ones, the least, and the top.
-  below-top : 0 < sh .rank → running 0 (λ q. size s q) (sh .rank) ≡ 1 + elements s
-  unfolding elements properRanks running
-  below-top k =
-      let t : 1 + (top s - 1) ≡ sh .rank = omega (arith, top-is sh w) in
-      omega (arith, rw t at (sum-before (λ q. size s q) 1 (top s - 1)), least-one)
-
-  total-some : 0 < sh .rank → total sh ≡ elements s + 2
-  unfolding running
-  total-some k = omega (arith, below (suc (sh .rank)) (omega arith), below-top k, top-one)
-
-  total-few : total sh ≤ elements s + 2
-  total-few = go (sh .rank) refl
-    where
-      go : (Q : ℕ) → sh .rank ≡ Q → total sh ≤ elements s + 2
-      go zero e =
-          let a : size s 0 ≡ sizeAt sh 0 = size-is sh w 0 (omega arith) in
-          let t : total sh ≡ firstAt sh 1 = ap (λ (n : ℕ). firstAt sh (suc n)) e in
-          omega (arith, h .start, least-one)
-      go (suc q) e = omega (arith, total-some (omega arith))
-
-  -- A proper rank's elements are among E.
-  pub proper-few : (r : ℕ) → 0 < r → r < sh .rank → size s r ≤ elements s
-  unfolding running
-  proper-few r a b =
-      let u = running-up 0 (λ q. size s q) r (sh .rank) b in
-      let v = running-up 0 (λ q. size s q) 0 r a in
-      omega (arith, below-top (omega arith), least-one)
-
-  pub vertices-few : size s 1 ≤ elements s + 1
-  vertices-few = go (sh .rank) refl
-    where
-      go : (Q : ℕ) → sh .rank ≡ Q → size s 1 ≤ elements s + 1
-      go zero e = omega (arith, size-past sh w 1 (omega arith))
-      go (suc zero) e = let one : size s 1 ≡ 1 = sym (ap (size s) e) ∙ top-one in omega arith
-      go (suc (suc z)) e = omega (arith, proper-few 1 (omega arith) (omega arith))
-
   subs-few : subEntries sh (entries s) ≤ 2 * elements s + entries s + 1
-  unfolding subEntries
   subs-few = go (sh .rank) refl
     where
       go : (Q : ℕ) → sh .rank ≡ Q → subEntries sh (entries s) ≤ 2 * elements s + entries s + 1
-      go zero e = let q : subEntries sh (entries s) ≡ 0 = rw (e, subEntries) in omega (arith, q)
-      go (suc zero) e = let q : subEntries sh (entries s) ≡ 1 = rw (e, subEntries) in omega (arith, q)
+      go zero e = omega (arith, entries-0 sh (entries s) e)
+      go (suc zero) e = omega (arith, entries-1 sh (entries s) e)
       go (suc (suc z)) e =
           omega (
             arith,
             sub-entries-is sh (entries s) z e,
             size-is sh w 1 (omega arith),
             size-is sh w (suc z) (omega arith),
-            proper-few 1 (omega arith) (omega arith),
-            proper-few (suc z) (omega arith) (omega arith),
+            proper-few sh w h 1 (omega arith) (omega arith),
+            proper-few sh w h (suc z) (omega arith) (omega arith),
           )
 
 -- ---- the bench

@@ -13,9 +13,11 @@ use Rattle.spec.specs.Demand.{Rising, Sound}
 use Rattle.spec.specs.Solid.{entries}
 use Rattle.laws.proofs.Lists.{length-range}
 use Rattle.ranked.specs.declared.Shape.{Shape}
-use Rattle.ranked.specs.Words.{sizeAt, absIn}
+use Rattle.ranked.specs.Words.{absIn}
+use Rattle.ranked.specs.Layout.{subEntries}
+use Rattle.ranked.proofs.Low.{entries-0, entries-1}
+pub use Rattle.ranked.proofs.Low.{sub-entries-is}
 use Rattle.preflight.specs.Derive.{pairsTo, pairs, running}
-use Rattle.preflight.specs.Store.{subEntries}
 use Rattle.ranked.proofs.Solids.{top-is, size-is}
 use Rattle.preflight.proofs.store.Flat.{rank-length}
 use Rattle.preflight.proofs.store.SheetSolid.{sum-lengths}
@@ -41,11 +43,6 @@ one-sub (x ∷ []) r b h = refl
 one-sub (x ∷ y ∷ l) r b h = absurd (omega (arith, r .0, b y (inr (inl refl))))
 
 -- ---- the solid
-
--- Where R is two or more, the entries are those of the vertices, of the lists and of the top.
-pub sub-entries-is : (sh : Shape) (I z : ℕ) → sh .rank ≡ suc (suc z) → subEntries sh I ≡ sizeAt sh 1 + I + sizeAt sh (suc z)
-unfolding subEntries
-sub-entries-is sh I z e = rw (e, subEntries)
 
 module _ (sh : Shape) (w : List ℕ) (v : Sound (absIn sh w)) (full : (r e : ℕ) → e < size (absIn sh w) (suc r) → 0 < length (subs (absIn sh w) (suc r) e)) where
   abbrev s : Solid
@@ -89,15 +86,15 @@ module _ (sh : Shape) (w : List ℕ) (v : Sound (absIn sh w)) (full : (r e : ℕ
       ap (λ (g : ℕ → ℕ). sum (map g (range 2 (top s - 2)))) (fun-ext (λ r. sum-lengths (getD s r []))) ∙ ap (λ (n : ℕ). sum (map count (range 2 n))) k
 
   pub pairs-are : length (pairs sh s) ≡ subEntries sh (entries s)
-  unfolding subEntries running
+  unfolding running
   pairs-are = pairs-run (sh .rank) ∙ go (sh .rank) refl
     where
       go : (Q : ℕ) → sh .rank ≡ Q → running 0 count (suc (sh .rank)) ≡ subEntries sh (entries s)
       go zero e =
-          let q : subEntries sh (entries s) ≡ 0 = rw (e, subEntries) in
+          let q = entries-0 sh (entries s) e in
           ap (λ (n : ℕ). running 0 count (suc n)) e ∙ omega (arith, q, none)
       go (suc zero) e =
-          let q : subEntries sh (entries s) ≡ 1 = rw (e, subEntries) in
+          let q = entries-1 sh (entries s) e in
           let t : top s ≡ 1 = top-is sh w ∙ e in
           let one : size s 1 ≡ 1 = sym (ap (size s) t) ∙ v .one in
           ap (λ (n : ℕ). running 0 count (suc n)) e ∙ omega (arith, q, none, vertices)

@@ -7,12 +7,11 @@ use mathlib.Core.Bool.{Bool, true, false, _&&_}
 use mathlib.Core.List.{List, [], _∷_}
 use native.Mathlib.Omega.{arith}
 use lib.ListN.{length, take, replicate}
-use lib.Seq.{length-take-le, take-append-seam, take-at, drop-at}
+use lib.Seq.{take-append-seam, take-at, drop-at}
 use lib.Dec.{leb}
 use lib.Ieee.{Float}
 use Rattle.spec.specs.declared.Refusal.{Refusal}
 use Rattle.spec.specs.declared.Refusal.the-variants.{Loose, Mitre, Bench}
-use Rattle.spec.specs.Limits.{maxRank}
 use Rattle.spec.specs.Lists.{In, join, parts}
 use Rattle.spec.specs.Types.{Solid, elements}
 use Rattle.spec.specs.Judged.{Judged, refused, passed, judge, _>>=_, _>>_}
@@ -28,7 +27,7 @@ use Rattle.sheet.proofs.Laws.{elements-is, entries-is, header-small}
 use Rattle.ranked.specs.declared.Shape.{Shape}
 use Rattle.preflight.specs.declared.Ready.{Ready}
 use Rattle.ranked.specs.Words.{listsOf, absIn}
-use Rattle.preflight.specs.Store.{parsedOf, shapeOf, said, StoredSheet}
+use Rattle.preflight.specs.Store.{parsedOf, said, StoredSheet}
 use Rattle.preflight.specs.Preflight.{verdictOf, unreadyOf, readyOf, checksOf, OnBench, SheetJudged, Preflighted}
 use Rattle.ranked.proofs.Solids.{sizes-are}
 use Rattle.preflight.proofs.store.Reading.{allowed}
@@ -133,9 +132,6 @@ module _ (b : List ℕ) (p : Parsed) (e : readSheet b ≡ passed p) where
     -- ---- the stored solid
 
     module _ {sh : Shape} {ws : List ℕ} {fs : List Float} (k : StoredSheet p sh ws fs) where
-      pub low-length : sh .low ≡ length (listsOf sh ws)
-      low-length = sym (length-take-le (sh .low) ws (k .words-in))
-
       module _ (v : Verdict) (ev : v ≡ checksOf (absIn sh (listsOf sh ws))) where
         checks-are : checksOf (solidOf p) ≡ v
         checks-are = sym (ev ∙ ap checksOf (k .solid))

@@ -12,8 +12,7 @@ use Rattle.spec.specs.Solid.{entries, bound, diamond}
 use Rattle.ranked.specs.declared.Shape.{Shape}
 use Rattle.ranked.specs.Words.{listsOf, absIn, Held}
 use Rattle.preflight.specs.Derive.{Stored}
-use Rattle.preflight.specs.Store.{lowOf}
-unfoldable pub use Rattle.preflight.specs.Store.{baseOf}
+use Rattle.ranked.specs.Layout.{lowOf, baseOf}
 
 -- The solid lies in the words and floats, and the workspace has the room that was asked for.
 pub record Bench (sh : Shape) (ws : List ℕ) (fs : List Float) : Type 0 where

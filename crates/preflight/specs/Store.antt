@@ -17,6 +17,7 @@ use Rattle.spec.specs.Solid.{solidOf, entries, Concrete}
 use Rattle.ranked.specs.declared.Shape.{Shape}
 use Rattle.ranked.specs.Words.{firstAt, sizeAt, total, listsOf, listAt, absIn, Held}
 use Rattle.preflight.specs.Derive.{running, Stored}
+unfoldable pub use Rattle.ranked.specs.Layout.{subEntries, lowOf, baseOf, sized}
 
 -- ---- fields
 
@@ -103,11 +104,6 @@ unfoldable pub sizeIn : ℕ → List ℕ → ℕ → ℕ
 sizeIn R counts zero = 1
 sizeIn R counts (suc k) = elim (ltb (suc k) R) [ true ↦ getD counts k 0 | false ↦ 1 ]
 
--- V is "rank 1's count, but 1 where R = 1 and 0 where R = 0".
-unfoldable pub verticesIn : ℕ → List ℕ → ℕ
-verticesIn zero counts = 0
-verticesIn (suc q) counts = sizeIn (suc q) counts 1
-
 -- Gives the bit at which the coordinates start: "R, 3 bits; dimension D, 3; for each proper rank its count, 12".
 abbrev pub pointsBit : ℕ → ℕ
 pointsBit R = 6 + 12 * (R - 1)
@@ -123,22 +119,6 @@ pub record ShapeCounted (R D : ℕ) (counts : List ℕ) (sh : Shape) : Type 0 wh
 -- Counts the elements of s in the ranks below r, up to the rank above the top. The starts after that one are 0.
 unfoldable pub startIn : Solid → ℕ → ℕ
 startIn s r = elim (leb r (suc (top s))) [ true ↦ running 0 (λ q. size s q) r | false ↦ 0 ]
-
--- Counts the subs that all elements have together, where the sheet's lists have I entries: each vertex has one, and the top has the rank below it.
-unfoldable pub subEntries : Shape → ℕ → ℕ
-subEntries sh I = elim (sh .rank) [ zero ↦ 0 | suc q ↦ elim q [ zero ↦ 1 | suc z ↦ sizeAt sh 1 + I + sizeAt sh (suc z) ] ]
-
--- Counts the words that the solid takes: four for each element, and one for each entry of its subs and of its sups, of which there are as many.
-unfoldable pub lowOf : Shape → ℕ → ℕ
-lowOf sh I = 4 * total sh + 2 * subEntries sh I
-
--- Gives the word where the sups' entries start, which is after the starts and lengths, and after the subs' entries.
-unfoldable pub baseOf : Shape → ℕ → ℕ
-baseOf sh I = 4 * total sh + subEntries sh I
-
--- Gives the shape with the number of its words, where the sheet's lists have I entries.
-unfoldable pub sized : Shape → ℕ → Shape
-sized sh I = record { rank = sh .rank; dimension = sh .dimension; first = sh .first; low = lowOf sh I }
 
 -- Gives the shape of a solid.
 unfoldable pub shapeOf : Concrete → Shape

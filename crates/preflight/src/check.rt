@@ -5,24 +5,23 @@ use ranked::lists::count_at;
 use ranked::lists::entry_at;
 use ranked::lists::holds_at;
 use ranked::lists::list_of;
-use ranked::lists::subs_at;
-use ranked::lists::sups_at;
 ghost use mathlib.Core.Path.{_≡_};
-ghost use Prim.Native.Nat.{ℕ, _+_, _*_, _≤_, _<_};
+ghost use Prim.Native.Nat.{ℕ, suc, _+_, _*_, _≤_, _<_};
 ghost use lib.ListN.{length};
 ghost use Rattle.spec.specs.Lists.{In};
 ghost use Rattle.spec.specs.Solid.{bound, diamond};
-ghost use Rattle.ranked.specs.Words.{listAt, absIn, Held};
-ghost use Rattle.ranked.specs.Reading.{Lies, supsWord, boundIn, Each, holding, Fork, twoUnder, Tier, twoAt, twoRank, twoFrom};
+ghost use Rattle.ranked.specs.Words.{firstAt, sizeAt, listAt, absIn, Held};
+ghost use Rattle.ranked.specs.Reading.{Lies, boundIn, Each, holding, Fork, twoUnder, twoAt, twoRank, twoFrom};
 
-// Tells whether each of the n elements of a rank that starts at `first` is in a list.
-fn bound_rank(lists: &[u32], first: usize, n: usize) -> bool
-    requires { ⌜ ((e : ℕ) → e < n → Lies (now lists) (supsWord first e)) ⌝ }
-    ensures { λ res. ⌜ res ≡ boundIn (now (lists .entry)) first n ⌝ }
+// Tells whether each element of rank r is in a list.
+fn bound_rank(lists: &[u32], sh: Shape, r: usize) -> bool
+    requires { ⌜ (Held sh (now lists)) × (r ≤ sh .rank) ⌝ }
+    ensures { λ res. ⌜ res ≡ boundIn (now (lists .entry)) (firstAt sh r) (sizeAt sh r) ⌝ }
 {
+    let n = sh.size(r);
     let mut e: usize = 0;
     while e < n {
-        if count_at(lists, sups_at(first, e)) == 0 {
+        if count_at(lists, sh.sups(r, e)) == 0 {
             return false;
         }
         e += 1;
@@ -38,9 +37,7 @@ pub fn is_bound(lists: &[u32], sh: Shape) -> bool
     let rank = sh.rank;
     let mut k: usize = 0;
     while k + 2 < rank {
-        let first = sh.first[k + 1];
-        let next = sh.first[k + 2];
-        if !bound_rank(lists, first, next - first) {
+        if !bound_rank(lists, sh, k + 1) {
             return false;
         }
         k += 1;
@@ -79,18 +76,18 @@ fn between(lists: &[u32], i: usize, j: usize, base: usize, g: usize, h: usize) -
     }
 }
 
-// Tells whether exactly two elements lie between g, whose subs are at word i, and each entry of the list at word j, of the rank that starts at
-// `below`.
+// Tells whether exactly two elements lie between g, whose subs are at word i, and each entry of the list at word j, of the rank whose sups start at
+// word `below`.
 fn diamond_under(lists: &[u32], i: usize, j: usize, base: usize, below: usize, g: usize) -> bool
     requires { ⌜ Lies (now lists) j ⌝ }
-    requires { ⌜ ((h : ℕ) → In h (listAt (now lists) j) → Fork (now lists) i (supsWord below h) base g h) ⌝ }
+    requires { ⌜ ((h : ℕ) → In h (listAt (now lists) j) → Fork (now lists) i (below + 4 * h) base g h) ⌝ }
     ensures { λ res. ⌜ res ≡ twoUnder (now (lists .entry)) i j base ⌝ }
 {
     let n = count_at(lists, j);
     let mut k: usize = 0;
     while k < n {
         let h = entry_at(lists, j, k);
-        if between(lists, i, sups_at(below, h), base, g, h) != 2 {
+        if between(lists, i, list_of(below, h), base, g, h) != 2 {
             return false;
         }
         k += 1;
@@ -98,18 +95,19 @@ fn diamond_under(lists: &[u32], i: usize, j: usize, base: usize, below: usize, g
     true
 }
 
-// Tells whether exactly two elements lie between g and every sub of its subs. The three ranks start at `below`, `middle` and `above`.
-fn diamond_at(lists: &[u32], below: usize, middle: usize, above: usize, g: usize) -> bool
-    requires { ⌜ Tier (now lists) below middle above g ⌝ }
-    ensures { λ res. ⌜ res ≡ twoAt (now (lists .entry)) middle above g ⌝ }
+// Tells whether exactly two elements lie between element g of rank r + 2 and every sub of its subs.
+fn diamond_at(lists: &[u32], sh: Shape, r: usize, g: usize) -> bool
+    requires { ⌜ (Held sh (now lists)) × (suc r < sh .rank) × (g < sizeAt sh (suc (suc r))) ⌝ }
+    ensures { λ res. ⌜ res ≡ twoAt (now (lists .entry)) (firstAt sh (suc r)) (firstAt sh (suc (suc r))) g ⌝ }
 {
-    let i = subs_at(above, g);
-    let base = subs_at(middle, 0);
+    let i = sh.subs(r + 2, g);
+    let base = sh.subs(r + 1, 0);
+    let below = sh.sups(r, 0);
     let n = count_at(lists, i);
     let mut k: usize = 0;
     while k < n {
         let f = entry_at(lists, i, k);
-        if !diamond_under(lists, i, subs_at(middle, f), base, below, g) {
+        if !diamond_under(lists, i, list_of(base, f), base, below, g) {
             return false;
         }
         k += 1;
@@ -117,14 +115,15 @@ fn diamond_at(lists: &[u32], below: usize, middle: usize, above: usize, g: usize
     true
 }
 
-// Tells whether the same holds for each of the n elements of the uppermost rank.
-fn diamond_rank(lists: &[u32], below: usize, middle: usize, above: usize, n: usize) -> bool
-    requires { ⌜ ((g : ℕ) → g < n → Tier (now lists) below middle above g) ⌝ }
-    ensures { λ res. ⌜ res ≡ twoRank (now (lists .entry)) middle above n ⌝ }
+// Tells whether the same holds for each element of rank r + 2.
+fn diamond_rank(lists: &[u32], sh: Shape, r: usize) -> bool
+    requires { ⌜ (Held sh (now lists)) × (suc r < sh .rank) ⌝ }
+    ensures { λ res. ⌜ res ≡ twoRank (now (lists .entry)) (firstAt sh (suc r)) (firstAt sh (suc (suc r))) (sizeAt sh (suc (suc r))) ⌝ }
 {
+    let n = sh.size(r + 2);
     let mut g: usize = 0;
     while g < n {
-        if !diamond_at(lists, below, middle, above, g) {
+        if !diamond_at(lists, sh, r, g) {
             return false;
         }
         g += 1;
@@ -140,11 +139,7 @@ fn diamond_from(lists: &[u32], sh: Shape, from: usize) -> bool
     let rank = sh.rank;
     let mut r = from;
     while r + 1 < rank {
-        let below = sh.first[r];
-        let middle = sh.first[r + 1];
-        let above = sh.first[r + 2];
-        let next = sh.first[r + 3];
-        if !diamond_rank(lists, below, middle, above, next - above) {
+        if !diamond_rank(lists, sh, r) {
             return false;
         }
         r += 1;

@@ -87,7 +87,7 @@ fn settle(sheet: &[u8], header: Header, words: &mut [u32], floats: &mut [f64]) -
         words,
         floats,
     );
-    let verdict = checked(&words[..sh.low], sh);
+    let verdict = checked(sh.lists(words), sh);
     match verdict {
         Verdict::Refused(why) => unready(why),
         Verdict::Accepted => Ready { verdict, shape: sh },

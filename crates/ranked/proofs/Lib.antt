@@ -1,7 +1,9 @@
 pub mod Numbered
 pub mod Starts
 pub mod Turns
+pub mod Low
 pub mod Solids
+pub mod Counted
 pub mod Parts
 pub mod Between
 pub mod Judged

@@ -86,9 +86,6 @@ module _ (sh : Shape) (w : List ℕ) (h : Held sh w) where
       let n = number-in r e q k in
       record { head = omega (arith, h .room); inside = h .sups-inside (firstAt sh r + e) n }
 
-  pub sups-is : (r e : ℕ) → r ≤ sh .rank → e < sizeAt sh r → sups (absIn sh w) r e ≡ supsIn sh w r e
-  sups-is r e q k = sym (h .derived r e q k)
-
   -- The lists in the words are those of the solid.
   pub subs-listed : (r e : ℕ) → r ≤ sh .rank → e < sizeAt sh r → listAt w (subsWord (firstAt sh r) e) ≡ subs (absIn sh w) r e
   unfolding subsIn

@@ -2,7 +2,7 @@
 -- behind these what a step or a search needs for itself. The floats hold the vertices' coordinates, behind them the listed distances, of which there
 -- are at most as many as proper elements, and behind these the distance class of each proper element.
 -- Assumes nothing.
-use Prim.Native.Nat.{ℕ, _+_, _-_, _*_, _/_}
+use Prim.Native.Nat.{ℕ, zero, suc, _+_, _-_, _*_, _/_}
 use Rattle.ranked.specs.declared.Shape.{Shape}
 use Rattle.ranked.specs.Words.{firstAt, sizeAt, total, listsOf, absIn}
 use mathlib.Core.List.{List}
@@ -21,6 +21,22 @@ abbrev pub before : Shape → ℕ → ℕ
 before sh r = firstAt sh r - firstAt sh 1
 
 -- ---- words
+
+-- Counts the subs that all elements have together, where the sheet's lists have I entries: each vertex has one, and the top has the rank below it.
+unfoldable pub subEntries : Shape → ℕ → ℕ
+subEntries sh I = elim (sh .rank) [ zero ↦ 0 | suc q ↦ elim q [ zero ↦ 1 | suc z ↦ sizeAt sh 1 + I + sizeAt sh (suc z) ] ]
+
+-- Counts the words that the solid takes: four for each element, and one for each entry of its subs and of its sups, of which there are as many.
+unfoldable pub lowOf : Shape → ℕ → ℕ
+lowOf sh I = 4 * total sh + 2 * subEntries sh I
+
+-- Gives the word where the sups' entries start, which is after the starts and lengths, and after the subs' entries.
+unfoldable pub baseOf : Shape → ℕ → ℕ
+baseOf sh I = 4 * total sh + subEntries sh I
+
+-- Gives the shape with the number of its words, where the sheet's lists have I entries.
+unfoldable pub sized : Shape → ℕ → Shape
+sized sh I = record { rank = sh .rank; dimension = sh .dimension; first = sh .first; low = lowOf sh I }
 
 -- Gives the word from which on the sups' entries stand: low = 4 n + 2 I for n elements whose subs have I entries, and as many have their sups.
 abbrev pub supEntriesAt : Shape → ℕ

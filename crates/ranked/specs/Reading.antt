@@ -9,18 +9,12 @@ use lib.Dec.{eqb, ltb}
 use Rattle.spec.specs.Lists.{In, range, holds, keep, every}
 use Rattle.ranked.specs.declared.Shape.{Shape}
 use Rattle.ranked.specs.Words.{firstAt, sizeAt, listAt, Inside}
+pub use Rattle.ranked.specs.Words.{subsWord, supsWord}
 
 -- The two words that say where the list at word i is lie within the words, and so does the list.
 pub record Lies (w : List ℕ) (i : ℕ) : Type 0 where
   pub head : i + 1 < length w
   pub inside : Inside w i
-
--- These are the word that says where element e's subs are, and then the one for its sups, in a rank that starts at `first`.
-abbrev pub subsWord : ℕ → ℕ → ℕ
-subsWord first e = 4 * (first + e)
-
-abbrev pub supsWord : ℕ → ℕ → ℕ
-supsWord first e = 4 * (first + e) + 2
 
 -- ---- refusal 5
 

@@ -29,12 +29,19 @@ listsOf sh ws = take (sh .low) ws
 unfoldable pub listAt : List ℕ → ℕ → List ℕ
 listAt w i = take (getD w (suc i) 0) (drop (getD w i 0) w)
 
+-- These are the word that says where element e's subs are, and then the one for its sups, in a rank that starts at `first`.
+abbrev pub subsWord : ℕ → ℕ → ℕ
+subsWord first e = 4 * (first + e)
+
+abbrev pub supsWord : ℕ → ℕ → ℕ
+supsWord first e = subsWord first e + 2
+
 -- These are the subs of an element, and then its sups.
 unfoldable pub subsIn : Shape → List ℕ → ℕ → ℕ → List ℕ
-subsIn sh w r e = listAt w (4 * (firstAt sh r + e))
+subsIn sh w r e = listAt w (subsWord (firstAt sh r) e)
 
 unfoldable pub supsIn : Shape → List ℕ → ℕ → ℕ → List ℕ
-supsIn sh w r e = listAt w (4 * (firstAt sh r + e) + 2)
+supsIn sh w r e = listAt w (supsWord (firstAt sh r) e)
 
 -- Gives the solid that the words hold.
 unfoldable pub absIn : Shape → List ℕ → Solid

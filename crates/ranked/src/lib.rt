@@ -1,14 +1,15 @@
 // This crate has solids as lists at offsets in lent words (abs/ranked.rs, abs/mod.rs): the shape of the workspace, the accessors over the lists, and
 // the vertices of an element.
 
+use crate::lists::subs_at;
 use spec::MAX_COUNT;
 use spec::MAX_RANK;
 ghost use mathlib.Core.Path.{_≡_};
-ghost use Prim.Native.Nat.{suc, _+_, _*_, _^_, _≤_, _<_};
+ghost use Prim.Native.Nat.{ℕ, suc, _+_, _*_, _^_, _≤_, _<_};
 ghost use lib.ListN.{length};
 ghost use Rattle.spec.specs.Limits.{maxRank, maxStarts};
-ghost use Rattle.ranked.specs.Words.{firstAt, sizeAt, total, listsOf};
-ghost use Rattle.ranked.specs.Layout.{proper, before, coordinates, classesAt, classAt, supEntriesAt, typesAt, scratchAt, fingerprintsAt};
+ghost use Rattle.ranked.specs.Words.{firstAt, sizeAt, total, listsOf, subsWord, supsWord};
+ghost use Rattle.ranked.specs.Layout.{proper, before, subEntries, sized as sizedAs, supEntriesAt, typesAt, scratchAt, fingerprintsAt, coordinates, classesAt, classAt};
 
 // This many ranks have a start: those from 0 to the greatest R, and the one above, at which the top rank ends.
 pub const STARTS: usize = MAX_RANK + 2;
@@ -95,18 +96,49 @@ impl Shape {
 
     // Returns the word that says where the list of the subs of element e of rank r starts. The next word is its length.
     pub fn subs(self, r: usize, e: usize) -> usize
-        requires { ⌜ (r ≤ suc maxRank) × (4 * (firstAt self r + e) < 2 ^ 64) ⌝ }
-        ensures { λ n. ⌜ n ≡ 4 * (firstAt self r + e) ⌝ }
+        requires { ⌜ (r ≤ suc maxRank) × (subsWord (firstAt self r) e < 2 ^ 64) ⌝ }
+        ensures { λ n. ⌜ n ≡ subsWord (firstAt self r) e ⌝ }
     {
-        4 * (self.first[r] + e)
+        subs_at(self.first[r], e)
     }
 
     // Returns the same word for the list of its sups.
     pub fn sups(self, r: usize, e: usize) -> usize
-        requires { ⌜ (r ≤ suc maxRank) × (4 * (firstAt self r + e) + 2 < 2 ^ 64) ⌝ }
-        ensures { λ n. ⌜ n ≡ 4 * (firstAt self r + e) + 2 ⌝ }
+        requires { ⌜ (r ≤ suc maxRank) × (supsWord (firstAt self r) e < 2 ^ 64) ⌝ }
+        ensures { λ n. ⌜ n ≡ supsWord (firstAt self r) e ⌝ }
     {
-        4 * (self.first[r] + e) + 2
+        subs_at(self.first[r], e) + 2
+    }
+
+    // Counts the subs that all elements have together, where the sheet's lists have so many entries.
+    fn sub_entries(self, entries: usize) -> usize
+        requires { ⌜ (self .rank ≤ maxRank) × (total self < 2 ^ 32) × (entries < 2 ^ 32) ⌝ }
+        requires { ⌜ ((r : ℕ) → r ≤ self .rank → firstAt self r < firstAt self (suc r)) ⌝ }
+        ensures { λ n. ⌜ n ≡ subEntries self entries ⌝ }
+    {
+        if self.rank == 0 {
+            return 0;
+        }
+        if self.rank == 1 {
+            return 1;
+        }
+        self.vertices() + entries + self.size(self.rank - 1)
+    }
+
+    // Returns the shape with the number of its words, where the sheet's lists have so many entries.
+    pub fn sized(self, entries: usize) -> Shape
+        requires { ⌜ (self .rank ≤ maxRank) × (total self < 2 ^ 32) × (entries < 2 ^ 32) ⌝ }
+        requires { ⌜ ((r : ℕ) → r ≤ self .rank → firstAt self r < firstAt self (suc r)) ⌝ }
+        ensures { λ sh. ⌜ sh ≡ sizedAs self entries ⌝ }
+    {
+        let low = 4 * self.elements() + 2 * self.sub_entries(entries);
+        let first = self.first;
+        Shape {
+            rank: self.rank,
+            dimension: self.dimension,
+            first,
+            low,
+        }
     }
 
     // Returns the word from which on the entries of the sups' lists stand, up to the end of the solid's words. They take as many words as the entries of

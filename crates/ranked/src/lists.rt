@@ -6,7 +6,7 @@ ghost use lib.ListN.{length, getD};
 ghost use lib.Dec.{eqb};
 ghost use Rattle.spec.specs.Lists.{holds};
 ghost use Rattle.spec.specs.Types.{subs};
-ghost use Rattle.ranked.specs.Words.{sizeAt, listAt, absIn, Held};
+ghost use Rattle.ranked.specs.Words.{sizeAt, listAt, subsWord, absIn, Held};
 ghost use Rattle.ranked.specs.Reading.{Lies};
 
 // Returns the word at p.
@@ -36,19 +36,11 @@ pub fn entry_at(lists: &[u32], i: usize, k: usize) -> usize
 }
 
 // Returns the word that says where the list of element e's subs starts, in a rank that starts at `first`; the next word is its length.
-pub fn subs_at(first: usize, e: usize) -> usize
-    requires { ⌜ 4 * (first + e) + 2 < 2 ^ 64 ⌝ }
-    ensures { λ r. ⌜ r ≡ 4 * (first + e) ⌝ }
+pub(crate) fn subs_at(first: usize, e: usize) -> usize
+    requires { ⌜ subsWord first e < 2 ^ 64 ⌝ }
+    ensures { λ r. ⌜ r ≡ subsWord first e ⌝ }
 {
     4 * (first + e)
-}
-
-// Returns the same word for the list of its sups.
-pub fn sups_at(first: usize, e: usize) -> usize
-    requires { ⌜ 4 * (first + e) + 2 < 2 ^ 64 ⌝ }
-    ensures { λ r. ⌜ r ≡ 4 * (first + e) + 2 ⌝ }
-{
-    4 * (first + e) + 2
 }
 
 // Returns the word that says where the list of element e starts, by that word `base` of the first element of its rank.
@@ -81,6 +73,5 @@ pub fn sub(lists: &[u32], sh: Shape, r: usize, e: usize, k: usize) -> usize
     requires { ⌜ (r ≤ sh .rank) × (e < sizeAt sh r) × (k < length (subs (absIn sh (now lists)) r e)) ⌝ }
     ensures { λ x. ⌜ x ≡ getD (subs (absIn sh (now (lists .entry))) r e) k 0 ⌝ }
 {
-    let first = sh.first;
-    entry_at(lists, subs_at(first[r], e), k)
+    entry_at(lists, sh.subs(r, e), k)
 }

@@ -21,7 +21,7 @@ use Rattle.ranked.specs.Layout.{before}
 use Rattle.geometry.specs.Classes.{sameClass}
 use Rattle.geometry.proofs.ClassNumbers.{share-class}
 use Rattle.geometry.specs.Solids.{beforeIn}
-use Rattle.geometry.proofs.elements.Room.{sizes-sum}
+use Rattle.ranked.proofs.Counted.{sizes-sum}
 
 -- ---- parts one after another
 

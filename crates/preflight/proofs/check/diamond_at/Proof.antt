@@ -3,96 +3,150 @@
 use borrow.Author.Needs.{needs}
 use borrow.Author.Tests.{not-true, not-false}
 use native.Mathlib.Omega.{arith}
-use mathlib.Core.Path.{_≡_, refl, sym, _∙_}
+use native.Mathlib.Numerals.{add-one}
+use mathlib.Core.Path.{_≡_, refl, sym, _∙_, ap}
 use mathlib.Core.Bool.{Bool}
 use mathlib.Core.List.{List}
-use Prim.Native.Nat.{ℕ, _*_, _≤_, _-_}
-use lib.ListN.{length, getD}
-use Rattle.spec.specs.Lists.{In}
-use Rattle.ranked.specs.Words.{listAt}
-use Rattle.ranked.specs.Reading.{subsWord, twoUnder, twoAt}
+use Prim.Native.Nat.{ℕ, suc, _+_, _*_, _≤_, _-_}
+use lib.ListN.{length}
+use Rattle.spec.specs.Lists.{In, every}
+use Rattle.ranked.specs.declared.Shape.{Shape}
+use Rattle.ranked.specs.Words.{firstAt, listAt}
+use Rattle.ranked.specs.Reading.{Lies, subsWord, supsWord, Fork, Tier, twoUnder, twoAt}
 use Rattle.ranked.proofs.Turns.{entry-in, Every, every-yes, every-no, every-end}
+use Rattle.ranked.proofs.Judged.{every-same, tier}
 use Rattle.preflight.proofs.check.diamond_at.Statement.{statement}
 use Rattle.preflight.proofs.check.diamond_at.Tie as tie
 
-abbrev p : List ℕ → ℕ → ℕ → ℕ → ℕ → Bool
-p w at above g f = twoUnder w (subsWord above g) (subsWord at f) (4 * at)
-
--- The locals hold what the turn knows of them.
-pub record Turn (w : List ℕ) (at above g i base n k : ℕ) : Type 0 where
-  pub bound : k ≤ n
-  pub i-is : i ≡ subsWord above g
-  pub base-is : base ≡ 4 * at
-  pub n-is : n ≡ length (listAt w (subsWord above g))
-  pub rest : Every (p w at above g) (listAt w (subsWord above g)) k
+abbrev p : List ℕ → ℕ → ℕ → ℕ → Bool
+p w i base f = twoUnder w i (base + 4 * f) base
 
 abbrev Inv : tie.InvT-loop
-Inv w below at above g i base n k₀ k = Turn w at above g i base n k
+Inv w r g i base below n k₀ k = (k ≤ n) × (n ≡ length (listAt w i)) × Every (p w i base) (listAt w i) k
 
 abbrev μ : tie.MeasureT-loop
-μ w below at above g i base n k₀ k = n - k
+μ w r g i base below n k₀ k = n - k
+
+-- The starts of the ranks are as the code has them.
+one-on : (sh : Shape) (r : ℕ) → firstAt sh (r + 1) ≡ firstAt sh (suc r)
+one-on sh r = ap (firstAt sh) (add-one r)
+
+two-on : (sh : Shape) (r : ℕ) → firstAt sh (r + 2) ≡ firstAt sh (suc (suc r))
+two-on sh r = let e : r + 2 ≡ suc (suc r) = omega arith in ap (firstAt sh) e
+
+-- The words that the code has worked out are those of the three ranks.
+module _ (sh : Shape) (w : List ℕ) (r g i base below : ℕ) (ei : i ≡ subsWord (firstAt sh (r + 2)) g) (eb : base ≡ subsWord (firstAt sh (r + 1)) 0)
+    (ed : below ≡ supsWord (firstAt sh r) 0) where
+  abbrev at : ℕ
+  at = firstAt sh (suc r)
+
+  abbrev above : ℕ
+  above = firstAt sh (suc (suc r))
+
+  i-is : i ≡ subsWord above g
+  i-is = ei ∙ ap (λ (n : ℕ). subsWord n g) (two-on sh r)
+
+  base-is : base ≡ 4 * at
+  base-is = omega (arith, one-on sh r)
+
+  -- The call at the sub f has what it needs.
+  under : Tier w (firstAt sh r) at above g → (f : ℕ) → In f (listAt w i)
+      → Lies w (base + 4 * f) × ((h : ℕ) → In h (listAt w (base + 4 * f)) → Fork w i (below + 4 * h) base g h)
+  under t f m =
+      let q : base + 4 * f ≡ subsWord at f = omega (arith, base-is) in
+      let d : (h : ℕ) → below + 4 * h ≡ supsWord (firstAt sh r) h = λ h. omega (arith, ed) in
+      let m′ : In f (listAt w (subsWord above g)) = rw i-is at m in
+      (rw q (t .subs f m′), rw (q, i-is, base-is) (λ h x. rw (d h) (t .forks f h m′ x)))
+
+  -- All subs have been judged.
+  judged : every (p w i base) (listAt w i) ≡ twoAt w at above g
+  unfolding twoAt
+  judged =
+      rw (i-is, base-is)
+      (every-same _ _ (listAt w (subsWord above g)) (λ f m.
+      let q : 4 * at + 4 * f ≡ subsWord at f = omega arith in
+      ap (λ (j : ℕ). twoUnder w (subsWord above g) j (4 * at)) q))
+
+-- What a look at g needs is there.
+looks : (s : tie.Start Inv μ)
+    → let a = s .args in Tier (a .lists .now) (firstAt (a .sh) (a .r)) (firstAt (a .sh) (suc (a .r))) (firstAt (a .sh) (suc (suc (a .r)))) (a .g)
+looks s = let a = s .args in tier (a .sh) (a .lists .now) (s .pre .0) (a .r) (s .pre .1) (a .g) (s .pre .2)
+
+-- The list of g's subs lies within the words.
+lies : (v : tie.After-subs Inv μ) → Lies (v .before .before .args .lists .now) (v .subs .result)
+lies v = let a = v .before .before .args in rw (v .subs .ensures, two-on (a .sh) (a .r)) (looks (v .before .before) .up)
 
 -- The entry is a sub of g.
 entry : (c : tie.After-entry-at Inv μ)
-    → let a = c .before .before .before .before .before .before .before .args in In (c .entry-at .result) (listAt (a .lists .now) (subsWord (a .above) (a .g)))
+    → let v = c .before .before .before .before .before .before in In (c .entry-at .result) (listAt (v .before .before .args .lists .now) (v .subs .result))
 entry c =
     let l = c .before .before in
-    let a = l .before .before .before .before .before .args in
-    entry-in (listAt (a .lists .now) (subsWord (a .above) (a .g))) (l .loop .k) _ (omega (arith, c .before .loop-test .taken, l .loop .inv .n-is)) (rw (l .loop .inv .i-is) at (c .entry-at .ensures))
+    let v = l .before .before .before .before in
+    entry-in (listAt (v .before .before .args .lists .now) (v .subs .result)) (l .loop .k) _ (omega (arith, c .before .loop-test .taken, l .loop .inv .1)) (c .entry-at .ensures)
 
--- The call says whether the entry f passes.
-said : (w : List ℕ) (at above g i base n k f j : ℕ) (b : Bool) → Turn w at above g i base n k → f ≡ getD (listAt w i) k 0 → j ≡ subsWord at f
-    → b ≡ twoUnder w i j base → p w at above g (getD (listAt w (subsWord above g)) k 0) ≡ b
-said w at above g i base n k f j b t ef ej eb =
-    let e = t .i-is in
-    let d = t .base-is in
-    sym (rw (ej, ef, e, d) at eb)
+-- The call has what it needs.
+call : (e : tie.After-entry-at Inv μ) →
+    let o = e .before .before .before .before in
+    let b = o .before in
+    let v = b .before in
+    let a = v .before .before .args in
+    Lies (a .lists .now) (b .subs2 .result + 4 * e .entry-at .result)
+    × ((h : ℕ) → In h (listAt (a .lists .now) (b .subs2 .result + 4 * e .entry-at .result)) → Fork (a .lists .now) (v .subs .result) (o .sups .result + 4 * h) (b .subs2 .result) (a .g) h)
+call e =
+    let o = e .before .before .before .before in
+    let b = o .before in
+    let v = b .before in
+    let s = v .before .before in
+    let a = s .args in
+    under (a .sh) (a .lists .now) (a .r) (a .g) _ _ _ (v .subs .ensures) (b .subs2 .ensures) (o .sups .ensures) (looks s) _ (entry e)
+
+-- The answer is that of all subs.
+all-judged : (n : tie.After-count-at Inv μ) →
+    let b = n .before .before in
+    let v = b .before in
+    let a = v .before .before .args in
+    every (p (a .lists .now) (v .subs .result) (b .subs2 .result)) (listAt (a .lists .now) (v .subs .result)) ≡ twoAt (a .lists .now) (firstAt (a .sh) (suc (a .r))) (firstAt (a .sh) (suc (suc (a .r)))) (a .g)
+all-judged n =
+    let o = n .before in
+    let v = o .before .before in
+    let a = v .before .before .args in
+    judged (a .sh) (a .lists .now) (a .r) (a .g) _ _ _ (v .subs .ensures) (o .before .subs2 .ensures) (o .sups .ensures)
 
 pub diamond-at-spec : {M : Type 1} → statement M
-unfolding twoAt
 diamond-at-spec =
     tie.close
     (tie.spec Inv μ
-    -- The needs are subs-at-requires, subs-at-requires-2 and count-at-requires.
-    (λ c κs. omega (arith, c .before .pre .up))
-    (λ c κs. omega (arith, c .before .before .pre .fits))
-    (λ c κs. rw (c .before .subs-at .ensures) (c .before .before .before .pre .up))
-    -- The needs are loop-holds and entry-at-requires.
-    (λ c. let i = c .before .before .subs-at .ensures in
-    record {
-      bound = omega arith;
-      i-is = i;
-      base-is = omega (arith, c .before .subs-at2 .ensures);
-      n-is = rw i at (c .count-at .ensures);
-      rest = refl;
-    })
-    (λ c κs. let l = c .before in
-    (rw (l .loop .inv .i-is) (l .before .before .before .before .before .pre .up), rw (l .loop .inv .i-is) (omega (arith, c .loop-test .taken, l .loop .inv .n-is))))
-    -- The needs are subs-at-requires-3 and diamond-under-requires.
-    (λ c κs. let s = c .before .before .before .before .before .before .before in omega (arith, s .pre .subs _ (entry c)))
-    (λ c κs. let l = c .before .before .before in
-    let s = l .before .before .before .before .before in
-    rw (c .subs-at3 .ensures, l .loop .inv .i-is, l .loop .inv .base-is) (s .pre .subs _ (entry (c .before)), (λ h m. s .pre .forks _ h (entry (c .before)) m)))
+    -- The needs are add-subs and subs-requires.
+    (λ c. let s = c .before in omega (arith, s .pre .0 .tall, s .pre .1))
+    (λ c κs. let s = c .before in (omega (arith, s .pre .0 .tall, s .pre .1), omega (arith, two-on (s .args .sh) (s .args .r), looks s .up)))
+    -- The needs are add-subs-2, subs-requires-2 and sups-requires.
+    (λ c. let s = c .before .before in omega (arith, s .pre .0 .tall, s .pre .1))
+    (λ c κs. let s = c .before .before in (omega (arith, s .pre .0 .tall, s .pre .1), omega (arith, one-on (s .args .sh) (s .args .r), looks s .fits)))
+    (λ c κs. let s = c .before .before .before in
+    (omega (arith, s .pre .0 .tall, s .pre .1), omega (arith, looks s .fits, s .pre .0 .some (s .args .r) (omega (arith, s .pre .1)))))
+    -- The needs are count-at-requires, loop-holds and entry-at-requires.
+    (λ c κs. lies (c .before .before))
+    (λ c. (search needs, c .count-at .ensures, refl))
+    (λ c κs. let l = c .before in (lies (l .before .before .before .before), omega (arith, c .loop-test .taken, l .loop .inv .1)))
+    -- The needs are list-of-requires and diamond-under-requires.
+    (λ c κs. omega (arith, call c .0))
+    (λ c κs. rw (c .list-of .ensures) (call (c .before)))
     -- The needs are returns, add-k, loop-less, loop-again and returns-2.
-    (λ c. let e = c .before .before .before in
-    let l = e .before .before in
-    let a = l .before .before .before .before .before .args in
-    every-no (p (a .lists .now) (a .middle) (a .above) (a .g)) 0 _ (l .loop .k) (omega (arith, e .before .loop-test .taken, l .loop .inv .n-is)) (l .loop .inv .rest)
-    (said _ _ _ _ _ _ _ _ _ _ _ (l .loop .inv) (e .entry-at .ensures) (c .before .before .subs-at3 .ensures) (c .before .diamond-under .ensures) ∙ not-true _ (c .if1 .taken)))
+    (λ c. let o = c .before .before in
+    let i = o .before .before in
+    let l = i .before in
+    every-no _ 0 _ (l .loop .k) (omega (arith, i .loop-test .taken, l .loop .inv .1)) (l .loop .inv .2)
+    (rw (o .list-of .ensures, o .before .entry-at .ensures) at (sym (c .before .diamond-under .ensures) ∙ not-true _ (c .if1 .taken)))
+    ∙ all-judged (l .before))
     (λ c. search needs)
     (λ c. search needs)
-    (λ c. let e = c .before .before .before in
-    let l = e .before .before in
-    let a = l .before .before .before .before .before .args in
-    let t = l .loop .inv in
-    record {
-      bound = omega (arith, e .before .loop-test .taken);
-      i-is = t .i-is;
-      base-is = t .base-is;
-      n-is = t .n-is;
-      rest =
-          every-yes (p (a .lists .now) (a .middle) (a .above) (a .g)) 0 _ (l .loop .k) (omega (arith, e .before .loop-test .taken, t .n-is)) (t .rest)
-          (said _ _ _ _ _ _ _ _ _ _ _ t (e .entry-at .ensures) (c .before .before .subs-at3 .ensures) (c .before .diamond-under .ensures) ∙ not-false _ (c .if1 .left));
-    })
+    (λ c. let o = c .before .before in
+    let i = o .before .before in
+    let l = i .before in (
+      search needs,
+      l .loop .inv .1,
+      every-yes _ 0 _ (l .loop .k) (omega (arith, i .loop-test .taken, l .loop .inv .1)) (l .loop .inv .2)
+          (rw (o .list-of .ensures, o .before .entry-at .ensures) at (sym (c .before .diamond-under .ensures) ∙ not-false _ (c .if1 .left))),
+    ))
     (λ c. let l = c .before in
-    every-end _ _ (l .loop .k) (omega (arith, c .loop-test .left, l .loop .inv .n-is)) (l .loop .inv .rest)))
+    every-end _ _ (l .loop .k) (omega (arith, c .loop-test .left, l .loop .inv .1)) (l .loop .inv .2) ∙ all-judged (l .before)))

@@ -6,14 +6,12 @@ use native.Mathlib.Omega.{arith}
 use mathlib.Core.Path.{_≡_, refl, sym, _∙_}
 use mathlib.Core.Bool.{Bool}
 use mathlib.Core.List.{List}
-use Prim.Native.Nat.{ℕ, suc, _+_, _≤_, _<_, _-_}
-use native.Mathlib.Numerals.{add-one}
+use Prim.Native.Nat.{ℕ, suc, _+_, _≤_, _-_}
 use Rattle.spec.specs.Lists.{range}
 use Rattle.ranked.specs.declared.Shape.{Shape}
-use Rattle.ranked.specs.Words.{firstAt, sizeAt, Held}
-use Rattle.ranked.specs.Reading.{Tier, twoRank, twoFrom}
+use Rattle.ranked.specs.Words.{firstAt, sizeAt}
+use Rattle.ranked.specs.Reading.{twoRank, twoFrom}
 use Rattle.ranked.proofs.Turns.{Every, range-yes, range-no, range-end}
-use Rattle.ranked.proofs.Judged.{tier}
 use Rattle.preflight.proofs.check.diamond_from.Statement.{statement}
 use Rattle.preflight.proofs.check.diamond_from.Tie as tie
 
@@ -21,28 +19,10 @@ abbrev p : Shape → List ℕ → ℕ → Bool
 p sh w r = twoRank w (firstAt sh r) (firstAt sh (suc r)) (sizeAt sh (suc r))
 
 abbrev Inv : tie.InvT-loop
-Inv w from sh rank r₀ r = (from ≤ r) × (r ≤ rank) × Every (p sh w) (range (suc from) (rank - 1 - from)) (r - from)
+Inv w sh from rank r₀ r = (from ≤ r) × (r ≤ rank) × Every (p sh w) (range (suc from) (rank - 1 - from)) (r - from)
 
 abbrev μ : tie.MeasureT-loop
-μ w from sh rank r₀ r = rank - r
-
--- The ranks k to k + 2 are as the code has them.
-module _ (sh : Shape) (w : List ℕ) (k : ℕ) where
-  two-is : k + 2 ≡ suc (suc k)
-  two-is = omega arith
-
-  three-is : k + 3 ≡ suc (suc (suc k))
-  three-is = omega arith
-
-  rising : Held sh w → k + 1 < sh .rank → firstAt sh (k + 2) ≤ firstAt sh (k + 3)
-  rising h m = rw (two-is, three-is) (omega (arith, h .some (suc (suc k)) (omega arith)))
-
-  tiers : Held sh w → k + 1 < sh .rank → (g : ℕ) → g < firstAt sh (k + 3) - firstAt sh (k + 2)
-      → Tier w (firstAt sh k) (firstAt sh (k + 1)) (firstAt sh (k + 2)) g
-  tiers h m g = rw (two-is, three-is, add-one k) (λ q. tier sh w h k (omega arith) g q)
-
-  said : (b : Bool) → b ≡ twoRank w (firstAt sh (k + 1)) (firstAt sh (k + 2)) (firstAt sh (k + 3) - firstAt sh (k + 2)) → p sh w (suc k) ≡ b
-  said b e = sym (rw (two-is, three-is, add-one k) at e)
+μ w sh from rank r₀ r = rank - r
 
 -- The invariant goes on by one turn.
 turn-on : (p : ℕ → Bool) (l : List ℕ) (from r : ℕ) → from ≤ r → Every p l (r - from + 1) → Every p l (r + 1 - from)
@@ -56,37 +36,22 @@ diamond-from-spec =
     -- The needs are loop-holds and add-loop.
     (λ c. let q : c .before .args .from - c .before .args .from ≡ 0 = omega arith in (search needs, search needs, rw q refl))
     (λ c. search needs)
-    -- The needs of the shape's numbers are mul and element-copy-out, and then add, mul and element-copy-out three times.
-    (λ c. omega (arith, c .before .before .before .pre .0 .tall))
-    (λ c. omega (arith, c .before .before .before .pre .0 .tall))
-    (λ c. search needs)
-    (λ c. omega (arith, c .before .before .before .before .pre .0 .tall))
-    (λ c. omega (arith, c .before .before .before .before .pre .0 .tall))
-    (λ c. search needs)
-    (λ c. omega (arith, c .before .before .before .before .before .pre .0 .tall))
-    (λ c. omega (arith, c .before .before .before .before .before .pre .0 .tall))
-    (λ c. search needs)
-    (λ c. omega (arith, c .before .before .before .before .before .before .pre .0 .tall))
-    (λ c. omega (arith, c .before .before .before .before .before .before .pre .0 .tall))
-    -- The needs are sub-diamond-rank and diamond-rank-requires.
-    (λ c. let l = c .before .before .before .before .before in let s = l .before .before in
-    rising (s .args .t2) (s .args .lists .now) (l .loop .r) (s .pre .0) (omega (arith, c .before .before .before .before .loop-test .taken)))
-    (λ c κs. let l = c .before .before .before .before .before in let s = l .before .before in
-    tiers (s .args .t2) (s .args .lists .now) (l .loop .r) (s .pre .0) (omega (arith, c .before .before .before .before .loop-test .taken)))
+    -- The need is diamond-rank-requires.
+    (λ c κs. let s = c .before .before .before in (s .pre .0, omega (arith, c .loop-test .taken)))
     -- The needs are returns, add-r, loop-less, loop-again and returns-2.
-    (λ c. let b = c .before in let i = b .before .before .before .before .before in let l = i .before in let s = l .before .before in
+    (λ c. let b = c .before in let i = b .before in let l = i .before in let s = l .before .before in
     let more = i .loop-test .taken in let after = l .loop .inv .0 in
-    range-no (p (s .args .t2) (s .args .lists .now)) (suc (s .args .from)) _ (l .loop .r - s .args .from) (suc (l .loop .r)) (omega arith) (omega arith) (l .loop .inv .2)
-    (said (s .args .t2) (s .args .lists .now) (l .loop .r) _ (b .diamond-rank .ensures) ∙ not-true _ (c .if1 .taken)))
+    range-no (p (s .args .sh) (s .args .lists .now)) (suc (s .args .from)) _ (l .loop .r - s .args .from) (suc (l .loop .r)) (omega arith) (omega arith) (l .loop .inv .2)
+    (sym (b .diamond-rank .ensures) ∙ not-true _ (c .if1 .taken)))
     (λ c. search needs)
     (λ c. search needs)
-    (λ c. let b = c .before in let i = b .before .before .before .before .before in let l = i .before in let s = l .before .before in
+    (λ c. let b = c .before in let i = b .before in let l = i .before in let s = l .before .before in
     let more = i .loop-test .taken in let after = l .loop .inv .0 in (
       omega arith,
       omega arith,
-      turn-on (p (s .args .t2) (s .args .lists .now)) _ (s .args .from) (l .loop .r) after
-          (range-yes (p (s .args .t2) (s .args .lists .now)) (suc (s .args .from)) _ (l .loop .r - s .args .from) (suc (l .loop .r)) (omega arith) (omega arith) (l .loop .inv .2)
-          (said (s .args .t2) (s .args .lists .now) (l .loop .r) _ (b .diamond-rank .ensures) ∙ not-false _ (c .if1 .left))),
+      turn-on (p (s .args .sh) (s .args .lists .now)) _ (s .args .from) (l .loop .r) after
+          (range-yes (p (s .args .sh) (s .args .lists .now)) (suc (s .args .from)) _ (l .loop .r - s .args .from) (suc (l .loop .r)) (omega arith) (omega arith) (l .loop .inv .2)
+          (sym (b .diamond-rank .ensures) ∙ not-false _ (c .if1 .left))),
     ))
     (λ c. let l = c .before in let s = l .before .before in let after = l .loop .inv .0 in
-    range-end (p (s .args .t2) (s .args .lists .now)) (suc (s .args .from)) _ (l .loop .r - s .args .from) (omega (arith, c .loop-test .left)) (l .loop .inv .2)))
+    range-end (p (s .args .sh) (s .args .lists .now)) (suc (s .args .from)) _ (l .loop .r - s .args .from) (omega (arith, c .loop-test .left)) (l .loop .inv .2)))

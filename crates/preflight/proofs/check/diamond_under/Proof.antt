@@ -6,11 +6,11 @@ use native.Mathlib.Omega.{arith}
 use mathlib.Core.Path.{_≡_, refl, sym, _∙_}
 use mathlib.Core.Bool.{Bool}
 use mathlib.Core.List.{List}
-use Prim.Native.Nat.{ℕ, _≤_, _-_}
+use Prim.Native.Nat.{ℕ, _+_, _*_, _≤_, _-_}
 use lib.ListN.{length}
 use lib.Dec.{eqb}
 use Rattle.ranked.specs.Words.{listAt}
-use Rattle.ranked.specs.Reading.{Fork, supsWord, holding, twoUnder}
+use Rattle.ranked.specs.Reading.{Fork, holding, twoUnder}
 use Rattle.ranked.proofs.Turns.{entry-in, Every, every-yes, every-no, every-end}
 use Rattle.preflight.proofs.check.diamond_under.Statement.{statement}
 use Rattle.preflight.proofs.check.diamond_under.Tie as tie
@@ -26,7 +26,7 @@ abbrev μ : tie.MeasureT-loop
 
 -- The entry makes a fork with g.
 fork : (c : tie.After-entry-at Inv μ)
-    → let a = c .before .before .before .before .before .args in Fork (a .lists .now) (a .i) (supsWord (a .below) (c .entry-at .result)) (a .base) (a .g) (c .entry-at .result)
+    → let a = c .before .before .before .before .before .args in Fork (a .lists .now) (a .i) (a .below + 4 * c .entry-at .result) (a .base) (a .g) (c .entry-at .result)
 fork c =
     let l = c .before .before in
     let s = l .before .before .before in
@@ -42,9 +42,9 @@ diamond-under-spec =
     -- The needs are loop-holds and entry-at-requires.
     (λ c. (search needs, c .count-at .ensures, refl))
     (λ c κs. (search needs, search needs))
-    -- The needs are sups-at-requires and between-requires.
+    -- The needs are list-of-requires and between-requires.
     (λ c κs. omega (arith, fork c .down))
-    (λ c κs. rw (c .sups-at .ensures) (fork (c .before)))
+    (λ c κs. rw (c .list-of .ensures) (fork (c .before)))
     -- The needs are returns, add-k, loop-less, loop-again and returns-2.
     (λ c. let e = c .before .before .before in
     let l = e .before .before in
