@@ -69,21 +69,21 @@ decimal-cell n h = decimal-long 4 n (omega arith)
 
 -- ---- a number in a text
 
-pub room-small : (at n : ℕ) (old : List ℕ) → n < 10 → at + length (decimal n) ≤ length old → at < length old
-room-small at n old h g = omega (arith, ap length (decimal-small n h))
+pub room-small : (from n : ℕ) (old : List ℕ) → n < 10 → from + length (decimal n) ≤ length old → from < length old
+room-small from n old h g = omega (arith, ap length (decimal-small n h))
 
-pub puts-small : (at n x : ℕ) (old : List ℕ) → n < 10 → at + length (decimal n) ≤ length old → x ≡ 48 + n → Puts at (decimal n) old (set old at x) (at + 1)
-puts-small at n x old h g e = puts-is (puts-byte at x old (room-small at n old h g)) (ap (λ (y : ℕ). y ∷ []) e ∙ sym (decimal-small n h))
+pub puts-small : (from n x : ℕ) (old : List ℕ) → n < 10 → from + length (decimal n) ≤ length old → x ≡ 48 + n → Puts from (decimal n) old (set old from x) (from + 1)
+puts-small from n x old h g e = puts-is (puts-byte from x old (room-small from n old h g)) (ap (λ (y : ℕ). y ∷ []) e ∙ sym (decimal-small n h))
 
 -- There is room for a tenth's digits, and then for one more.
-pub room-tenth : (at n : ℕ) (old : List ℕ) → 10 ≤ n → at + length (decimal n) ≤ length old → at + length (decimal (n / 10)) ≤ length old
-room-tenth at n old h g = omega (arith, ap length (decimal-more n h), length-append (decimal (n / 10)) ((48 + n % 10) ∷ []))
+pub room-tenth : (from n : ℕ) (old : List ℕ) → 10 ≤ n → from + length (decimal n) ≤ length old → from + length (decimal (n / 10)) ≤ length old
+room-tenth from n old h g = omega (arith, ap length (decimal-more n h), length-append (decimal (n / 10)) ((48 + n % 10) ∷ []))
 
-pub room-more : {at n end : ℕ} {old new : List ℕ} → 10 ≤ n → at + length (decimal n) ≤ length old → Puts at (decimal (n / 10)) old new end → end < length new
+pub room-more : {from n end : ℕ} {old new : List ℕ} → 10 ≤ n → from + length (decimal n) ≤ length old → Puts from (decimal (n / 10)) old new end → end < length new
 room-more {n = n} h g p = rw add-one at (room-then p ((48 + n % 10) ∷ []) (rw (decimal-more n h) at g))
 
-pub puts-more : {at n end : ℕ} {old new : List ℕ} (x : ℕ) → 10 ≤ n → at + length (decimal n) ≤ length old → x ≡ 48 + n % 10
-    → Puts at (decimal (n / 10)) old new end → Puts at (decimal n) old (set new end x) (end + 1)
+pub puts-more : {from n end : ℕ} {old new : List ℕ} (x : ℕ) → 10 ≤ n → from + length (decimal n) ≤ length old → x ≡ 48 + n % 10
+    → Puts from (decimal (n / 10)) old new end → Puts from (decimal n) old (set new end x) (end + 1)
 puts-more {n = n} {end} {new = new} x h g e p =
     puts-is (puts-then p (puts-byte end x new (room-more h g p)))
     (ap (λ (y : ℕ). decimal (n / 10) ++ (y ∷ [])) e ∙ sym (decimal-more n h))

@@ -17,19 +17,19 @@ use Rattle.text.proofs.Decimals.{decimal-long, decimal-word}
 abbrev pub part : List ℕ → ℕ → List ℕ
 part label n = label ++ decimal n
 
-pub less : (at room : ℕ) (a b : List ℕ) → at + length (a ++ b) ≤ room → at + length a ≤ room
-less at room a b h = omega (arith, length-append a b)
+pub less : (from room : ℕ) (a b : List ℕ) → from + length (a ++ b) ≤ room → from + length a ≤ room
+less from room a b h = omega (arith, length-append a b)
 
 module _ (why : Refusal) (n : ℕ) (e : n ≡ number why) where
   pub refused-pieces : refusedLine why ≡ part (ascii "refused ") n ++ ascii "\n"
   unfolding refusedLine
   refused-pieces = rw e
 
-  module _ (at room : ℕ) (h : at + length (refusedLine why) ≤ room) where
-    pub refused-rooms : (at + length (part (ascii "refused ") n) ≤ room) × (at + length (part (ascii "refused ") n ++ ascii "\n") ≤ room)
+  module _ (from room : ℕ) (h : from + length (refusedLine why) ≤ room) where
+    pub refused-rooms : (from + length (part (ascii "refused ") n) ≤ room) × (from + length (part (ascii "refused ") n ++ ascii "\n") ≤ room)
     refused-rooms =
         let r = rw refused-pieces at h in
-        (less at room (part (ascii "refused ") n) (ascii "\n") r, r)
+        (less from room (part (ascii "refused ") n) (ascii "\n") r, r)
 
 module _ (r n e c : ℕ) where
   pub type-pieces : typeLine (record { rank = r; number = n; example = e; count = c })
@@ -37,23 +37,23 @@ module _ (r n e c : ℕ) where
   unfolding typeLine
   type-pieces = simp append-assoc
 
-  module _ (at room : ℕ) (h : at + length (typeLine (record { rank = r; number = n; example = e; count = c })) ≤ room) where
+  module _ (from room : ℕ) (h : from + length (typeLine (record { rank = r; number = n; example = e; count = c })) ≤ room) where
     pub type-rooms :
-        (at + length (decimal r) ≤ room)
-        × (at + length (decimal r ++ part (ascii " ") n) ≤ room)
-        × (at + length (decimal r ++ part (ascii " ") n ++ part (ascii " ") e) ≤ room)
-        × (at + length (decimal r ++ part (ascii " ") n ++ part (ascii " ") e ++ part (ascii " ") c) ≤ room)
-        × (at + length (decimal r ++ part (ascii " ") n ++ part (ascii " ") e ++ part (ascii " ") c ++ ascii "\n") ≤ room)
+        (from + length (decimal r) ≤ room)
+        × (from + length (decimal r ++ part (ascii " ") n) ≤ room)
+        × (from + length (decimal r ++ part (ascii " ") n ++ part (ascii " ") e) ≤ room)
+        × (from + length (decimal r ++ part (ascii " ") n ++ part (ascii " ") e ++ part (ascii " ") c) ≤ room)
+        × (from + length (decimal r ++ part (ascii " ") n ++ part (ascii " ") e ++ part (ascii " ") c ++ ascii "\n") ≤ room)
     type-rooms =
         let a = decimal r in
         let b = a ++ part (ascii " ") n in
         let d = b ++ part (ascii " ") e in
         let f = d ++ part (ascii " ") c in
-        let r4 : at + length (f ++ ascii "\n") ≤ room = rw type-pieces at h in
-        let r3 = less at room f (ascii "\n") r4 in
-        let r2 = less at room d (part (ascii " ") c) r3 in
-        let r1 = less at room b (part (ascii " ") e) r2 in
-        (less at room a (part (ascii " ") n) r1, r1, r2, r3, r4)
+        let r4 : from + length (f ++ ascii "\n") ≤ room = rw type-pieces at h in
+        let r3 = less from room f (ascii "\n") r4 in
+        let r2 = less from room d (part (ascii " ") c) r3 in
+        let r1 = less from room b (part (ascii " ") e) r2 in
+        (less from room a (part (ascii " ") n) r1, r1, r2, r3, r4)
 
 module _ (n c k : ℕ) where
   pub member-pieces : membersText n c k
@@ -61,20 +61,20 @@ module _ (n c k : ℕ) where
   unfolding membersText
   member-pieces = simp append-assoc
 
-  module _ (at room : ℕ) (h : at + length (membersText n c k) ≤ room) where
+  module _ (from room : ℕ) (h : from + length (membersText n c k) ≤ room) where
     pub member-rooms :
-        (at + length (part (ascii "members ") n) ≤ room)
-        × (at + length (part (ascii "members ") n ++ part (ascii " confirmed ") c) ≤ room)
-        × (at + length (part (ascii "members ") n ++ part (ascii " confirmed ") c ++ part (ascii " rotations ") k) ≤ room)
-        × (at + length (part (ascii "members ") n ++ part (ascii " confirmed ") c ++ part (ascii " rotations ") k ++ ascii "\n") ≤ room)
+        (from + length (part (ascii "members ") n) ≤ room)
+        × (from + length (part (ascii "members ") n ++ part (ascii " confirmed ") c) ≤ room)
+        × (from + length (part (ascii "members ") n ++ part (ascii " confirmed ") c ++ part (ascii " rotations ") k) ≤ room)
+        × (from + length (part (ascii "members ") n ++ part (ascii " confirmed ") c ++ part (ascii " rotations ") k ++ ascii "\n") ≤ room)
     member-rooms =
         let a = part (ascii "members ") n in
         let b = a ++ part (ascii " confirmed ") c in
         let d = b ++ part (ascii " rotations ") k in
-        let r3 : at + length (d ++ ascii "\n") ≤ room = rw member-pieces at h in
-        let r2 = less at room d (ascii "\n") r3 in
-        let r1 = less at room b (part (ascii " rotations ") k) r2 in
-        (less at room a (part (ascii " confirmed ") c) r1, r1, r2, r3)
+        let r3 : from + length (d ++ ascii "\n") ≤ room = rw member-pieces at h in
+        let r2 = less from room d (ascii "\n") r3 in
+        let r1 = less from room b (part (ascii " rotations ") k) r2 in
+        (less from room a (part (ascii " confirmed ") c) r1, r1, r2, r3)
 
 -- ---- how long they are, in bytes
 

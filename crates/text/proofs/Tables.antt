@@ -68,9 +68,9 @@ lines-more t i (suc k) h =
     let e : i + suc k ≡ i + k + 1 = omega arith in
     rw e (omega (arith, lines-more t i k (omega arith), ap length (lines-next t (i + k) (omega arith)), length-append (linesTo t (i + k)) (typeLine (typeOf (drop (4 * (i + k)) t)))))
 
-pub lines-room : (t : List ℕ) (i n at room : ℕ) → i < n → 4 * n ≤ length t → at + length (linesTo t n) ≤ room
-    → at + length (linesTo t i ++ typeLine (typeOf (drop (4 * i) t))) ≤ room
-lines-room t i n at room h f g =
+pub lines-room : (t : List ℕ) (i n from room : ℕ) → i < n → 4 * n ≤ length t → from + length (linesTo t n) ≤ room
+    → from + length (linesTo t i ++ typeLine (typeOf (drop (4 * i) t))) ≤ room
+lines-room t i n from room h f g =
     let e : i + 1 + (n - (i + 1)) ≡ n = omega arith in
     rw (← lines-next t i (omega arith)) (omega (arith, rw e at (lines-more t (i + 1) (n - (i + 1)) (rw e f))))
 
@@ -87,16 +87,16 @@ module _ (t : List ℕ) (n : ℕ) (f : 4 * n ≤ length t) where
   unfolding typesLines linesTo
   types-pieces = rw (length-types t n f)
 
-  module _ (at room : ℕ) (h : at + length (typesLines (typesFrom (take (4 * n) t))) ≤ room) where
+  module _ (from room : ℕ) (h : from + length (typesLines (typesFrom (take (4 * n) t))) ≤ room) where
     pub types-rooms :
-        (at + length (part (ascii "types ") n) ≤ room)
-        × (at + length (part (ascii "types ") n ++ ascii "\n") ≤ room)
-        × (at + length (part (ascii "types ") n ++ ascii "\n" ++ linesTo t n) ≤ room)
+        (from + length (part (ascii "types ") n) ≤ room)
+        × (from + length (part (ascii "types ") n ++ ascii "\n") ≤ room)
+        × (from + length (part (ascii "types ") n ++ ascii "\n" ++ linesTo t n) ≤ room)
     types-rooms =
         let a = part (ascii "types ") n in
-        let r2 : at + length (a ++ ascii "\n" ++ linesTo t n) ≤ room = rw types-pieces at h in
-        let r1 = less at room (a ++ ascii "\n") (linesTo t n) r2 in
-        (less at room a (ascii "\n") r1, r1, r2)
+        let r2 : from + length (a ++ ascii "\n" ++ linesTo t n) ≤ room = rw types-pieces at h in
+        let r1 = less from room (a ++ ascii "\n") (linesTo t n) r2 in
+        (less from room a (ascii "\n") r1, r1, r2)
 
 -- ---- how long they are
 

@@ -15,10 +15,10 @@ use Rattle.text.proofs.lines.type_lines.Statement.{statement}
 use Rattle.text.proofs.lines.type_lines.Tie as tie
 
 abbrev Inv-loop : tie.InvT-loop
-Inv-loop out₀ at table n end₀ i₀ out end i = (i ≤ n) × (length out ≡ length out₀) × Puts at (linesTo table i) out₀ out end
+Inv-loop out₀ from table n end₀ i₀ out end i = (i ≤ n) × (length out ≡ length out₀) × Puts from (linesTo table i) out₀ out end
 
 abbrev μ-loop : tie.MeasureT-loop
-μ-loop out₀ at table n end₀ i₀ out end i = n - i
+μ-loop out₀ from table n end₀ i₀ out end i = n - i
 
 loop-holds : tie.Need-loop-holds Inv-loop μ-loop
 loop-holds c =

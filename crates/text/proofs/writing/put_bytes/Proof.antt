@@ -14,10 +14,10 @@ use Rattle.text.proofs.writing.put_bytes.Statement.{statement}
 use Rattle.text.proofs.writing.put_bytes.Tie as tie
 
 abbrev Inv-loop : tie.InvT-loop
-Inv-loop out₀ at s i₀ out i = (i ≤ length s) × (length out ≡ length out₀) × Puts at (take i s) out₀ out (at + i)
+Inv-loop out₀ from s i₀ out i = (i ≤ length s) × (length out ≡ length out₀) × Puts from (take i s) out₀ out (from + i)
 
 abbrev μ-loop : tie.MeasureT-loop
-μ-loop out₀ at s i₀ out i = length s - i
+μ-loop out₀ from s i₀ out i = length s - i
 
 loop-holds : tie.Need-loop-holds Inv-loop μ-loop
 loop-holds c = (search needs, refl, rw add-zero (puts-none (c .args .from) (c .args .out .now) (omega arith)))
