@@ -64,9 +64,8 @@ fn from11(
     requires { ⌜ (2 ≤ sh .rank) × (f < sizeAt sh (sh .rank - 1)) ⌝ }
     requires { ⌜ Countable sh (now words) × ClassesIn sh (listsOf sh (now words)) (now floats) ⌝ }
     requires { ⌜ Parted (solidIn sh (now words) (now floats)) ⌝ }
-    ensures { λ r. ⌜ GivesSearched rotations (λ c d. from11 c d (stateIn sh (now (words .entry)))) f (solidIn sh (now (words .entry)) (now (floats .entry)))
-        (outOf (now (matrices .entry)) (now (rows .entry)) (now (marks .entry)))
-        r (outOf (now (matrices .exit)) (now (rows .exit)) (now (marks .exit))) ⌝ }
+    ensures { λ r. ⌜ GivesSearched rotations (λ c d. from11 c d (stateIn sh (now (words .entry)))) f
+        (solidIn sh (now (words .entry)) (now (floats .entry))) r matrices rows marks ⌝ }
 {
     let mut found = false;
     let inverse = first_inverse(sh.lists(words), sh, floats, &mut found);
@@ -94,9 +93,7 @@ fn from15(
     requires { ⌜ Bench sh (now words) (now floats) ⌝ }
     requires { ⌜ (2 ≤ sh .rank) × (f < sizeAt sh (sh .rank - 1)) ⌝ }
     requires { ⌜ Parted (solidIn sh (now words) (now floats)) ⌝ }
-    ensures { λ r. ⌜ GivesSearched rotations from15 f (solidIn sh (now (words .entry)) (now (floats .entry)))
-        (outOf (now (matrices .entry)) (now (rows .entry)) (now (marks .entry)))
-        r (outOf (now (matrices .exit)) (now (rows .exit)) (now (marks .exit))) ⌝ }
+    ensures { λ r. ⌜ GivesSearched rotations from15 f (solidIn sh (now (words .entry)) (now (floats .entry))) r matrices rows marks ⌝ }
 {
     match types_of(words, sh, floats) {
         Ending::Settled => from11(words, sh, f, floats, rotations, matrices, rows, marks),
@@ -117,9 +114,7 @@ fn from10(
     requires { ⌜ Bench sh (now words) (now floats) ⌝ }
     requires { ⌜ 2 ≤ sh .rank ⌝ }
     requires { ⌜ Parted (solidIn sh (now words) (now floats)) ⌝ }
-    ensures { λ r. ⌜ GivesRead rotations from10 (solidIn sh (now (words .entry)) (now (floats .entry)))
-        (outOf (now (matrices .entry)) (now (rows .entry)) (now (marks .entry)))
-        r (outOf (now (matrices .exit)) (now (rows .exit)) (now (marks .exit))) ⌝ }
+    ensures { λ r. ⌜ GivesRead rotations from10 (solidIn sh (now (words .entry)) (now (floats .entry))) r matrices rows marks ⌝ }
 {
     let far = first_far(sh.lists(words), sh, floats);
     match far {
@@ -144,9 +139,7 @@ fn from9(
     requires { ⌜ Bench sh (now words) (now floats) ⌝ }
     requires { ⌜ 2 ≤ sh .rank ⌝ }
     requires { ⌜ 1 ≤ sh .dimension ⌝ }
-    ensures { λ r. ⌜ GivesRead rotations from9 (solidIn sh (now (words .entry)) (now (floats .entry)))
-        (outOf (now (matrices .entry)) (now (rows .entry)) (now (marks .entry)))
-        r (outOf (now (matrices .exit)) (now (rows .exit)) (now (marks .exit))) ⌝ }
+    ensures { λ r. ⌜ GivesRead rotations from9 (solidIn sh (now (words .entry)) (now (floats .entry))) r matrices rows marks ⌝ }
 {
     if no_double(floats, sh.dimension, sh.vertices()) {
         return from10(words, sh, floats, rotations, matrices, rows, marks);
@@ -165,9 +158,7 @@ fn from8(
     marks: &mut [u8],
 ) -> Answer
     requires { ⌜ Bench sh (now words) (now floats) ⌝ }
-    ensures { λ r. ⌜ GivesRead rotations setting (solidIn sh (now (words .entry)) (now (floats .entry)))
-        (outOf (now (matrices .entry)) (now (rows .entry)) (now (marks .entry)))
-        r (outOf (now (matrices .exit)) (now (rows .exit)) (now (marks .exit))) ⌝ }
+    ensures { λ r. ⌜ GivesRead rotations setting (solidIn sh (now (words .entry)) (now (floats .entry))) r matrices rows marks ⌝ }
 {
     if is_full(sh) {
         return from9(words, sh, floats, rotations, matrices, rows, marks);

@@ -5,19 +5,14 @@ use mathlib.Core.Path.{_≡_}
 use Prim.Native.Nat.{_-_, _≤_, _<_}
 use Rattle.spec.specs.Lists.{range}
 use Rattle.spec.specs.Search.{firstFar}
-use Rattle.spec.specs.Calls.{SearchOut}
 use Rattle.ranked.specs.Words.{sizeAt}
 use Rattle.ranked.specs.Layout.{solidIn}
 use Rattle.preflight.proofs.Benches.{laid}
-use Rattle.symmetry.specs.Tails.{outOf}
 use Rattle.search.specs.Reading.{farOf}
 use Rattle.search.proofs.Benched.{coordinates-in}
 use Rattle.search.proofs.Steps.{centred, facet-in, exchanged-bench, exchanged-parted, far-off}
 use Rattle.search.proofs.driver.from10.Statement.{statement}
 use Rattle.search.proofs.driver.from10.Tie as tie
-
-abbrev old : tie.Start → SearchOut
-old s = outOf (s .args .matrices .now) (s .args .rows .now) (s .args .marks .now)
 
 entry : (c : tie.After-first-far) → tie.Start
 entry c = c .before .before .before .before .before .before .before .before .before
@@ -67,7 +62,7 @@ from10-spec =
     (λ c. let r = c .before .before in
     let s = entry r in
     let a = s .args in
-    centred (a .sh) (a .words .now) (a .floats .now) (s .pre .1 .0) _ (far-is r) (a .rotations) (old s) (c .enum-told .given .1))
+    centred (a .sh) (a .words .now) (a .floats .now) (s .pre .1 .0) _ (far-is r) _ _ (c .enum-told .given .1))
     -- The needs are same-length-3 to same-length-7 and returns-2.
     (λ c. search needs)
     (λ c. search needs)
@@ -80,4 +75,4 @@ from10-spec =
     let r = far v in
     let s = entry r in
     let a = s .args in
-    far-off (a .sh) (a .words .now) (a .floats .now) (s .pre .1 .0) _ (far-is r) _ (v .far .given .1) (s .pre .0) _ (x .exchange .ensures .0) (a .rotations) (old s) _ (k .from15 .ensures)))
+    far-off (a .sh) (a .words .now) (a .floats .now) (s .pre .1 .0) _ (far-is r) _ (v .far .given .1) (s .pre .0) _ (x .exchange .ensures .0) _ _ _ (k .from15 .ensures)))

@@ -1,14 +1,9 @@
 -- The judgement behind refusal 15 and what follows it give the rest of the call.
 -- Assumes nothing.
 use borrow.Author.Needs.{needs}
-use Rattle.spec.specs.Calls.{SearchOut}
-use Rattle.symmetry.specs.Tails.{outOf}
 use Rattle.search.proofs.Steps.{typed-bench, typed-classes, typed-parted, unsettled, settled}
 use Rattle.search.proofs.driver.from15.Statement.{statement}
 use Rattle.search.proofs.driver.from15.Tie as tie
-
-abbrev old : tie.Start → SearchOut
-old s = outOf (s .args .matrices .now) (s .args .rows .now) (s .args .marks .now)
 
 entry : (c : tie.After-types-of) → tie.Start
 entry c = c .before .before .before .before .before .before .before .before
@@ -36,11 +31,9 @@ from15-spec =
     (λ c. let k = c .before .before .before .before .before .before .before .before .before .before in
     let i = k .before .before .before .before .before .before in
     let t = i .before .before .before .before .before .before in
-    let s = entry t in
-    settled _ _ _ _ _ _ (t .types-of .ensures) (s .args .rotations) (old s) (i .enum-told .given .1) (s .args .f) _ (k .from11 .ensures))
+    settled _ _ _ _ _ _ (t .types-of .ensures) _ _ (i .enum-told .given .1) _ _ (k .from11 .ensures))
     -- The needs are same-length-6, same-length-7 and returns-2.
     (λ c. search needs)
     (λ c. search needs)
     (λ c. let t = c .before .before .before .before .before .before in
-    let s = entry t in
-    unsettled _ _ _ _ _ _ (t .types-of .ensures) (s .args .rotations) (old s) (c .enum-told2 .given .1) _))
+    unsettled _ _ _ _ _ _ (t .types-of .ensures) _ _ (c .enum-told2 .given .1) _))

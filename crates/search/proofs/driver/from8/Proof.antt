@@ -1,14 +1,9 @@
 -- The judgement behind refusal 8 and what follows it give the rest of the call.
 -- Assumes nothing.
 use borrow.Author.Needs.{needs}
-use Rattle.spec.specs.Calls.{SearchOut}
-use Rattle.symmetry.specs.Tails.{outOf}
 use Rattle.search.proofs.Steps.{tall, not-full, is-full}
 use Rattle.search.proofs.driver.from8.Statement.{statement}
 use Rattle.search.proofs.driver.from8.Tie as tie
-
-abbrev old : tie.Start → SearchOut
-old s = outOf (s .args .matrices .now) (s .args .rows .now) (s .args .marks .now)
 
 entry : (c : tie.After-is-full) → tie.Start
 entry c = c .before .before .before .before .before .before
@@ -33,6 +28,6 @@ from8-spec =
     (λ c. let k = c .before .before .before .before .before .before .before .before .before .before in
     let i = k .before .before .before .before .before .before in
     let s = entry (i .before) in
-    is-full (s .args .sh) _ (i .before .is-full .ensures) (s .args .words .now) (s .args .floats .now) (s .args .rotations) (old s) (i .if1 .taken) _ (k .from9 .ensures))
+    is-full (s .args .sh) _ (i .before .is-full .ensures) (s .args .words .now) (s .args .floats .now) _ _ (i .if1 .taken) _ (k .from9 .ensures))
     (λ c. let s = entry (c .before) in
-    not-full (s .args .sh) _ (c .before .is-full .ensures) (s .args .words .now) (s .args .floats .now) (s .args .rotations) (old s) (c .if1 .left)))
+    not-full (s .args .sh) _ (c .before .is-full .ensures) (s .args .words .now) (s .args .floats .now) _ _ (c .if1 .left)))

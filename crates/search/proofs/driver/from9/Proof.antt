@@ -1,15 +1,10 @@
 -- The judgement behind refusal 9 and what follows it give the rest of the call.
 -- Assumes nothing.
 use borrow.Author.Needs.{needs}
-use Rattle.spec.specs.Calls.{SearchOut}
-use Rattle.symmetry.specs.Tails.{outOf}
 use Rattle.search.proofs.Benched.{coordinates-in}
 use Rattle.search.proofs.Steps.{parted, doubled, not-doubled}
 use Rattle.search.proofs.driver.from9.Statement.{statement}
 use Rattle.search.proofs.driver.from9.Tie as tie
-
-abbrev old : tie.Start → SearchOut
-old s = outOf (s .args .matrices .now) (s .args .rows .now) (s .args .marks .now)
 
 entry : (c : tie.After-no-double) → tie.Start
 entry c = c .before .before .before .before .before .before .before .before
@@ -39,9 +34,9 @@ from9-spec =
     let n = i .before in
     let s = entry n in
     let a = s .args in
-    not-doubled (a .sh) (a .words .now) (a .floats .now) _ (n .before .vertices .ensures) _ (n .no-double .ensures) (a .rotations) (old s) (i .if1 .taken) _ (k .from10 .ensures))
+    not-doubled (a .sh) (a .words .now) (a .floats .now) _ (n .before .vertices .ensures) _ (n .no-double .ensures) _ _ (i .if1 .taken) _ (k .from10 .ensures))
     (λ c. search needs)
     (λ c. let n = c .before in
     let s = entry n in
     let a = s .args in
-    doubled (a .sh) (a .words .now) (a .floats .now) _ (n .before .vertices .ensures) _ (n .no-double .ensures) (a .rotations) (old s) (c .if1 .left)))
+    doubled (a .sh) (a .words .now) (a .floats .now) _ (n .before .vertices .ensures) _ (n .no-double .ensures) _ _ (c .if1 .left)))

@@ -1,14 +1,9 @@
 -- Preflight's refusals, 1 to 7, come first, and then what is after them.
 -- Assumes nothing.
 use borrow.Author.Needs.{needs}
-use Rattle.spec.specs.Calls.{SearchOut}
-use Rattle.symmetry.specs.Tails.{outOf}
 use Rattle.search.proofs.Steps.{unready-call, benched, passed-call}
 use Rattle.search.proofs.driver.run.Statement.{statement}
 use Rattle.search.proofs.driver.run.Tie as tie
-
-abbrev old : tie.Start → SearchOut
-old s = outOf (s .args .matrices .now) (s .args .rows .now) (s .args .marks .now)
 
 entry : (c : tie.After-preflight) → tie.Start
 entry c = c .before .before .before .before .before .before .before .before .before
@@ -31,7 +26,7 @@ run-spec =
     (λ c. let v = c .before in
     let p = v .before .before .before .before .before .before .before in
     let s = entry p in
-    unready-call _ _ _ _ _ _ (p .preflight .ensures) (s .args .rotations) (old s) _ (v .verdict .given .1))
+    unready-call _ _ _ _ _ _ (p .preflight .ensures) (s .args .rotations) _ _ (v .verdict .given .1))
     -- The needs are same-length-3 to same-length-7 and returns-2.
     (λ c. search needs)
     (λ c. search needs)
@@ -42,4 +37,4 @@ run-spec =
     let v = k .before .before .before .before .before .before in
     let p = v .before .before .before .before .before .before .before in
     let s = entry p in
-    passed-call _ _ _ _ _ _ (p .preflight .ensures) (v .enum-told .given .1) (s .args .rotations) (old s) _ (k .from8 .ensures)))
+    passed-call _ _ _ _ _ _ (p .preflight .ensures) (v .enum-told .given .1) (s .args .rotations) _ _ (k .from8 .ensures)))
