@@ -4,7 +4,6 @@
 // first row. tools/make_floats.sh made floats.in and floats.out.
 ghost use Prim.Native.Nat.{_≤_};
 ghost use Rattle.spec.specs.Limits.{maxDimension};
-use crate::RECORDS;
 use float::DIMENSION;
 use float::bits;
 use wire::Run;
@@ -18,7 +17,7 @@ fn read_matrix(from: i32, d: usize) -> [[f64; DIMENSION]; DIMENSION]
     let mut i: usize = 0;
     while i < d {
         let mut row = [0.0; DIMENSION];
-        reading::floats(from, &mut row[..d]);
+        reading::floats(from, &mut row[0..d]);
         m[i] = row;
         i += 1;
     }
@@ -28,7 +27,7 @@ fn read_matrix(from: i32, d: usize) -> [[f64; DIMENSION]; DIMENSION]
 fn write_row(run: Run, row: [f64; DIMENSION], d: usize) -> Run
     requires { ⌜ d ≤ maxDimension ⌝ }
 {
-    writing::floats(run, &row[..d])
+    writing::floats(run, &row[0..d])
 }
 
 fn write_matrix(run: Run, m: [[f64; DIMENSION]; DIMENSION], d: usize) -> Run
@@ -84,27 +83,14 @@ fn replay_root(run: Run) -> Run {
     writing::number(run, bits::pattern(float::root::root(x[0])))
 }
 
-fn replay_one(run: Run, tag: usize) -> Run
-    requires { ⌜ tag ≤ maxDimension ⌝ }
-{
+// Reads one record and answers it.
+pub fn replay_one(run: Run) -> Run {
+    let tag = reading::number(run.from, DIMENSION);
+    if tag > DIMENSION {
+        return writing::finished(run);
+    }
     if tag == 0 {
         return replay_root(run);
     }
     replay_matrix(run, tag)
-}
-
-// Answers each record in turn. A file that has too many records fails.
-pub fn replay(from: i32, to: i32) -> Run {
-    let mut run = wire::start(from, to);
-    let mut left = RECORDS;
-    while left > 0 {
-        let tag = reading::number(from, DIMENSION as u64);
-        if tag > DIMENSION as u64 {
-            return writing::finished(run);
-        }
-        let next = replay_one(run, tag as usize);
-        run = next;
-        left -= 1;
-    }
-    writing::failed(run)
 }

@@ -3,18 +3,81 @@
 // argument, as in the gate, it replays the five files WORD.in of the folder that it is run in, holds each answer to WORD.out, and says for each
 // whether all are the same.
 mod copies;
+mod digests;
 mod floats;
 mod searches;
 mod sheets;
 mod types_calls;
 
+use spec::Answer;
 use wire::Run;
+use wire::writing;
 
 // A file has fewer records than this.
 const RECORDS: u64 = 100_000;
 
-// Says how many bytes of answers are as stored, and whether these are all.
-fn tell(word: &[u8], run: Run) -> bool {
+// Each cell of a lent workspace holds one of these before a call, so that a call that counts on zeros there is found out.
+const USED_WORD: u32 = 0xa5a5_a5a5;
+
+const USED_FLOAT: f64 = -1.5e300;
+
+// These are the numbers that a stored answer begins with: that of the refusal, or 0, and the count.
+struct Numbers {
+    refusal: u64,
+    count: u64,
+}
+
+fn numbers_of(answer: Answer) -> Numbers {
+    match answer {
+        Answer::Done(n) => Numbers {
+            refusal: 0,
+            count: n as u64,
+        },
+        Answer::Refused(why, n) => Numbers {
+            refusal: why.number() as u64,
+            count: n as u64,
+        },
+    }
+}
+
+// Reads a record of the kind that the word names, and answers it. The run ends where no record begins, and fails where the word names no kind.
+fn replay_one(word: &[u8], run: Run) -> Run {
+    if check::same(word, b"floats") {
+        return floats::replay_one(run);
+    }
+    if check::same(word, b"sheets") {
+        return sheets::replay_one(run);
+    }
+    if check::same(word, b"types") {
+        return types_calls::replay_one(run);
+    }
+    if check::same(word, b"searches") {
+        return searches::replay_one(run);
+    }
+    if check::same(word, b"copies") {
+        return copies::replay_one(run);
+    }
+    writing::failed(run)
+}
+
+// Answers each record in turn. A file that has too many records fails.
+fn replay(word: &[u8], from: i32, to: i32) -> Run {
+    let mut run = wire::start(from, to);
+    let mut left = RECORDS;
+    while left > 0 {
+        let next = replay_one(word, run);
+        if next.ended {
+            return next;
+        }
+        run = next;
+        left -= 1;
+    }
+    writing::failed(run)
+}
+
+// Holds the answers of one file to those of another. Says how many bytes of them are as stored, and whether these are all.
+fn hold(word: &[u8], calls: &[u8], answers: &[u8]) -> bool {
+    let run = replay(word, os::open_read(calls), os::open_read(answers));
     io::write_all(1, word);
     io::write_all(1, b" ");
     io::print_decimal(1, run.count);
@@ -24,51 +87,12 @@ fn tell(word: &[u8], run: Run) -> bool {
     io::write_all(1, b" bytes as stored, and then no longer\n")
 }
 
-// Holds the answers to the stored ones.
 fn hold_all() {
-    tell(
-        b"floats",
-        floats::replay(os::open_read(b"floats.in"), os::open_read(b"floats.out")),
-    );
-    tell(
-        b"sheets",
-        sheets::replay(os::open_read(b"sheets.in"), os::open_read(b"sheets.out")),
-    );
-    tell(
-        b"types",
-        types_calls::replay(os::open_read(b"types.in"), os::open_read(b"types.out")),
-    );
-    tell(
-        b"searches",
-        searches::replay(
-            os::open_read(b"searches.in"),
-            os::open_read(b"searches.out"),
-        ),
-    );
-    tell(
-        b"copies",
-        copies::replay(os::open_read(b"copies.in"), os::open_read(b"copies.out")),
-    );
-}
-
-// Answers the records of standard input. It tells whether the word names a kind of them, and whether all were answered.
-fn answer(word: &[u8]) -> bool {
-    if check::same(word, b"floats") {
-        return floats::replay(0, 1).good;
-    }
-    if check::same(word, b"sheets") {
-        return sheets::replay(0, 1).good;
-    }
-    if check::same(word, b"types") {
-        return types_calls::replay(0, 1).good;
-    }
-    if check::same(word, b"searches") {
-        return searches::replay(0, 1).good;
-    }
-    if check::same(word, b"copies") {
-        return copies::replay(0, 1).good;
-    }
-    false
+    hold(b"floats", b"floats.in", b"floats.out");
+    hold(b"sheets", b"sheets.in", b"sheets.out");
+    hold(b"types", b"types.in", b"types.out");
+    hold(b"searches", b"searches.in", b"searches.out");
+    hold(b"copies", b"copies.in", b"copies.out");
 }
 
 fn main() {
@@ -78,7 +102,7 @@ fn main() {
         hold_all();
         return;
     }
-    if !answer(&word[..n]) {
+    if !replay(&word[..n], 0, 1).good {
         io::write_all(
             2,
             b"replay: no such kind of records, or a record that is not whole\n",

@@ -1,14 +1,18 @@
 // This module replays stored searches. In a record all numbers are whole, eight bytes each, highest byte first: which call it is (0 search, 1
 // rotations; 2 and 3 the same, answered whole), how long the sheet is, how many words and floats the workspace has, how long the outputs of matrices,
 // rows and marks are; then come the sheet's bytes. Its answer is a line with the refusal's number, or 0, the count, and a digest of each output
-// (wire::digests). Where it is to be whole there are the outputs instead: a line for each matrix (the floats' patterns in hexadecimal digits), one
+// (module `digests`). Where it is to be whole there are the outputs instead: a line for each matrix (the floats' patterns in hexadecimal digits), one
 // for each row, and one with all marks. tools/make_searches.py made searches.in and searches.out.
-ghost use Prim.Native.Nat.{_<_};
-use crate::RECORDS;
+ghost use mathlib.Core.Path.{_≡_};
+ghost use Prim.Native.Nat.{_<_, _^_};
+ghost use Rattle.replay.specs.Outputs.{lengthOf};
+use crate::USED_FLOAT;
+use crate::USED_WORD;
+use crate::digests;
+use crate::numbers_of;
 use float::bits;
 use spec::Answer;
 use wire::Run;
-use wire::digests;
 use wire::filling;
 use wire::reading;
 use wire::writing;
@@ -27,7 +31,14 @@ const ROWS: usize = 32768;
 const MARKS: usize = 2048;
 
 // This is the number of the last of the four calls.
-const CALLS: u64 = 3;
+const CALLS: usize = 3;
+
+// These are the outputs of a search: floats, cells and bytes.
+enum Output {
+    Matrices,
+    Rows,
+    Marks,
+}
 
 // Writes a number of at most five decimal digits: no number here is larger.
 fn write_number(run: Run, n: u64) -> Run {
@@ -49,14 +60,52 @@ fn write_gap(run: Run, last: bool) -> Run {
     writing::bytes(run, b" ")
 }
 
-// This function and the two after it write an output, with `line` numbers on each line.
-fn write_floats(run: Run, s: &[f64], line: usize) -> Run
+// Returns how many entries the output has.
+fn length_of(output: Output, matrices: &[f64], rows: &[u16], marks: &[u8]) -> usize
+    ensures { λ r. ⌜ r ≡ lengthOf output (now (matrices .entry)) (now (rows .entry)) (now (marks .entry)) ⌝ }
+{
+    match output {
+        Output::Matrices => matrices.len(),
+        Output::Rows => rows.len(),
+        Output::Marks => marks.len(),
+    }
+}
+
+// Returns an entry of the output as a number. That of a float is its bit pattern.
+fn entry(output: Output, i: usize, matrices: &[f64], rows: &[u16], marks: &[u8]) -> u64
+    requires { ⌜ i < lengthOf output (now matrices) (now rows) (now marks) ⌝ }
+{
+    match output {
+        Output::Matrices => bits::pattern(matrices[i]),
+        Output::Rows => wire::cell_number(rows[i]),
+        Output::Marks => wire::byte_number(marks[i]),
+    }
+}
+
+// Writes the number of an entry: in hexadecimal digits where it is a pattern, and else in decimal ones.
+fn write_entry(run: Run, output: Output, n: u64) -> Run {
+    match output {
+        Output::Matrices => writing::pattern(run, n),
+        _ => write_number(run, n),
+    }
+}
+
+// Writes an output, with `line` entries on each line.
+fn write_output(
+    run: Run,
+    output: Output,
+    line: usize,
+    matrices: &[f64],
+    rows: &[u16],
+    marks: &[u8],
+) -> Run
     requires { ⌜ 0 < line ⌝ }
 {
+    let n = length_of(output, matrices, rows, marks);
     let mut after = run;
     let mut i: usize = 0;
-    while i < s.len() {
-        let one = writing::pattern(after, bits::pattern(s[i]));
+    while i < n {
+        let one = write_entry(after, output, entry(output, i, matrices, rows, marks));
         i += 1;
         let next = write_gap(one, i % line == 0);
         after = next;
@@ -64,32 +113,26 @@ fn write_floats(run: Run, s: &[f64], line: usize) -> Run
     after
 }
 
-fn write_cells(run: Run, s: &[u16], line: usize) -> Run
-    requires { ⌜ 0 < line ⌝ }
+// Returns the digest after the number of one more entry.
+fn digested(state: u64, output: Output, n: u64) -> u64
+    requires { ⌜ state < 2 ^ 44 ⌝ }
+    ensures { λ r. ⌜ r < 2 ^ 44 ⌝ }
 {
-    let mut after = run;
-    let mut i: usize = 0;
-    while i < s.len() {
-        let one = write_number(after, wire::wider(s[i]));
-        i += 1;
-        let next = write_gap(one, i % line == 0);
-        after = next;
+    match output {
+        Output::Matrices => digests::pattern(state, n),
+        _ => digests::piece(state, n),
     }
-    after
 }
 
-fn write_bytes(run: Run, s: &[u8], line: usize) -> Run
-    requires { ⌜ 0 < line ⌝ }
-{
-    let mut after = run;
+fn digest(output: Output, matrices: &[f64], rows: &[u16], marks: &[u8]) -> u64 {
+    let n = length_of(output, matrices, rows, marks);
+    let mut state = digests::FIRST;
     let mut i: usize = 0;
-    while i < s.len() {
-        let one = write_number(after, wire::wide(s[i]));
+    while i < n {
+        state = digested(state, output, entry(output, i, matrices, rows, marks));
         i += 1;
-        let next = write_gap(one, i % line == 0);
-        after = next;
     }
-    after
+    state
 }
 
 // Returns how many of the cells go on each line.
@@ -109,30 +152,23 @@ fn to_a_line(cells: usize, lines: usize) -> usize
 // Writes the outputs themselves: a line for each member's matrix and row, where there are as many marks as members, and one line for the marks.
 fn write_outputs(run: Run, matrices: &[f64], rows: &[u16], marks: &[u8]) -> Run {
     let n = marks.len();
-    let a = write_floats(run, matrices, to_a_line(matrices.len(), n));
-    let b = write_cells(a, rows, to_a_line(rows.len(), n));
-    write_bytes(b, marks, to_a_line(n, 1))
+    let m = to_a_line(matrices.len(), n);
+    let r = to_a_line(rows.len(), n);
+    let a = write_output(run, Output::Matrices, m, matrices, rows, marks);
+    let b = write_output(a, Output::Rows, r, matrices, rows, marks);
+    write_output(b, Output::Marks, to_a_line(n, 1), matrices, rows, marks)
 }
 
 fn write_digests(run: Run, matrices: &[f64], rows: &[u16], marks: &[u8]) -> Run {
-    let a = write_gap(writing::pattern(run, digests::floats(matrices)), false);
-    let b = write_gap(writing::pattern(a, digests::cells(rows)), false);
-    write_gap(writing::pattern(b, digests::bytes(marks)), true)
+    let m = digest(Output::Matrices, matrices, rows, marks);
+    let r = digest(Output::Rows, matrices, rows, marks);
+    let k = digest(Output::Marks, matrices, rows, marks);
+    let a = write_gap(writing::pattern(run, m), false);
+    let b = write_gap(writing::pattern(a, r), false);
+    write_gap(writing::pattern(b, k), true)
 }
 
-fn write_pair(run: Run, number: u64, count: usize, last: bool) -> Run {
-    let a = write_gap(write_number(run, number), false);
-    write_gap(write_number(a, count as u64), last)
-}
-
-// Writes the refusal's number and the count.
-fn write_answer(run: Run, answer: Answer, last: bool) -> Run {
-    match answer {
-        Answer::Done(n) => write_pair(run, 0, n, last),
-        Answer::Refused(why, n) => write_pair(run, why.number() as u64, n, last),
-    }
-}
-
+// Writes the number of the refusal, or 0, and the count, and then the outputs, whole or by their digests.
 fn write(
     run: Run,
     answer: Answer,
@@ -141,11 +177,13 @@ fn write(
     rows: &[u16],
     marks: &[u8],
 ) -> Run {
-    let told = write_answer(run, answer, whole);
+    let first = numbers_of(answer);
+    let a = write_gap(write_number(run, first.refusal), false);
+    let b = write_gap(write_number(a, first.count), whole);
     if whole {
-        return write_outputs(told, matrices, rows, marks);
+        return write_outputs(b, matrices, rows, marks);
     }
-    write_digests(told, matrices, rows, marks)
+    write_digests(b, matrices, rows, marks)
 }
 
 fn answer(
@@ -163,16 +201,17 @@ fn answer(
     search::search(sheet, words, floats, matrices, rows, marks)
 }
 
-fn fill(matrices: &mut [f64], rows: &mut [u16], marks: &mut [u8]) {
+// Reads a sheet that just fills its slice, and fills the outputs.
+fn prepare(from: i32, sheet: &mut [u8], matrices: &mut [f64], rows: &mut [u16], marks: &mut [u8]) {
+    io::read_full(from, sheet);
     filling::floats(matrices);
     filling::cells(rows);
     filling::bytes(marks);
 }
 
-// Reads a sheet that just fills its slice, and searches.
 fn call(
     run: Run,
-    kind: u64,
+    kind: usize,
     sheet: &mut [u8],
     words: &mut [u32],
     floats: &mut [f64],
@@ -180,85 +219,40 @@ fn call(
     rows: &mut [u16],
     marks: &mut [u8],
 ) -> Run {
-    io::read_full(run.from, sheet);
-    fill(matrices, rows, marks);
+    prepare(run.from, sheet, matrices, rows, marks);
     let given = answer(kind % 2 == 1, sheet, words, floats, matrices, rows, marks);
     write(run, given, kind / 2 == 1, matrices, rows, marks)
 }
 
-fn replay_one(
-    run: Run,
-    kind: u64,
-    sheet: &mut [u8],
-    words: &mut [u32],
-    floats: &mut [f64],
-    matrices: &mut [f64],
-    rows: &mut [u16],
-    marks: &mut [u8],
-) -> Run {
-    let s = reading::number(run.from, BYTES as u64) as usize;
-    let w = reading::number(run.from, WORDS as u64) as usize;
-    let f = reading::number(run.from, FLOATS as u64) as usize;
-    let m = reading::number(run.from, MATRICES as u64) as usize;
-    let r = reading::number(run.from, ROWS as u64) as usize;
-    let k = reading::number(run.from, MARKS as u64) as usize;
-    if sheet.len() < s {
+// Reads one record and answers it.
+pub fn replay_one(run: Run) -> Run {
+    let kind = reading::number(run.from, CALLS);
+    if kind > CALLS {
+        return writing::finished(run);
+    }
+    let s = reading::number(run.from, BYTES);
+    let w = reading::number(run.from, WORDS);
+    let f = reading::number(run.from, FLOATS);
+    let m = reading::number(run.from, MATRICES);
+    let r = reading::number(run.from, ROWS);
+    let k = reading::number(run.from, MARKS);
+    if s > BYTES || w > WORDS || f > FLOATS || m > MATRICES || r > ROWS || k > MARKS {
         return writing::failed(run);
     }
-    if words.len() < w {
-        return writing::failed(run);
-    }
-    if floats.len() < f {
-        return writing::failed(run);
-    }
-    if matrices.len() < m {
-        return writing::failed(run);
-    }
-    if rows.len() < r {
-        return writing::failed(run);
-    }
-    if marks.len() < k {
-        return writing::failed(run);
-    }
-    call(
-        run,
-        kind,
-        &mut sheet[..s],
-        &mut words[..w],
-        &mut floats[..f],
-        &mut matrices[..m],
-        &mut rows[..r],
-        &mut marks[..k],
-    )
-}
-
-// Answers each record in turn. A file that has too many records fails.
-pub fn replay(from: i32, to: i32) -> Run {
     let mut sheet = [0u8; BYTES];
-    let mut words = [0u32; WORDS];
-    let mut floats = [0.0; FLOATS];
+    let mut words = [USED_WORD; WORDS];
+    let mut floats = [USED_FLOAT; FLOATS];
     let mut matrices = [0.0; MATRICES];
     let mut rows = [0u16; ROWS];
     let mut marks = [0u8; MARKS];
-    let mut run = wire::start(from, to);
-    let mut left = RECORDS;
-    while left > 0 {
-        let kind = reading::number(from, CALLS);
-        if kind > CALLS {
-            return writing::finished(run);
-        }
-        let next = replay_one(
-            run,
-            kind,
-            &mut sheet,
-            &mut words,
-            &mut floats,
-            &mut matrices,
-            &mut rows,
-            &mut marks,
-        );
-        run = next;
-        left -= 1;
-    }
-    writing::failed(run)
+    call(
+        run,
+        kind,
+        &mut sheet[0..s],
+        &mut words[0..w],
+        &mut floats[0..f],
+        &mut matrices[0..m],
+        &mut rows[0..r],
+        &mut marks[0..k],
+    )
 }

@@ -1,6 +1,7 @@
 // This module replays stored sheets. A record is a length in four bytes, highest first, and a sheet of that length. It is answered by a line with the
 // number of the refusal among 1 to 7, or 0 where the sheet is accepted. tools/make_sheets.py made sheets.in and sheets.out.
-use crate::RECORDS;
+use crate::USED_FLOAT;
+use crate::USED_WORD;
 use wire::Run;
 use wire::reading;
 use wire::writing;
@@ -20,28 +21,14 @@ fn judge(run: Run, sheet: &mut [u8], words: &mut [u32], floats: &mut [f64]) -> R
     writing::bytes(writing::verdict(run, verdict), b"\n")
 }
 
-fn replay_one(run: Run, n: usize, bytes: &mut [u8], words: &mut [u32], floats: &mut [f64]) -> Run {
-    if bytes.len() < n {
-        return writing::failed(run);
+// Reads one record and answers it.
+pub fn replay_one(run: Run) -> Run {
+    let n = reading::short_number(run.from, BYTES);
+    if n > BYTES {
+        return writing::finished(run);
     }
-    judge(run, &mut bytes[..n], words, floats)
-}
-
-// Answers each record in turn. A file that has too many records fails.
-pub fn replay(from: i32, to: i32) -> Run {
     let mut bytes = [0u8; BYTES];
-    let mut words = [0u32; WORDS];
-    let mut floats = [0.0; FLOATS];
-    let mut run = wire::start(from, to);
-    let mut left = RECORDS;
-    while left > 0 {
-        let n = reading::short_number(from, BYTES as u64);
-        if n > BYTES as u64 {
-            return writing::finished(run);
-        }
-        let next = replay_one(run, n as usize, &mut bytes, &mut words, &mut floats);
-        run = next;
-        left -= 1;
-    }
-    writing::failed(run)
+    let mut words = [USED_WORD; WORDS];
+    let mut floats = [USED_FLOAT; FLOATS];
+    judge(run, &mut bytes[0..n], &mut words, &mut floats)
 }

@@ -2,8 +2,9 @@
 // and its count tells where.
 ghost use mathlib.Core.Path.{_≡_};
 ghost use mathlib.Core.Bool.{true, false};
-ghost use Prim.Native.Nat.{_+_, _*_, _≤_};
+ghost use Prim.Native.Nat.{_*_, _≤_};
 ghost use lib.ListN.{length};
+ghost use Rattle.wire.specs.Grown.{Grown};
 use crate::Run;
 use float::bits;
 use spec::Verdict;
@@ -30,38 +31,31 @@ fn moved(to: i32, text: &[u8]) -> bool {
     let n = text.len();
     if n <= PIECE {
         let mut stored = [0u8; PIECE];
-        return is_next(to, &mut stored[..n], text);
+        return is_next(to, &mut stored[0..n], text);
     }
     false
 }
 
-// Returns the run as one that is no longer good.
-pub fn failed(run: Run) -> Run
-    ensures { λ r. ⌜ r .good ≡ false ⌝ }
+// Ends the run as one that is not good.
+pub fn failed(mut run: Run) -> Run
+    ensures { λ r. ⌜ (r .good ≡ false) × (r .ended ≡ true) ⌝ }
 {
-    Run {
-        from: run.from,
-        to: run.to,
-        count: run.count,
-        good: false,
-    }
+    run.good = false;
+    run.ended = true;
+    run
 }
 
 // Writes the bytes of one piece. A longer text, or one past the longest file of answers, fails.
-pub fn bytes(run: Run, text: &[u8]) -> Run
-    ensures { λ r. ⌜ (r .good ≡ true → (run .good ≡ true) × (r .count ≡ run .count + length (now (text .entry)))) ⌝ }
+pub fn bytes(mut run: Run, text: &[u8]) -> Run
+    ensures { λ r. ⌜ Grown run r (length (now (text .entry))) ⌝ }
 {
     let n = text.len();
     let count = run.count;
     if count < MOST {
         if n <= PIECE {
             if run.good && moved(run.to, text) {
-                return Run {
-                    from: run.from,
-                    to: run.to,
-                    count: count + n as u64,
-                    good: true,
-                };
+                run.count = count + n as u64;
+                return run;
             }
         }
     }
@@ -70,7 +64,7 @@ pub fn bytes(run: Run, text: &[u8]) -> Run
 
 // Writes a number as eight bytes.
 pub fn number(run: Run, n: u64) -> Run
-    ensures { λ r. ⌜ (r .good ≡ true → (run .good ≡ true) × (r .count ≡ run .count + 8)) ⌝ }
+    ensures { λ r. ⌜ Grown run r 8 ⌝ }
 {
     let b = [
         (n / 0x100_0000_0000_0000 % 256) as u8,
@@ -87,7 +81,7 @@ pub fn number(run: Run, n: u64) -> Run
 
 // Writes a cell as two bytes.
 pub fn cell(run: Run, n: u16) -> Run
-    ensures { λ r. ⌜ (r .good ≡ true → (run .good ≡ true) × (r .count ≡ run .count + 2)) ⌝ }
+    ensures { λ r. ⌜ Grown run r 2 ⌝ }
 {
     let b = [(n / 256 % 256) as u8, (n % 256) as u8];
     bytes(run, &b)
@@ -95,7 +89,7 @@ pub fn cell(run: Run, n: u16) -> Run
 
 // Writes each float as the eight bytes of its pattern.
 pub fn floats(run: Run, s: &[f64]) -> Run
-    ensures { λ r. ⌜ (r .good ≡ true → (run .good ≡ true) × (r .count ≡ run .count + 8 * length (now (s .entry)))) ⌝ }
+    ensures { λ r. ⌜ Grown run r (8 * length (now (s .entry))) ⌝ }
 {
     let mut after = run;
     let mut i: usize = 0;
@@ -109,7 +103,7 @@ pub fn floats(run: Run, s: &[f64]) -> Run
 
 // Writes each cell as two bytes.
 pub fn cells(run: Run, s: &[u16]) -> Run
-    ensures { λ r. ⌜ (r .good ≡ true → (run .good ≡ true) × (r .count ≡ run .count + 2 * length (now (s .entry)))) ⌝ }
+    ensures { λ r. ⌜ Grown run r (2 * length (now (s .entry))) ⌝ }
 {
     let mut after = run;
     let mut i: usize = 0;
@@ -153,7 +147,7 @@ pub fn digit(n: u64) -> u8
 
 // Writes a number as sixteen hexadecimal digits.
 pub fn pattern(run: Run, n: u64) -> Run
-    ensures { λ r. ⌜ (r .good ≡ true → (run .good ≡ true) × (r .count ≡ run .count + 16)) ⌝ }
+    ensures { λ r. ⌜ Grown run r 16 ⌝ }
 {
     let b = [
         digit(n / 0x1000_0000_0000_0000),
@@ -176,16 +170,17 @@ pub fn pattern(run: Run, n: u64) -> Run
     bytes(run, &b)
 }
 
-fn ended(from: i32) -> bool {
+fn is_at_end(from: i32) -> bool {
     let mut b = [0u8; 1];
     io::read_full(from, &mut b) == 0
 }
 
-// Returns the run at its end. It is good where all went well, and nothing is left of the input and of the stored answers.
-pub fn finished(run: Run) -> Run
-    ensures { λ r. ⌜ (r .good ≡ true → run .good ≡ true) ⌝ }
+// Ends the run. It is good where all went well, and nothing is left of the input and of the stored answers.
+pub fn finished(mut run: Run) -> Run
+    ensures { λ r. ⌜ (r .good ≡ true → run .good ≡ true) × (r .ended ≡ true) ⌝ }
 {
-    if ended(run.from) && (run.to == STANDARD_OUTPUT || ended(run.to)) {
+    if is_at_end(run.from) && (run.to == STANDARD_OUTPUT || is_at_end(run.to)) {
+        run.ended = true;
         return run;
     }
     failed(run)

@@ -1,9 +1,6 @@
 -- `replay::floats::read_matrix` ends, and stays within its matrix.
 -- Assumes nothing.
-use mathlib.Core.Path.{sym}
 use Prim.Native.Nat.{_≤_, _-_}
-use native.Mathlib.Omega.{arith}
-use lib.Seq.{length-take-le}
 use borrow.Author.Needs.{needs}
 use Rattle.replay.proofs.floats.read_matrix.Statement.{statement}
 use Rattle.replay.proofs.floats.read_matrix.Tie as tie
@@ -22,7 +19,8 @@ read-matrix-spec =
     μ-loop
     (λ c. search needs)
     (λ c. search needs)
-    (λ c. sym (length-take-le _ _ (omega arith)))
+    (λ c. search needs)
+    (λ c. search needs)
     (λ c κs. search needs)
     (λ c. search needs)
     (λ c. search needs)

@@ -12,4 +12,4 @@ bytes-spec =
     (λ c. search needs)
     (λ c. search needs)
     (λ c κs. search needs)
-    (λ c. λ h. never (c .failed .ensures) h))
+    (λ c. λ h. never (c .failed .ensures .0) h))

@@ -12,4 +12,4 @@ finished-spec =
     (λ c κs. search needs)
     (λ c. search needs)
     (λ c κs. search needs)
-    (λ c. λ h. never (c .failed .ensures) h))
+    (λ c. (never (c .failed .ensures .0), c .failed .ensures .1)))
