@@ -4,18 +4,6 @@ use float::DIMENSION;
 // The matrices are timed in four dimensions, whatever the greatest dimension is.
 const SIDE: usize = 4;
 
-// The arguments wander over the numbers from 0 to 1, so that the processor cannot foretell any digit of a root.
-pub fn repeat_root(times: u64) -> f64 {
-    let mut x = 0.3;
-    let mut left = times;
-    while left > 0 {
-        let square = x * x;
-        x = float::root::root(3.99 * square * (1.0 - square));
-        left -= 1;
-    }
-    x
-}
-
 fn row(a: f64, b: f64, c: f64, d: f64) -> [f64; DIMENSION] {
     let mut r = [0.0; DIMENSION];
     r[0] = a;
@@ -39,7 +27,7 @@ fn rows(
     m
 }
 
-fn start(x: f64) -> [[f64; DIMENSION]; DIMENSION] {
+fn matrix_of(x: f64) -> [[f64; DIMENSION]; DIMENSION] {
     rows(
         row(x, 0.5, -0.25, 3.0),
         row(2.0, 1.0, 0.1, -1.0),
@@ -48,25 +36,38 @@ fn start(x: f64) -> [[f64; DIMENSION]; DIMENSION] {
     )
 }
 
+// The arguments wander over the numbers from 0 to 1, so that the processor cannot foretell any digit of a root.
+fn next_root(x: f64) -> f64 {
+    let square = x * x;
+    float::root::root(3.99 * square * (1.0 - square))
+}
+
 // Each inverse is of a matrix that depends on an entry of the one before.
-pub fn repeat_inverse(times: u64) -> f64 {
-    let mut x = 1.0;
-    let mut left = times;
-    while left > 0 {
-        let mut regular = false;
-        let m = matrix::inverse(start(x), SIDE, &mut regular);
-        x = m[1][1] + 1.0;
-        left -= 1;
-    }
-    x
+fn next_inverse(x: f64) -> f64 {
+    let mut regular = false;
+    let m = matrix::inverse(matrix_of(x), SIDE, &mut regular);
+    m[1][1] + 1.0
 }
 
 // Each determinant is of a matrix that depends on the one before.
-pub fn repeat_determinant(times: u64) -> f64 {
-    let mut x = 1.0;
+fn next_determinant(x: f64) -> f64 {
+    1.0 / matrix::determinant(matrix_of(x), SIDE)
+}
+
+fn next(letter: u8, x: f64) -> f64 {
+    match letter {
+        b'r' => next_root(x),
+        b'i' => next_inverse(x),
+        _ => next_determinant(x),
+    }
+}
+
+// Repeats an operation that goes from a number to a number.
+fn repeat_on_number(letter: u8, first: f64, times: u64) -> f64 {
+    let mut x = first;
     let mut left = times;
     while left > 0 {
-        x = 1.0 / matrix::determinant(start(x), SIDE);
+        x = next(letter, x);
         left -= 1;
     }
     x
@@ -81,8 +82,8 @@ fn turning() -> [[f64; DIMENSION]; DIMENSION] {
     )
 }
 
-// Each product multiplies the one before by itself, so that every entry counts.
-pub fn repeat_product(times: u64) -> f64 {
+// Each product multiplies the one before by itself, so that every entry counts. The loop carries the matrix whole, so that only products are timed.
+fn repeat_product(times: u64) -> f64 {
     let mut m = turning();
     let mut left = times;
     while left > 0 {
@@ -90,4 +91,13 @@ pub fn repeat_product(times: u64) -> f64 {
         left -= 1;
     }
     m[0][0]
+}
+
+// Does the operation that the letter names that many times, and returns what the last time gave.
+pub fn repeat(letter: u8, times: u64) -> f64 {
+    match letter {
+        b'p' => repeat_product(times),
+        b'r' => repeat_on_number(letter, 0.3, times),
+        _ => repeat_on_number(letter, 1.0, times),
+    }
 }

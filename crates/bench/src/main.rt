@@ -33,26 +33,26 @@ fn argument(i: usize) -> u8 {
     if n == 1 { b[0] } else { 0 }
 }
 
-fn print(run: Run, x: f64) -> Run {
+// Does the operation that the letter names that many times, and prints what the last time gave.
+fn print(run: Run, letter: u8, times: u64) -> Run {
+    let x = arithmetic::repeat(letter, times);
     writing::bytes(writing::pattern(run, bits::pattern(x)), b"\n")
 }
 
 fn each(run: Run) -> Run {
-    let a = print(run, arithmetic::repeat_root(64));
-    let b = print(a, arithmetic::repeat_inverse(64));
-    let c = print(b, arithmetic::repeat_determinant(64));
-    let d = print(c, arithmetic::repeat_product(64));
+    let a = print(run, b'r', 64);
+    let b = print(a, b'i', 64);
+    let c = print(b, b'd', 64);
+    let d = print(c, b'p', 64);
     sheets::judge(d, 1)
 }
 
 fn main() {
     let run = wire::start(0, 1);
+    let letter = argument(1);
     let times = power(argument(2));
-    match argument(1) {
-        b'r' => print(run, arithmetic::repeat_root(times)),
-        b'i' => print(run, arithmetic::repeat_inverse(times)),
-        b'd' => print(run, arithmetic::repeat_determinant(times)),
-        b'p' => print(run, arithmetic::repeat_product(times)),
+    match letter {
+        b'r' | b'i' | b'd' | b'p' => print(run, letter, times),
         b's' => sheets::judge(run, times),
         _ => each(run),
     }

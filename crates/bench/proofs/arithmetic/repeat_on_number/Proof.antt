@@ -1,16 +1,16 @@
--- `bench::arithmetic::repeat_root` ends: each turn takes one from the count. Assumes nothing.
+-- `bench::arithmetic::repeat_on_number` ends: each turn takes one from the count. Assumes nothing.
 use borrow.Author.Needs.{needs}
-use Rattle.bench.proofs.arithmetic.repeat_root.Statement.{statement}
-use Rattle.bench.proofs.arithmetic.repeat_root.Tie as tie
+use Rattle.bench.proofs.arithmetic.repeat_on_number.Statement.{statement}
+use Rattle.bench.proofs.arithmetic.repeat_on_number.Tie as tie
 
 abbrev Inv-loop : tie.InvT-loop
-Inv-loop times x₀ left₀ x left = Unit {0}
+Inv-loop letter first times x₀ left₀ x left = Unit {0}
 
 abbrev μ-loop : tie.MeasureT-loop
-μ-loop times x₀ left₀ x left = left
+μ-loop letter first times x₀ left₀ x left = left
 
-pub repeat-root-spec : {M : Type 1} → statement M
-repeat-root-spec =
+pub repeat-on-number-spec : {M : Type 1} → statement M
+repeat-on-number-spec =
     tie.close
     (tie.spec
     Inv-loop
