@@ -2,23 +2,16 @@
 ghost use Prim.Native.Nat.{_<_};
 use spec::MAX_COUNT;
 use spec::MAX_DIMENSION;
-use spec::MAX_ENTRIES;
+use spec::MAX_FLOATS;
+use spec::MAX_PROPER;
 use spec::MAX_RANK;
+use spec::MAX_STORED;
+use spec::MAX_WORDS;
 use wire::Run;
 use wire::writing;
 
-// The largest solid has this many proper elements, and its sheet this many list entries, which lie in the ranks from 2 on.
-const ELEMENTS: usize = (MAX_RANK - 1) * MAX_COUNT;
-
-const ENTRIES: usize = (MAX_RANK - 2) * MAX_ENTRIES;
-
-// There is room for the longest sheet there is, with eight bytes for each coordinate, and two bytes for each count, length and sub; and for the
-// workspace of the largest solid.
-const BYTES: usize = 8 * (MAX_COUNT * MAX_DIMENSION) + 2 * (MAX_RANK + ELEMENTS + ENTRIES);
-
-const WORDS: usize = 16 * (ELEMENTS + ENTRIES + 4);
-
-const FLOATS: usize = 8 * (ELEMENTS + 8);
+// There is room for the longest sheet there is, with eight bytes for each coordinate, and two bytes for each count, length and sub.
+const BYTES: usize = 8 * (MAX_COUNT * MAX_DIMENSION) + 2 * (MAX_RANK + MAX_PROPER + MAX_STORED);
 
 // Prints the number of the refusal, or 0, and how many words the solid takes.
 fn print(run: Run, sheet: &[u8], words: &mut [u32], floats: &mut [f64]) -> Run {
@@ -46,8 +39,8 @@ pub fn judge(run: Run, times: u64) -> Run
     requires { ⌜ 0 < times ⌝ }
 {
     let mut bytes = [0u8; BYTES];
-    let mut words = [0u32; WORDS];
-    let mut floats = [0.0; FLOATS];
+    let mut words = [0u32; MAX_WORDS];
+    let mut floats = [0.0; MAX_FLOATS];
     let n = io::read_full(run.from, &mut bytes);
     repeat(&bytes[..n], &mut words, &mut floats, times - 1);
     print(run, &bytes[..n], &mut words, &mut floats)

@@ -17,6 +17,11 @@ pub const MAX_PROPER: usize = (MAX_RANK - 1) * MAX_COUNT;
 
 pub const MAX_STORED: usize = (MAX_RANK - 2) * MAX_ENTRIES;
 
+// These are the words and the floats of the workspace that such a solid needs.
+pub const MAX_WORDS: usize = 16 * (MAX_PROPER + MAX_STORED + 4);
+
+pub const MAX_FLOATS: usize = 8 * (MAX_PROPER + 8);
+
 pub const MAX_MAGNITUDE: f64 = 1048576.0;
 
 // This is the pattern of that magnitude, for a test of patterns that may be those of a NaN.
