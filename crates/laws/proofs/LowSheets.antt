@@ -124,7 +124,7 @@ module _ (b : List ℕ) (p : Parsed) (e : readSheet b ≡ passed p) (h : p .rank
 pub every-low-sheet : EveryLowSheet
 every-low-sheet b p e h words floats w f = no-proper-rank b p e h words floats w f
 
--- ---- such a sheet has at most 33 bytes: six bits, and four coordinates at most
+-- ---- such a sheet is short: it has six bits, and at most one vertex's coordinates
 
 bits-length : (w n : ℕ) → length (bitsOf w n) ≡ w
 unfolding bitsOf
