@@ -72,7 +72,7 @@ squares-wide d (x ∷ ms) s = (square-long d (x .matrix) (s x (inl refl)), squar
 -- ---- the call
 
 module _ (b : List ℕ) (old new : SearchOut) (a : Answer) (words floats : ℕ) (e : (a, new) ≡ searchCall b words floats old) (w : words ≡ workWords) (f : floats ≡ workFloats)
-    (h : length (old .matrices) ≡ 1024) (i : length (old .rows) ≡ 8192) (j : length (old .marks) ≡ 512) where
+    (h : length (old .matrices) ≡ lent .floats) (i : length (old .rows) ≡ lent .entries) (j : length (old .marks) ≡ lent .marks) where
   abbrev members : Judged (Concrete × List Member)
   members = membersIn b workWords workFloats
 
@@ -116,16 +116,16 @@ module _ (b : List ℕ) (old new : SearchOut) (a : Answer) (words floats : ℕ) 
         let m = members-shaped b workWords workFloats (h .0) (h .1) x (h .2) .matrix in
         rw (s, ← dimension-is b workWords workFloats (h .0) (h .1) .0) m
 
-    pub marks-hold : n ≤ 512
+    pub marks-hold : n ≤ lent .marks
     marks-hold = omega (arith, found-cells members (members-shaped b workWords workFloats) lent .marks, length-map (found .members) (λ x. x .mark), solid n q .2)
 
-    pub matrices-hold : n * (d * d) ≤ 1024
+    pub matrices-hold : n * (d * d) ≤ lent .floats
     matrices-hold =
         let c = found-cells members (members-shaped b workWords workFloats) lent .matrices in
         let j = wide-join (d * d) (map (λ x. join (x .matrix)) (found .members)) (squares-wide d (found .members) square) in
         let l = length-map (found .members) (λ x. join (x .matrix)) in
         let k : length (map (λ (x : Member). join (x .matrix)) (found .members)) ≡ n = l ∙ solid n q .2 in
-        subst (λ (i : ℕ). i ≤ 1024) (j ∙ ap (λ (i : ℕ). i * (d * d)) k) c
+        subst (λ (i : ℕ). i ≤ lent .floats) (j ∙ ap (λ (i : ℕ). i * (d * d)) k) c
 
     pub done-last : membersText n (sum (take n (new .marks))) (rotationCount (map (parts d d) (parts n (d * d) (new .matrices)))) ≡ lastLine found
     unfolding searchWritten

@@ -41,11 +41,11 @@ module _ (b : List ℕ) (old new : TypesOut) (a : Answer) (words floats : ℕ) (
   unfolding typesCall
   wrote = rw (w, f, m, t) at e
 
-  pub done-text : (n : ℕ) → a ≡ Done n → (n ≤ 256) × (typesLines (typesFrom (take (4 * n) (new .types))) ++ last ≡ kitText b)
+  pub done-text : (n : ℕ) → a ≡ Done n → (4 * n ≤ typeRecords) × (typesLines (typesFrom (take (4 * n) (new .types))) ++ last ≡ kitText b)
   unfolding typesWritten afterTypes
   done-text n d = let r = go judged refl wrote in (r .0, r .1 ∙ part-text)
     where
-      go : (j : Judged Given) → judged ≡ j → (a, new) ≡ typesWritten j old → (n ≤ 256) × (typesLines (typesFrom (take (4 * n) (new .types))) ++ last ≡ afterTypes j b)
+      go : (j : Judged Given) → judged ≡ j → (a, new) ≡ typesWritten j old → (4 * n ≤ typeRecords) × (typesLines (typesFrom (take (4 * n) (new .types))) ++ last ≡ afterTypes j b)
       go (refused why) q p =
           let r : Done n ≡ Refused why 0 = sym d ∙ ap (λ (x : Answer × TypesOut). x .0) p in
           let z : _≡_ {A = ℕ} 0 1 = cc in

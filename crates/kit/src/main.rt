@@ -3,7 +3,7 @@
 ghost use Prim.Native.Nat.{_+_, _*_, _≤_};
 ghost use lib.ListN.{length, take};
 ghost use Rattle.spec.specs.Calls.{outcome, membersIn};
-ghost use Rattle.spec.specs.KitText.{typesLines, lastLine, lent, workWords, workFloats, kitText};
+ghost use Rattle.spec.specs.KitText.{typesLines, lastLine, typeRecords, lent, workWords, workFloats, kitText};
 ghost use Rattle.text.specs.Puts.{Puts};
 ghost use Rattle.text.specs.Cells.{typesFrom};
 use spec::Answer;
@@ -36,7 +36,7 @@ const TEXT: usize = 6262;
 
 // Writes the lines of the n types that the table begins with. Cells have 16 bits, so the buffer has room for these lines and for the last one too.
 fn put_types(out: &mut [u8; TEXT], table: &[u16], n: usize) -> usize
-    requires { ⌜ (4 * n ≤ length (now table)) × (n ≤ 256) ⌝ }
+    requires { ⌜ (4 * n ≤ length (now table)) × (4 * n ≤ typeRecords) ⌝ }
     ensures { λ r. ⌜ Puts 0 (typesLines (typesFrom (take (4 * n) (now (table .entry))))) (now (out .entry)) (now (out .exit)) r × (r + 91 ≤ 6262) ⌝ }
 {
     lines::element_types(out, 0, table, n)
