@@ -11,7 +11,7 @@ use lib.Seq.{take-all, getD-take, getD-drop, getD-set-same, getD-set-other}
 use lib.Dec.{eqb}
 use lib.Ieee.{Float, nan}
 use Rattle.spec.specs.Limits.{maxRank, maxCount}
-use Rattle.spec.specs.Lists.{eqList, range, every, noRepeats}
+use Rattle.spec.specs.Lists.{eqList, range, noRepeats}
 use Rattle.spec.specs.Types.{size, properRanks, Classes, vertexSets}
 use Rattle.spec.specs.Demand.{Proper}
 use Rattle.spec.specs.Hull.{classes}
@@ -34,16 +34,14 @@ use Rattle.geometry.proofs.elements.ClassCells.{same-class-at, before-is}
 use Rattle.marks.specs.Rises.{risesTo, Reached, Landed}
 use Rattle.marks.specs.Rows.{classesOn, ClassesIn, ClassesOf, Row, Images, Rank}
 use Rattle.marks.proofs.Rises.{vertex-reached, reached}
-use Rattle.marks.proofs.Rows.{permuted}
+use Rattle.marks.proofs.Rows.{permutes-vertices}
+use Rattle.marks.proofs.Confirmed.{carriesAt, carriesAll}
 
 -- ---- a row
 
 module _ {sh : Shape} {w row : List ℕ} (a : Row sh w row) where
   rows : Permutes (absIn sh w) row
-  rows =
-      let p = permuted row (a .permuted) in
-      let full : length row ≡ size (absIn sh w) 1 = a .full ∙ sym (sizes-are sh w (a .held) 1) in
-      record { full = full; low = λ v m. rw full at (p .low v m); once = p .once }
+  rows = permutes-vertices (absIn sh w) row (a .full ∙ sym (sizes-are sh w (a .held) 1)) (a .permuted)
 
   sets : (r : ℕ) → Proper (absIn sh w) r → Once (vertexSets (absIn sh w) r)
   sets r p =
@@ -184,7 +182,7 @@ module _ {sh : Shape} {w row : List ℕ} {cls : Classes} {cells₀ : List ℕ} {
     pub cell-in : base + e < length cells
     cell-in = omega (arith, t .base-is, t .rank .room, number-in sh w h r e (omega (arith, t .rank .high)) (omega (arith, t .many)))
 
-    pub elements-stop : Landed (absIn sh w) cls row r e Nothing → false ≡ every (carriesElement (absIn sh w) cls row r) (range 0 (size (absIn sh w) r))
+    pub elements-stop : Landed (absIn sh w) cls row r e Nothing → false ≡ carriesAt (absIn sh w) cls row r
     elements-stop z = range-no (carriesElement (absIn sh w) cls row r) 0 (size (absIn sh w) r) e e (omega arith) (omega (arith, many-in)) (t .rest) z
 
     pub elements-next : (x : ℕ) → Landed (absIn sh w) cls row r e (At x) → ElementsCarried sh w row cls cells₀ r n base (set cells (base + e) x) (e + 1)
@@ -217,7 +215,7 @@ module _ {sh : Shape} {w row : List ℕ} {cls : Classes} {cells₀ : List ℕ} {
             let i = t .done f (omega arith) in
             (getD-set-other cells (base + e) (firstAt sh r + f) x 0 (λ (d : firstAt sh r + f ≡ base + e). y (omega (arith, t .base-is))) ∙ i .0, i .1)
 
-  pub elements-end : n ≤ e → (true ≡ every (carriesElement (absIn sh w) cls row r) (range 0 (size (absIn sh w) r))) × Images sh w row cells r
+  pub elements-end : n ≤ e → (true ≡ carriesAt (absIn sh w) cls row r) × Images sh w row cells r
   elements-end k = (
     range-end (carriesElement (absIn sh w) cls row r) 0 (size (absIn sh w) r) e (omega (arith, many-in)) (t .rest),
     λ f m. t .done f (omega (arith, t .many)),
@@ -231,7 +229,7 @@ pub record RanksCarried (sh : Shape) (w row : List ℕ) (cls : Classes) (cells�
   pub long : length cells ≡ length cells₀
   pub room : total sh ≤ length cells
   pub below : 2 ≤ r → Images sh w row cells (r - 1)
-  pub rest : Every (λ q. every (carriesElement (absIn sh w) cls row q) (range 0 (size (absIn sh w) q))) (range 1 (sh .rank - 1)) (r - 1)
+  pub rest : Every (carriesAt (absIn sh w) cls row) (range 1 (sh .rank - 1)) (r - 1)
 
 pub ranks-first : (sh : Shape) (w row : List ℕ) (cls : Classes) (cells : List ℕ) → total sh ≤ length cells → RanksCarried sh w row cls cells cells 1
 ranks-first sh w row cls cells h = record { low = omega arith; long = refl; room = h; below = λ two. absurd (omega arith); rest = refl }
@@ -241,26 +239,25 @@ module _ {sh : Shape} {w row : List ℕ} {cls : Classes} {cells₀ cells : List 
     pub rank-now : Rank sh w row cells r
     rank-now = record { low = t .low; high = more; room = t .room; below = t .below }
 
-    pub ranks-stop : false ≡ every (carriesElement (absIn sh w) cls row r) (range 0 (size (absIn sh w) r))
-        → false ≡ every (λ q. every (carriesElement (absIn sh w) cls row q) (range 0 (size (absIn sh w) q))) (properRanks (absIn sh w))
+    pub ranks-stop : false ≡ carriesAt (absIn sh w) cls row r → false ≡ carriesAll (absIn sh w) cls row
     unfolding properRanks
     ranks-stop e =
         let l = t .low in
-        rw (top-is sh w) (range-no (λ q. every (carriesElement (absIn sh w) cls row q) (range 0 (size (absIn sh w) q))) 1 (sh .rank - 1) (r - 1) r (omega arith) (omega arith) (t .rest) (sym e))
+        rw (top-is sh w) (range-no (carriesAt (absIn sh w) cls row) 1 (sh .rank - 1) (r - 1) r (omega arith) (omega arith) (t .rest) (sym e))
 
-    pub ranks-next : true ≡ every (carriesElement (absIn sh w) cls row r) (range 0 (size (absIn sh w) r)) → (new : List ℕ) → length new ≡ length cells
+    pub ranks-next : true ≡ carriesAt (absIn sh w) cls row r → (new : List ℕ) → length new ≡ length cells
         → Images sh w row new r → RanksCarried sh w row cls cells₀ new (r + 1)
     ranks-next e new k i =
         let l = t .low in
         let z : r + 1 - 1 ≡ r = omega arith in
         let y : r - 1 + 1 ≡ r = omega arith in
-        let m = range-yes (λ q. every (carriesElement (absIn sh w) cls row q) (range 0 (size (absIn sh w) q))) 1 (sh .rank - 1) (r - 1) r (omega arith) (omega arith) (t .rest) (sym e) in
+        let m = range-yes (carriesAt (absIn sh w) cls row) 1 (sh .rank - 1) (r - 1) r (omega arith) (omega arith) (t .rest) (sym e) in
         record { low = omega arith; long = k ∙ t .long; room = rw k (t .room); below = λ two. rw z i; rest = rw z (rw y at m) }
 
-  pub ranks-end : sh .rank ≤ r → true ≡ every (λ q. every (carriesElement (absIn sh w) cls row q) (range 0 (size (absIn sh w) q))) (properRanks (absIn sh w))
+  pub ranks-end : sh .rank ≤ r → true ≡ carriesAll (absIn sh w) cls row
   unfolding properRanks
   ranks-end h =
-      rw (top-is sh w) (range-end (λ q. every (carriesElement (absIn sh w) cls row q) (range 0 (size (absIn sh w) q))) 1 (sh .rank - 1) (r - 1) (omega arith) (t .rest))
+      rw (top-is sh w) (range-end (carriesAt (absIn sh w) cls row) 1 (sh .rank - 1) (r - 1) (omega arith) (t .rest))
 
 -- ---- the vertices
 

@@ -11,11 +11,12 @@ use lib.Seq.{getD-set-same, getD-set-other}
 use lib.Dec.{eqb, ltb}
 use borrow.Author.Tests.{lt-ltb}
 use Rattle.spec.specs.Lists.{In, place, holds, every, noRepeats}
+use Rattle.spec.specs.Types.{Solid, size}
 use Rattle.laws.proofs.Distinct.{Once}
 use Rattle.laws.proofs.Lists.{in-getD, in-place}
 use Rattle.laws.proofs.Counts.{numbers, in-holds}
 use Rattle.laws.proofs.Scan.{place-self}
-use Rattle.laws.proofs.Marked.{both, every-in, lt-test, no-repeats}
+use Rattle.laws.proofs.Marked.{both, every-in, lt-test, no-repeats, Permutes}
 use Rattle.marks.specs.Rows.{permutes}
 use Rattle.marks.proofs.Sets.{not-passed, every-of}
 
@@ -28,7 +29,7 @@ once-of (x ∷ l) h = (
   once-of l (λ i j p q e. h (suc i) (suc j) (omega arith) (omega arith) e),
 )
 
-pub repeats-not : (l : List ℕ) → Once l → noRepeats eqb l ≡ true
+repeats-not : (l : List ℕ) → Once l → noRepeats eqb l ≡ true
 unfolding noRepeats
 repeats-not [] o = refl
 repeats-not (x ∷ l) o = rw (not-passed (holds eqb x l) (λ e. o .0 (in-holds x l e))) (repeats-not l (o .1))
@@ -48,9 +49,13 @@ permuted row e =
     let b = both (every (λ v. ltb v (length row)) row) (noRepeats eqb row) e in
     record { low = λ v m. lt-test v (length row) (every-in (λ u. ltb u (length row)) row (b .0) v m); once = no-repeats eqb numbers row (b .1) }
 
-permutes-of : (row : List ℕ) → Permuted row → permutes row ≡ true
+pub permutes-of : (row : List ℕ) → Permuted row → permutes row ≡ true
 unfolding permutes
 permutes-of row p = rw (every-of (λ v. ltb v (length row)) row (λ v m. lt-ltb v (length row) (p .low v m))) (repeats-not row (p .once))
+
+-- With an entry for each vertex, it permutes the vertices of the solid.
+pub permutes-vertices : (s : Solid) (row : List ℕ) → length row ≡ size s 1 → permutes row ≡ true → Permutes s row
+permutes-vertices s row full e = let p = permuted row e in record { full = full; low = λ v m. rw full at (p .low v m); once = p .once }
 
 -- ---- the loop
 

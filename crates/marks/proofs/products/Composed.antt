@@ -6,20 +6,21 @@ use mathlib.Core.Bool.{true, _&&_}
 use mathlib.Core.List.{List, map}
 use native.Mathlib.Omega.{arith}
 use native.Mathlib.Nat.{not-suc-le-zero}
-use lib.ListN.{length, getD, length-map}
-use lib.Dec.{eqb, ltb}
+use lib.ListN.{getD, length-map}
 use borrow.Author.Tests.{lt-ltb, eq-eqb}
-use Rattle.spec.specs.Lists.{In, place, eqList, range, every, noRepeats, inOrder}
+use Rattle.spec.specs.Lists.{In, place, eqList, range, inOrder}
 use Rattle.spec.specs.Types.{Solid, size, subs, properRanks, Classes, reach, vertices, vertexSets}
 use Rattle.spec.specs.Demand.{Sound, Proper}
 use Rattle.spec.specs.Mark.{setsApart, image, goes, carriesElement, marked}
 use Rattle.laws.proofs.Lists.{map-in, in-map, in-range, of-range, getD-map, once-map}
-use Rattle.laws.proofs.Counts.{numbers, lists}
+use Rattle.laws.proofs.Counts.{lists}
 use Rattle.laws.proofs.Steps.{proper?}
 use Rattle.laws.proofs.Result.{proper-rank}
-use Rattle.laws.proofs.Marked.{both, lt-test, every-in, no-repeats, in-order, of-order, order-same, goes-proper, goes-improper, goes-vertices, Permutes, row-low, Fit, fit-of}
+use Rattle.laws.proofs.Marked.{both, every-in, in-order, of-order, order-same, goes-proper, goes-improper, goes-vertices, Permutes, row-low, Fit, fit-of}
 use Rattle.marks.proofs.Sets.{every-of}
-use Rattle.marks.proofs.Rows.{repeats-not, same-place}
+use Rattle.marks.proofs.Rows.{same-place, permutes-of, permutes-vertices}
+use Rattle.marks.proofs.Confirmed.{carriesAt, carriesAll, marked-full, marked-is}
+use Rattle.marks.specs.Rows.{permutes}
 use Rattle.marks.specs.Products.{composed}
 
 -- ---- what a confirmed row is
@@ -35,35 +36,23 @@ module _ (s : Solid) (cls : Classes) (row : List ℕ) where
     fit : (r e : ℕ) → Proper s r → e < size s r → Fit s cls row r e
 
   confirmed : marked s cls row ≡ true → Confirmed
-  unfolding marked
   confirmed ok =
-      let n₁ = size s 1 in
-      let a = setsApart s in
-      let b = eqb (length row) n₁ in
-      let c = every (λ v. ltb v n₁) row in
-      let d = noRepeats eqb row in
-      let e = every (λ r. every (carriesElement s cls row r) (range 0 (size s r))) (properRanks s) in
-      let h₄ = both (a && b && c && d) e ok in
-      let h₃ = both (a && b && c) d (h₄ .0) in
-      let h₂ = both (a && b) c (h₃ .0) in
-      let h₁ = both a b (h₂ .0) in
+      let full = marked-full s cls row ok in
+      let h₂ = both (setsApart s && permutes row) (carriesAll s cls row) (sym (marked-is s cls row full) ∙ ok) in
+      let h₁ = both (setsApart s) (permutes row) (h₂ .0) in
       record {
         sets = h₁ .0;
-        permutes = record {
-          full = numbers .sound (length row) n₁ (h₁ .1);
-          low = λ v m. lt-test v n₁ (every-in (λ u. ltb u n₁) row (h₂ .1) v m);
-          once = no-repeats eqb numbers row (h₃ .1);
-        };
+        permutes = permutes-vertices s row full (h₁ .1);
         fit = λ r i p h. fit-of s cls row r i (every-in (carriesElement s cls row r) (range 0 (size s r))
-            (every-in (λ q. every (carriesElement s cls row q) (range 0 (size s q))) (properRanks s) (h₄ .1) r (proper-rank s r p)) i (in-range 0 (size s r) i (omega arith) (omega arith)));
+            (every-in (carriesAt s cls row) (properRanks s) (h₂ .1) r (proper-rank s r p)) i (in-range 0 (size s r) i (omega arith) (omega arith)));
       }
 
   is-marked : Confirmed → marked s cls row ≡ true
-  unfolding marked properRanks
+  unfolding properRanks
   is-marked c =
-      let n₁ = size s 1 in
-      rw (c .sets, eq-eqb (length row) n₁ (c .permutes .full), every-of (λ v. ltb v n₁) row (λ v m. lt-ltb v n₁ (c .permutes .low v m)), repeats-not row (c .permutes .once))
-      (every-of (λ r. every (carriesElement s cls row r) (range 0 (size s r))) (properRanks s)
+      let p = c .permutes in
+      rw (marked-is s cls row (p .full), c .sets, permutes-of row (record { low = λ v m. rw (p .full) (p .low v m); once = p .once }))
+      (every-of (carriesAt s cls row) (properRanks s)
       (λ r m. every-of (carriesElement s cls row r) (range 0 (size s r))
       (λ e k. let i = of-range 1 _ r m in let j = of-range 0 (size s r) e k in fit-is r e (c .fit r e (omega arith, omega arith) (omega arith)))))
 
