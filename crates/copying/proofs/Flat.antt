@@ -1,19 +1,21 @@
 -- This file lays matrices out one after another, row by row: the floats of one, and a buffer that is filled with more and more of them.
 -- Assumes nothing.
-use mathlib.Core.Path.{_≡_, refl, sym, ap, ap₂, _∙_}
-use mathlib.Core.List.{List, [], _∷_, _++_, map, map-append, append-assoc, append-nil}
-use Prim.Native.Nat.{ℕ, _+_, _*_, _/_, _%_, _≤_, _<_}
+use mathlib.Core.Path.{_≡_, refl, sym, ap, _∙_}
+use mathlib.Core.List.{List, [], _∷_, _++_, map, map-append, append-nil}
+use Prim.Native.Nat.{ℕ, _+_, _-_, _*_, _/_, _%_, _≤_, _<_}
 use native.Mathlib.Numerals.{add-one}
 use native.Mathlib.Omega.{arith}
 use lib.ListN.{length, getD, take, drop, length-append, length-drop, drop-of-length-le}
-use lib.Seq.{take-at, take-all, take-suc, drop-at, drop-drop}
+use lib.Seq.{take-all, take-suc}
+use borrow.Rule.Slice.PartMut.{midOf, putMid}
 use lib.Ieee.{Float, nan, neg}
-use Rattle.spec.specs.Lists.{join, range}
+use Rattle.spec.specs.Lists.{join, range, written}
 use Rattle.spec.specs.Float.{zip, zeroF, oneF}
 use Rattle.spec.specs.Matrix.{Matrix}
 use Rattle.spec.specs.Copying.{orders, signed, axisOrder, axisOrders}
 use Rattle.float.specs.Reading.{padded}
 use Rattle.matrix.specs.Reading.{leading, corner, paddedRows}
+use Rattle.points.proofs.Tails.{part-written}
 use Rattle.copying.proofs.Growth.{join-append}
 
 -- ---- one matrix
@@ -44,7 +46,7 @@ floats t = join (join (map (corner 3) t))
 
 pub record Laid (t : List Matrix) (before buffer : List Float) (k : ℕ) : Type 0 where
   pub long : length (floats (take k t)) ≡ k * 9
-  pub is : buffer ≡ floats (take k t) ++ drop (k * 9) before
+  pub is : buffer ≡ written (floats (take k t)) before
 
 floats-more : (t : List Matrix) (k : ℕ) → k < length t → floats (take (k + 1) t) ≡ floats (take k t) ++ join (corner 3 (getD t k []))
 unfolding join
@@ -57,39 +59,38 @@ floats-more t k h =
     ∙ ap join (join-append before (corner 3 m ∷ []) ∙ ap (λ (x : Matrix). join before ++ x) (append-nil (corner 3 m)))
     ∙ join-append (join before) (corner 3 m)
 
-module _ {t : List Matrix} {before : List Float} where
-  pub laid-none : Laid t before before 0
-  unfolding join
-  laid-none = record { long = refl; is = refl }
+module _ {t : List Matrix} {before buffer : List Float} {k : ℕ} (l : Laid t before buffer k) where
+  pub laid-length : k * 9 ≤ length before → length buffer ≡ length before
+  unfolding written
+  laid-length h =
+      let old = floats (take k t) in
+      ap length (l .is) ∙ length-append old (drop (length old) before) ∙ omega (arith, l .long, length-drop (length old) before)
 
-  pub laid-next : {buffer after : List Float} {k : ℕ} → k < length t → k * 9 + 9 ≤ length before → Laid t before buffer k → length after ≡ length buffer
-      → after ≡ take (k * 9) buffer ++ (join (corner 3 (getD t k [])) ++ drop 9 (drop (k * 9) buffer)) → Laid t before after (k + 1)
-  laid-next {buffer} {after} {k} h f l n e =
+  -- The next matrix is written to the part after them.
+  pub laid-next : {part : List Float} → k < length t → k * 9 ≤ length buffer → length (join (corner 3 (getD t k []))) ≡ 9
+      → part ≡ written (join (corner 3 (getD t k []))) (midOf (k * 9) (length buffer - k * 9) buffer)
+      → Laid t before (putMid (k * 9) (length buffer - k * 9) buffer part) (k + 1)
+  laid-next {part} h f n e =
       let old = floats (take k t) in
       let new = join (corner 3 (getD t k [])) in
-      let rest = drop (k * 9) before in
-      let front : take (k * 9) buffer ≡ old = ap (take (k * 9)) (l .is) ∙ take-at old rest (k * 9) (l .long) in
-      let back : drop (k * 9) buffer ≡ rest = ap (drop (k * 9)) (l .is) ∙ drop-at old rest (k * 9) (l .long) in
-      let is : after ≡ old ++ (new ++ drop 9 rest) = e ∙ ap₂ (λ (x y : List Float). x ++ (new ++ drop 9 y)) front back in
-      let was : length buffer ≡ length before = ap length (l .is) ∙ length-append old rest ∙ omega (arith, l .long, length-drop (k * 9) before) in
-      let w : length new ≡ 9 =
-      omega (arith, was, n, l .long, ap length is, length-append old (new ++ drop 9 rest), length-append new (drop 9 rest), length-drop 9 rest, length-drop (k * 9) before) in
       record {
-        long = ap length (floats-more t k h) ∙ length-append old new ∙ omega (arith, l .long, w);
-        is =
-            is
-            ∙ sym (append-assoc old new (drop 9 rest))
-            ∙ ap₂ (λ (x y : List Float). x ++ y)
-            (sym (floats-more t k h))
-            (drop-drop 9 (k * 9) before ∙ (let i : k * 9 + 9 ≡ (k + 1) * 9 = omega arith in ap (λ (x : ℕ). drop x before) i));
+        long = ap length (floats-more t k h) ∙ length-append old new ∙ omega (arith, l .long);
+        is = part-written old new before buffer part (k * 9) (l .long) f (l .is) e ∙ ap (λ (x : List Float). written x before) (sym (floats-more t k h));
       }
 
-  pub laid-all : {buffer : List Float} {k : ℕ} → k ≡ length t → Laid t before buffer k → buffer ≡ floats t ++ drop (length t * 9) before
-  laid-all {buffer} {k} e l = l .is ∙ ap₂ (λ (x : List Matrix) (y : ℕ). floats x ++ drop (y * 9) before) (take-all k t (omega arith)) e
+  pub laid-all : k ≡ length t → (length (floats t) ≡ length t * 9) × (buffer ≡ written (floats t) before)
+  laid-all e =
+      let all = take-all k t (omega arith) in
+      (rw (all, e) at (l .long), rw all at (l .is))
 
--- A buffer that has no more cells than the matrices holds nothing else afterwards.
-pub whole : (t : List Matrix) (before : List Float) → length before ≤ length t * 9 → floats t ++ drop (length t * 9) before ≡ floats t
-whole t before h = ap (λ (x : List Float). floats t ++ x) (drop-of-length-le before {i = length t * 9} h) ∙ append-nil (floats t)
+pub laid-none : {t : List Matrix} {before : List Float} → Laid t before before 0
+unfolding join written
+laid-none = record { long = refl; is = refl }
+
+-- A buffer that has no more cells than are written holds nothing else afterwards.
+pub whole : (new before : List Float) → length before ≤ length new → written new before ≡ new
+unfolding written
+whole new before h = ap (λ (x : List Float). new ++ x) (drop-of-length-le before {i = length new} h) ∙ append-nil new
 
 -- ---- the table of 48
 

@@ -1,10 +1,10 @@
 // "A constant table (added) has 48 signed axis orders in 3 dimensions: entry 8 times p + s, p the order's dictionary rank from 0 to 5, s three
 // sign bits, first axis highest, 1 minus; row i has its unit at the column the order names."
 ghost use mathlib.Core.Path.{_≡_};
-ghost use mathlib.Core.List.{_++_, map};
+ghost use mathlib.Core.List.{map};
 ghost use Prim.Native.Nat.{_*_, _≤_};
-ghost use lib.ListN.{length, drop};
-ghost use Rattle.spec.specs.Lists.{join};
+ghost use lib.ListN.{length};
+ghost use Rattle.spec.specs.Lists.{join, written};
 ghost use Rattle.spec.specs.Copying.{axisOrders};
 ghost use Rattle.matrix.specs.Reading.{corner, paddedRows};
 use float::DIMENSION;
@@ -109,10 +109,11 @@ pub fn axis_orders() -> [[[f64; DIMENSION]; DIMENSION]; 48]
     r
 }
 
-// Writes the nine floats of a matrix of three dimensions, row by row, to the first cells.
+// Writes the nine floats of a matrix of three dimensions, row by row, to the first cells. It promises that they are nine, because a function that
+// is lent matrices in a slice is not told how long their rows are.
 fn put_turn(out: &mut [f64], m: [[f64; DIMENSION]; DIMENSION])
     requires { ⌜ 9 ≤ length (now out) ⌝ }
-    ensures { λ _. ⌜ now (out .exit) ≡ join (corner 3 m) ++ drop 9 (now (out .entry)) ⌝ }
+    ensures { λ _. ⌜ (length (join (corner 3 m)) ≡ 9) × (now (out .exit) ≡ written (join (corner 3 m)) (now (out .entry))) ⌝ }
 {
     let mut i: usize = 0;
     while i < 9 {
@@ -124,7 +125,8 @@ fn put_turn(out: &mut [f64], m: [[f64; DIMENSION]; DIMENSION])
 // Writes matrices one after another, each row by row.
 fn put_turns(table: &[[[f64; DIMENSION]; DIMENSION]], out: &mut [f64])
     requires { ⌜ length (now table) * 9 ≤ length (now out) ⌝ }
-    ensures { λ _. ⌜ now (out .exit) ≡ join (join (map (corner 3) (now (table .entry)))) ++ drop (length (now (table .entry)) * 9) (now (out .entry)) ⌝ }
+    ensures { λ _. ⌜ (length (join (join (map (corner 3) (now (table .entry))))) ≡ length (now (table .entry)) * 9)
+        × (now (out .exit) ≡ written (join (join (map (corner 3) (now (table .entry))))) (now (out .entry))) ⌝ }
 {
     let mut k: usize = 0;
     while k < table.len() {

@@ -1,19 +1,19 @@
 -- The loop's invariant is that the first i floats are in place. The measure is what is left of d.
 -- Assumes nothing.
-use mathlib.Core.Path.{_≡_, refl, _∙_}
-use mathlib.Core.List.{_++_}
+use mathlib.Core.Path.{_≡_, refl}
 use Prim.Native.Nat.{_≤_, _-_}
 use native.Mathlib.Omega.{arith}
-use lib.ListN.{length, take, drop, length-set}
+use lib.ListN.{length, getD}
 use lib.Ieee.{nan}
 use borrow.Author.Needs.{needs}
 use Rattle.spec.specs.Limits.{maxDimension}
-use Rattle.points.proofs.Tails.{front-next, front-end}
+use Rattle.float.proofs.Written.{Written, none, next}
+use Rattle.points.proofs.Tails.{front-copied}
 use Rattle.points.proofs.put.Statement.{statement}
 use Rattle.points.proofs.put.Tie as tie
 
 abbrev Inv-loop : tie.InvT-loop
-Inv-loop out₀ d q i₀ out i = (i ≤ d) × (length out ≡ length out₀) × (out ≡ take i q ++ drop i out₀)
+Inv-loop out₀ d q i₀ out i = (i ≤ d) × Written (λ x. x) (λ k. getD q k nan) out₀ out i
 
 abbrev μ-loop : tie.MeasureT-loop
 μ-loop out₀ d q i₀ out i = d - i
@@ -22,19 +22,14 @@ long : (c : tie.Start Inv-loop μ-loop) → length (c .args .t2) ≡ maxDimensio
 long c = search needs
 
 loop-again : tie.Need-loop-again Inv-loop μ-loop
-loop-again c =
-    let s = c .before .before in
-    let l = c .before .loop in
-    let k = long s in
-    (search needs, simp length-set (l .inv .1), rw (l .inv .2) (front-next (s .args .t2) (s .args .out .now) (l .i) nan (omega arith) (omega arith)))
+loop-again c = (search needs, next _ (omega arith) refl (c .before .loop .inv .1))
 
 returns : tie.Need-returns Inv-loop μ-loop
 returns c =
     let s = c .before .before in
     let l = c .before .loop in
     let k = long s in
-    let e : l .i ≡ s .args .d = omega arith in
-    l .inv .2 ∙ rw e (front-end (s .args .t2) (s .args .out .now) (s .args .d) (omega arith))
+    front-copied (s .args .d) (l .inv .0) (c .loop-test .left) (s .args .t2) nan (omega arith) (l .inv .1)
 
 pub put-spec : {M : Type 1} → statement M
 put-spec =
@@ -42,7 +37,7 @@ put-spec =
     (tie.spec
     Inv-loop
     μ-loop
-    (λ c. (search needs, refl, refl))
+    (λ c. (search needs, none))
     (λ c. search needs)
     (λ c. search needs)
     (λ c. search needs)

@@ -11,7 +11,7 @@ use Rattle.copying.proofs.axes.axis_turns.Tie as tie
 returns : tie.Need-returns
 returns c =
     let k : length (c .before .before .before .before .args .table .now) ≡ 48 = search needs in
-    c .before .put-turns .ensures ∙ whole (c .before .before .before .before .args .table .now) _ (omega arith)
+    c .before .put-turns .ensures .1 ∙ whole _ _ (omega (arith, c .before .put-turns .ensures .0))
 
 pub axis-turns-spec : {M : Type 1} → statement M
 axis-turns-spec = tie.close (tie.spec (λ c. search needs) (λ c κs. search needs) returns)

@@ -1,16 +1,19 @@
 -- The loop's invariant is that the cells below i hold the matrix's floats. The measure is what is left of the nine.
 -- Assumes nothing.
-use mathlib.Core.Path.{_≡_, refl, sym, ap₂, _∙_}
-use mathlib.Core.List.{List, _++_}
+use mathlib.Core.Path.{_≡_, refl, sym, ap, _∙_}
+use mathlib.Core.List.{List}
 use Prim.Native.Nat.{_≤_, _-_}
 use native.Mathlib.Omega.{arith}
-use lib.ListN.{length, take-append-drop}
+use lib.ListN.{length}
 use lib.Ieee.{Float, binary64}
 use denote.Floats.{FloatOf}
 use borrow.Author.Needs.{needs}
 use Rattle.spec.specs.Limits.{maxDimension}
-use Rattle.float.proofs.Written.{Written, none, next, end-plain}
+use Rattle.spec.specs.Lists.{written}
+use Rattle.laws.proofs.Lists.{length-table}
+use Rattle.float.proofs.Written.{Written, none, next}
 use Rattle.matrix.proofs.Sized.{wide}
+use Rattle.points.proofs.Tails.{front-written}
 use Rattle.copying.proofs.Flat.{floatAt, nine}
 use Rattle.copying.proofs.axes.put_turn.Statement.{statement}
 use Rattle.copying.proofs.axes.put_turn.Tie as tie
@@ -33,12 +36,8 @@ returns c =
     let l = c .before .loop in
     let m = s .args .t2 in
     let k : length m ≡ maxDimension = search needs in
-    let e : l .i ≡ 9 = omega (arith, l .inv .0, c .loop-test .left) in
-    sym (take-append-drop 9 (l .out))
-    ∙ ap₂ (λ (x y : List Float). x ++ y)
-    (end-plain 9 (l .inv .0) (c .loop-test .left) (l .inv .1)
-    ∙ nine m (omega arith) (λ i h. omega (arith, wide (FloatOf binary64) maxDimension maxDimension m _ i (s .good .1 .0) (omega arith))))
-    (rw e at (l .inv .1 .rest))
+    let e = nine m (omega arith) (λ i h. omega (arith, wide (FloatOf binary64) maxDimension maxDimension m _ i (s .good .1 .0) (omega arith))) in
+    (ap length (sym e) ∙ length-table (floatAt m) 9, front-written 9 (l .inv .0) (c .loop-test .left) (l .inv .1) ∙ ap (λ (x : List Float). written x (s .args .out .now)) e)
 
 pub put-turn-spec : {M : Type 1} → statement M
 put-turn-spec =
