@@ -26,13 +26,17 @@ before sh r = firstAt sh r - firstAt sh 1
 unfoldable pub subEntries : Shape → ℕ → ℕ
 subEntries sh I = elim (sh .rank) [ zero ↦ 0 | suc q ↦ elim q [ zero ↦ 1 | suc z ↦ sizeAt sh 1 + I + sizeAt sh (suc z) ] ]
 
--- Counts the words that the solid takes: four for each element, and one for each entry of its subs and of its sups, of which there are as many.
-unfoldable pub lowOf : Shape → ℕ → ℕ
-lowOf sh I = 4 * total sh + 2 * subEntries sh I
+-- Gives the word from which on the subs' entries stand, behind the starts and lengths, which take four words for each element.
+abbrev pub subEntriesAt : Shape → ℕ
+subEntriesAt sh = 4 * total sh
 
--- Gives the word where the sups' entries start, which is after the starts and lengths, and after the subs' entries.
+-- Counts the words that the solid takes: those below the entries, and one for each entry of its subs and of its sups, of which there are as many.
+unfoldable pub lowOf : Shape → ℕ → ℕ
+lowOf sh I = subEntriesAt sh + 2 * subEntries sh I
+
+-- Gives the word where the sups' entries start, which is after the subs' entries.
 unfoldable pub baseOf : Shape → ℕ → ℕ
-baseOf sh I = 4 * total sh + subEntries sh I
+baseOf sh I = subEntriesAt sh + subEntries sh I
 
 -- Gives the shape with the number of its words, where the sheet's lists have I entries.
 unfoldable pub sized : Shape → ℕ → Shape

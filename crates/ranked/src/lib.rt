@@ -1,7 +1,8 @@
 // This crate has solids as lists at offsets in lent words (abs/ranked.rs, abs/mod.rs): the shape of the workspace, the accessors over the lists, and
 // the vertices of an element.
 
-use crate::lists::subs_at;
+use crate::lists::subs_word;
+use crate::lists::sups_word;
 use spec::MAX_COUNT;
 use spec::MAX_RANK;
 ghost use mathlib.Core.Path.{_≡_};
@@ -9,7 +10,7 @@ ghost use Prim.Native.Nat.{ℕ, suc, _+_, _*_, _^_, _≤_, _<_};
 ghost use lib.ListN.{length};
 ghost use Rattle.spec.specs.Limits.{maxRank, maxStarts};
 ghost use Rattle.ranked.specs.Words.{firstAt, sizeAt, total, listsOf, subsWord, supsWord};
-ghost use Rattle.ranked.specs.Layout.{proper, before, subEntries, sized as sizedAs, supEntriesAt, typesAt, scratchAt, fingerprintsAt, coordinates, classesAt, classAt};
+ghost use Rattle.ranked.specs.Layout.{proper, before, subEntries, sized as sizedAs, subEntriesAt, supEntriesAt, typesAt, scratchAt, fingerprintsAt, coordinates, classesAt, classAt};
 
 // This many ranks have a start: those from 0 to the greatest R, and the one above, at which the top rank ends.
 pub const STARTS: usize = MAX_RANK + 2;
@@ -99,7 +100,7 @@ impl Shape {
         requires { ⌜ (r ≤ suc maxRank) × (subsWord (firstAt self r) e < 2 ^ 64) ⌝ }
         ensures { λ n. ⌜ n ≡ subsWord (firstAt self r) e ⌝ }
     {
-        subs_at(self.first[r], e)
+        subs_word(self.number(r, e))
     }
 
     // Returns the same word for the list of its sups.
@@ -107,11 +108,19 @@ impl Shape {
         requires { ⌜ (r ≤ suc maxRank) × (supsWord (firstAt self r) e < 2 ^ 64) ⌝ }
         ensures { λ n. ⌜ n ≡ supsWord (firstAt self r) e ⌝ }
     {
-        subs_at(self.first[r], e) + 2
+        sups_word(self.number(r, e))
+    }
+
+    // Returns the word from which on the entries of the subs' lists stand, behind the starts and lengths of all lists.
+    pub fn sub_entries(self) -> usize
+        requires { ⌜ (self .rank ≤ maxRank) × (subEntriesAt self < 2 ^ 64) ⌝ }
+        ensures { λ n. ⌜ n ≡ subEntriesAt self ⌝ }
+    {
+        subs_word(self.elements())
     }
 
     // Counts the subs that all elements have together, where the sheet's lists have so many entries.
-    fn sub_entries(self, entries: usize) -> usize
+    fn sub_count(self, entries: usize) -> usize
         requires { ⌜ (self .rank ≤ maxRank) × (total self < 2 ^ 32) × (entries < 2 ^ 32) ⌝ }
         requires { ⌜ ((r : ℕ) → r ≤ self .rank → firstAt self r < firstAt self (suc r)) ⌝ }
         ensures { λ n. ⌜ n ≡ subEntries self entries ⌝ }
@@ -131,7 +140,7 @@ impl Shape {
         requires { ⌜ ((r : ℕ) → r ≤ self .rank → firstAt self r < firstAt self (suc r)) ⌝ }
         ensures { λ sh. ⌜ sh ≡ sizedAs self entries ⌝ }
     {
-        let low = 4 * self.elements() + 2 * self.sub_entries(entries);
+        let low = self.sub_entries() + 2 * self.sub_count(entries);
         let first = self.first;
         Shape {
             rank: self.rank,

@@ -6,7 +6,7 @@ ghost use lib.ListN.{length, getD};
 ghost use lib.Dec.{eqb};
 ghost use Rattle.spec.specs.Lists.{holds};
 ghost use Rattle.spec.specs.Types.{subs};
-ghost use Rattle.ranked.specs.Words.{sizeAt, listAt, subsWord, absIn, Held};
+ghost use Rattle.ranked.specs.Words.{sizeAt, listAt, absIn, Held};
 ghost use Rattle.ranked.specs.Reading.{Lies};
 
 // Returns the word at p.
@@ -35,12 +35,20 @@ pub fn entry_at(lists: &[u32], i: usize, k: usize) -> usize
     get(lists, start + k)
 }
 
-// Returns the word that says where the list of element e's subs starts, in a rank that starts at `first`; the next word is its length.
-pub(crate) fn subs_at(first: usize, e: usize) -> usize
-    requires { ⌜ subsWord first e < 2 ^ 64 ⌝ }
-    ensures { λ r. ⌜ r ≡ subsWord first e ⌝ }
+// Returns the word that says where the list of the subs of the element with number g over all ranks starts. The next word is its length.
+pub fn subs_word(g: usize) -> usize
+    requires { ⌜ 4 * g < 2 ^ 64 ⌝ }
+    ensures { λ r. ⌜ r ≡ 4 * g ⌝ }
 {
-    4 * (first + e)
+    4 * g
+}
+
+// Returns the same word for the list of its sups.
+pub fn sups_word(g: usize) -> usize
+    requires { ⌜ 4 * g + 2 < 2 ^ 64 ⌝ }
+    ensures { λ r. ⌜ r ≡ 4 * g + 2 ⌝ }
+{
+    4 * g + 2
 }
 
 // Returns the word that says where the list of element e starts, by that word `base` of the first element of its rank.

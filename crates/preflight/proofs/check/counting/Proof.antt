@@ -5,8 +5,8 @@ use native.Mathlib.Omega.{arith}
 use mathlib.Core.Path.{_≡_, sym, _∙_}
 use mathlib.Core.Bool.{Bool}
 use mathlib.Core.List.{List}
-use Prim.Native.Nat.{ℕ, _+_, _*_, _≤_, _-_}
-use lib.ListN.{length}
+use Prim.Native.Nat.{ℕ, _+_, _*_, _≤_, _<_, _-_}
+use lib.ListN.{length, getD}
 use lib.Dec.{eqb}
 use Rattle.spec.specs.Lists.{holds}
 use Rattle.ranked.specs.Words.{listAt}
@@ -24,13 +24,23 @@ Inv w i base x n m₀ k₀ m k = (k ≤ n) × (m ≤ k) × (n ≡ length (listAt
 abbrev μ : tie.MeasureT-loop
 μ w i base x n m₀ k₀ m k = n - k
 
--- The entry's list lies within the words.
+-- The entry is one of the list's.
+within : (i : tie.In-loop Inv μ) → let a = i .before .before .before .before .args in i .before .loop .k < length (listAt (a .lists .now) (a .i))
+within i = omega (arith, i .loop-test .taken, i .before .loop .inv .2)
+
+-- Its list lies within the words.
 lies : (c : tie.After-entry-at Inv μ) → let a = c .before .before .before .before .before .args in Lies (a .lists .now) (a .base + 4 * c .entry-at .result)
 lies c =
     let l = c .before .before in
     let s = l .before .before .before in
-    let a = s .args in
-    s .pre .1 (c .entry-at .result) (entry-in (listAt (a .lists .now) (a .i)) (l .loop .k) _ (omega (arith, c .before .loop-test .taken, l .loop .inv .2)) (c .entry-at .ensures))
+    s .pre .1 (c .entry-at .result) (entry-in (listAt (s .args .lists .now) (s .args .i)) (l .loop .k) _ (within (c .before)) (c .entry-at .ensures))
+
+-- The test says whether that list holds x.
+said : (h : tie.After-holds-at Inv μ) (t : Bool) → h .holds-at .result ≡ t →
+    let l = h .before .before .before .before in
+    let a = l .before .before .before .args in
+    p (a .lists .now) (a .base) (a .x) (getD (listAt (a .lists .now) (a .i)) (l .loop .k) 0) ≡ t
+said h t e = let o = h .before in rw (o .list-of .ensures, o .before .entry-at .ensures) at (sym (h .holds-at .ensures) ∙ e)
 
 pub counting-spec : {M : Type 1} → statement M
 unfolding holding
@@ -48,24 +58,12 @@ counting-spec =
     -- The needs are add-m, loop-less and loop-again.
     (λ c. search needs)
     (λ c. search needs)
-    (λ c. let o = c .before .before in
-    let l = o .before .before .before in
-    let k = o .before .before .loop-test .taken in (
-      search needs,
-      search needs,
-      l .loop .inv .2,
-      met-yes _ _ (l .loop .k) (l .loop .m) (omega (arith, k, l .loop .inv .2)) (l .loop .inv .3)
-          (rw (o .list-of .ensures, o .before .entry-at .ensures) at (sym (c .before .holds-at .ensures) ∙ c .if1 .taken)),
-    ))
+    (λ c. let i = c .before .before .before .before in
+    let l = i .before .loop in
+    (search needs, search needs, l .inv .2, met-yes _ _ (l .k) (l .m) (within i) (l .inv .3) (said (c .before) _ (c .if1 .taken))))
     -- The needs are loop-less-2, loop-again-2 and returns.
     (λ c. search needs)
-    (λ c. let o = c .before .before in
-    let l = o .before .before .before in
-    let k = o .before .before .loop-test .taken in (
-      search needs,
-      search needs,
-      l .loop .inv .2,
-      met-no _ _ (l .loop .k) (l .loop .m) (omega (arith, k, l .loop .inv .2)) (l .loop .inv .3)
-          (rw (o .list-of .ensures, o .before .entry-at .ensures) at (sym (c .before .holds-at .ensures) ∙ c .if1 .left)),
-    ))
+    (λ c. let i = c .before .before .before .before in
+    let l = i .before .loop in
+    (search needs, search needs, l .inv .2, met-no _ _ (l .k) (l .m) (within i) (l .inv .3) (said (c .before) _ (c .if1 .left))))
     (λ c. let l = c .before .loop in met-end _ _ (l .k) (l .m) (omega (arith, c .loop-test .left, l .inv .2)) (l .inv .3)))
