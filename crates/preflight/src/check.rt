@@ -5,6 +5,7 @@ use ranked::lists::count_at;
 use ranked::lists::entry_at;
 use ranked::lists::holds_at;
 use ranked::lists::list_of;
+use ranked::lists::sups_beside;
 ghost use mathlib.Core.Path.{_≡_};
 ghost use Prim.Native.Nat.{ℕ, suc, _+_, _*_, _≤_, _<_};
 ghost use lib.ListN.{length};
@@ -72,7 +73,7 @@ fn between(lists: &[u32], i: usize, j: usize, base: usize, g: usize, h: usize) -
     if count_at(lists, i) <= count_at(lists, j) {
         counting(lists, i, base, h)
     } else {
-        counting(lists, j, base + 2, g)
+        counting(lists, j, sups_beside(base), g)
     }
 }
 

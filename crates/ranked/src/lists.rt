@@ -43,12 +43,20 @@ pub fn subs_word(g: usize) -> usize
     4 * g
 }
 
-// Returns the same word for the list of its sups.
+// Returns the word for the list of an element's sups, by that for the list of its subs.
+pub fn sups_beside(subs: usize) -> usize
+    requires { ⌜ subs + 2 < 2 ^ 64 ⌝ }
+    ensures { λ r. ⌜ r ≡ subs + 2 ⌝ }
+{
+    subs + 2
+}
+
+// Returns the word that says where the list of the sups of the element with number g over all ranks starts.
 pub fn sups_word(g: usize) -> usize
     requires { ⌜ 4 * g + 2 < 2 ^ 64 ⌝ }
     ensures { λ r. ⌜ r ≡ 4 * g + 2 ⌝ }
 {
-    4 * g + 2
+    sups_beside(subs_word(g))
 }
 
 // Returns the word that says where the list of element e starts, by that word `base` of the first element of its rank.
