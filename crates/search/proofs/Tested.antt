@@ -55,10 +55,10 @@ module _ (c : Concrete) where
   far-past f fs e = rw (e, firstFar)
 
   -- After k facets, those left give what all give.
-  abbrev pub Left : ℕ → ℕ → Type 0
-  Left n k = firstFar c (drop k (range 0 n)) ≡ firstFar c (range 0 n)
+  abbrev pub FarKept : ℕ → ℕ → Type 0
+  FarKept n k = firstFar c (drop k (range 0 n)) ≡ firstFar c (range 0 n)
 
-  module _ (n k : ℕ) (h : k < n) (inv : Left n k) where
+  module _ (n k : ℕ) (h : k < n) (inv : FarKept n k) where
     next : drop k (range 0 n) ≡ k ∷ drop (suc k) (range 0 n)
     next =
         let at : getD (range 0 n) k 0 ≡ k = getD-range 0 n 0 k h ∙ omega arith in
@@ -68,11 +68,11 @@ module _ (c : Concrete) where
     unfolding next
     far-found e = sym (ap (firstFar c) next ∙ far-here k (drop (suc k) (range 0 n)) e) ∙ inv
 
-    pub far-next : far k ≡ false → Left n (k + 1)
+    pub far-next : far k ≡ false → FarKept n (k + 1)
     unfolding next
     far-next e = rw add-one (sym (ap (firstFar c) next ∙ far-past k (drop (suc k) (range 0 n)) e) ∙ inv)
 
-  pub far-end : (n k : ℕ) → n ≤ k → Left n k → none ≡ firstFar c (range 0 n)
+  pub far-end : (n k : ℕ) → n ≤ k → FarKept n k → none ≡ firstFar c (range 0 n)
   unfolding firstFar
   far-end n k h inv = let l : length (range 0 n) ≤ k = omega (arith, length-range 0 n) in rw (drop-of-length-le (range 0 n) {i = k} l) at inv
 

@@ -31,7 +31,7 @@ use Rattle.preflight.proofs.store.Places.{first-le}
 use Rattle.preflight.proofs.Entries.{pairs-are}
 use Rattle.preflight.proofs.Benches.{base-in, base-pairs, low-small, some-bench}
 use Rattle.symmetry.specs.Swapping.{swappedLists}
-use Rattle.symmetry.proofs.exchange.Swaps.{Came, lists-length, stays, comes-first, comes-second, lists-drop, lists-take}
+use Rattle.symmetry.proofs.exchange.Swaps.{CameFrom, lists-length, stays, comes-first, comes-second, lists-drop, lists-take}
 
 -- ---- solids
 
@@ -100,17 +100,17 @@ module _ (sh : Shape) (w : List ℕ) (st : Stored sh w) (d : diamond (absIn sh w
       let e : n + (a - n) ≡ a = omega arith in
       rw e at (sym (drop-drop (a - n) n w′) ∙ ap (drop (a - n)) rest ∙ drop-drop (a - n) n w)
 
-  list-came : (k j : ℕ) → j < total sh → Came w w′ k j → listAt w′ (4 * k) ≡ listAt w (4 * j)
+  list-came : (k j : ℕ) → j < total sh → CameFrom w w′ k j → listAt w′ (4 * k) ≡ listAt w (4 * j)
   unfolding listAt
   list-came k j h e =
       let q : getD w′ (suc (4 * k)) 0 ≡ getD w (suc (4 * j)) 0 = rw (add-one (4 * k), add-one (4 * j)) at (e .1) in
       rw (q, e .0) (ap (take (getD w (suc (4 * j)) 0)) (past (getD w (4 * j) 0) (st .apart j h)))
 
   -- Each element's list came from some element.
-  came : (k : ℕ) → k < total sh → (j : ℕ) × (j < total sh) × Came w w′ k j
+  came : (k : ℕ) → k < total sh → (j : ℕ) × (j < total sh) × CameFrom w w′ k j
   came k h = go (ℕ-discrete k g) (ℕ-discrete k (g + f))
     where
-      go : Dec (k ≡ g) → Dec (k ≡ g + f) → (j : ℕ) × (j < total sh) × Came w w′ k j
+      go : Dec (k ≡ g) → Dec (k ≡ g + f) → (j : ℕ) × (j < total sh) × CameFrom w w′ k j
       go (yes p) q = (g + f, facet-in f low, rw p (comes-first w g (g + f) first-in other-in))
       go (no n) (yes q) = (g, omega (arith, facet-in f low), rw q (comes-second w g (g + f) first-in other-in))
       go (no n) (no m) = (k, h, stays w g (g + f) k n m)

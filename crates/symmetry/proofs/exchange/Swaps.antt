@@ -47,8 +47,8 @@ module _ (w : List ℕ) (i j : ℕ) where
 -- ---- two lists
 
 -- Element k of w′ has the start and the length that element j of w has.
-abbrev pub Came : List ℕ → List ℕ → ℕ → ℕ → Type 0
-Came w w′ k j = (getD w′ (4 * k) 0 ≡ getD w (4 * j) 0) × (getD w′ (4 * k + 1) 0 ≡ getD w (4 * j + 1) 0)
+abbrev pub CameFrom : List ℕ → List ℕ → ℕ → ℕ → Type 0
+CameFrom w w′ k j = (getD w′ (4 * k) 0 ≡ getD w (4 * j) 0) × (getD w′ (4 * k + 1) 0 ≡ getD w (4 * j + 1) 0)
 
 module _ (w : List ℕ) (g h : ℕ) where
   abbrev one : List ℕ
@@ -58,7 +58,7 @@ module _ (w : List ℕ) (g h : ℕ) where
   unfolding swappedLists
   lists-length = swapped-length one (4 * g + 1) (4 * h + 1) ∙ swapped-length w (4 * g) (4 * h)
 
-  pub stays : (k : ℕ) → k ≢ g → k ≢ h → Came w (swappedLists w (4 * g) (4 * h)) k k
+  pub stays : (k : ℕ) → k ≢ g → k ≢ h → CameFrom w (swappedLists w (4 * g) (4 * h)) k k
   unfolding swappedLists
   stays k a b = (
     other one (4 * g + 1) (4 * h + 1) (4 * k) (λ q. omega arith) (λ q. omega arith)
@@ -68,7 +68,7 @@ module _ (w : List ℕ) (g h : ℕ) where
   )
 
   module _ (hg : 4 * g + 1 < length w) (hh : 4 * h + 1 < length w) where
-    pub comes-first : Came w (swappedLists w (4 * g) (4 * h)) g h
+    pub comes-first : CameFrom w (swappedLists w (4 * g) (4 * h)) g h
     unfolding swappedLists
     comes-first =
         let n = swapped-length w (4 * g) (4 * h) in (
@@ -76,7 +76,7 @@ module _ (w : List ℕ) (g h : ℕ) where
           first one (4 * g + 1) (4 * h + 1) (omega arith) (omega arith) ∙ other w (4 * g) (4 * h) (4 * h + 1) (λ q. omega arith) (λ q. omega arith),
         )
 
-    pub comes-second : Came w (swappedLists w (4 * g) (4 * h)) h g
+    pub comes-second : CameFrom w (swappedLists w (4 * g) (4 * h)) h g
     unfolding swappedLists
     comes-second =
         let n = swapped-length w (4 * g) (4 * h) in (

@@ -72,18 +72,18 @@ fingerprints-part l m h = go (split eqList lists l m)
 
 -- What is left from e on holds x exactly where what was left from `from` on did.
 module _ (s : Solid) (r : ℕ) (x : List ℕ) (from : ℕ) where
-  abbrev pub Sought : ℕ → Type 0
-  Sought e = holds eqList x (drop e (vertexSets s r)) ≡ holds eqList x (drop from (vertexSets s r))
+  abbrev pub SetSought : ℕ → Type 0
+  SetSought e = holds eqList x (drop e (vertexSets s r)) ≡ holds eqList x (drop from (vertexSets s r))
 
-  pub sought-yes : (e : ℕ) → e < size s r → Sought e → true ≡ eqList (vertices s r e) x → true ≡ holds eqList x (drop from (vertexSets s r))
+  pub sought-yes : (e : ℕ) → e < size s r → SetSought e → true ≡ eqList (vertices s r e) x → true ≡ holds eqList x (drop from (vertexSets s r))
   unfolding holds
   sought-yes e h i q = sym (ap (holds eqList x) (sets-rest s r e h) ∙ rw (← q, holds)) ∙ i
 
-  pub sought-no : (e : ℕ) → e < size s r → Sought e → false ≡ eqList (vertices s r e) x → Sought (e + 1)
+  pub sought-no : (e : ℕ) → e < size s r → SetSought e → false ≡ eqList (vertices s r e) x → SetSought (e + 1)
   unfolding holds
   sought-no e h i q = rw (add-one e) (sym (ap (holds eqList x) (sets-rest s r e h) ∙ rw (← q, holds)) ∙ i)
 
-  pub sought-end : (e : ℕ) → size s r ≤ e → Sought e → false ≡ holds eqList x (drop from (vertexSets s r))
+  pub sought-end : (e : ℕ) → size s r ≤ e → SetSought e → false ≡ holds eqList x (drop from (vertexSets s r))
   unfolding holds
   sought-end e h i = sym (ap (holds eqList x) (drop-of-length-le (vertexSets s r) {i = e} (rw length-sets h))) ∙ i
 

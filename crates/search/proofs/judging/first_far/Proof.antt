@@ -9,12 +9,12 @@ use lib.Ieee.{ofBits}
 use Rattle.spec.specs.Float.{eps}
 use Rattle.ranked.specs.Layout.{solidOn}
 use Rattle.search.specs.Reading.{farOf}
-use Rattle.search.proofs.Tested.{Left, far-found, far-next, far-end, test-is}
+use Rattle.search.proofs.Tested.{FarKept, far-found, far-next, far-end, test-is}
 use Rattle.search.proofs.judging.first_far.Statement.{statement}
 use Rattle.search.proofs.judging.first_far.Tie as tie
 
 abbrev Inv : tie.InvT-loop
-Inv lists sh floats r n f₀ f = (f ≤ n) × Left (solidOn sh lists floats) n f
+Inv lists sh floats r n f₀ f = (f ≤ n) × FarKept (solidOn sh lists floats) n f
 
 abbrev μ : tie.MeasureT-loop
 μ lists sh floats r n f₀ f = n - f

@@ -74,9 +74,9 @@ loop-holds c =
           (tally-first (a .sh) (a .words .now) (a .floats .now) (a .inverse) (tall s) (a .rotations) (a .room) (v .vertices .result) (v .vertices .ensures) (a .matrices .now) (a .rows .now)),
     )
 
--- This is what stands of the flags that are to come, the flag and those after it.
-abbrev Stands : tie.At-loop Inv μ → List Flag → Type 0
-Stands l =
+-- This is what is tallied when the flags from l's flag on are to come.
+abbrev Tallied : tie.At-loop Inv μ → List Flag → Type 0
+Tallied l =
     let a = start l .args in
     Tally (a .sh) (a .words .now) (a .floats .now) (a .inverse) (a .rotations) (a .room) (counted l .vertices .result) (a .matrices .now) (l .loop .matrices) (a .rows .now) (l .loop .rows) (l .loop .n)
 
@@ -86,12 +86,12 @@ flag l = flagIn (start l .args .sh .rank) (l .loop .flag)
 abbrev rest : tie.At-loop Inv μ → List Flag
 rest l =
     let s = start l in
-    later (s .args .sh) (listsOf (s .args .sh) (s .args .words .now)) (s .pre .bench .held) (Stands l) (flag l) (l .loop .inv .2)
+    later (s .args .sh) (listsOf (s .args .sh) (s .args .words .now)) (s .pre .bench .held) (Tallied l) (flag l) (l .loop .inv .2)
 
-stands : (l : tie.At-loop Inv μ) → Stands l (flag l ∷ rest l)
-stands l =
+tallied : (l : tie.At-loop Inv μ) → Tallied l (flag l ∷ rest l)
+tallied l =
     let s = start l in
-    flags-at (s .args .sh) (listsOf (s .args .sh) (s .args .words .now)) (s .pre .bench .held) (Stands l) (flag l) (l .loop .inv .2)
+    flags-at (s .args .sh) (listsOf (s .args .sh) (s .args .words .now)) (s .pre .bench .held) (Tallied l) (flag l) (l .loop .inv .2)
 
 -- The parts after the members start within the outputs, whose lengths fit a word.
 within : (l : tie.At-loop Inv μ) → let a = start l .args in
@@ -99,7 +99,7 @@ within : (l : tie.At-loop Inv μ) → let a = start l .args in
 within l =
     let s = start l in
     let a = s .args in
-    inside (a .sh) (a .words .now) (a .floats .now) (a .inverse) (tall s) (a .rotations) (a .room) (counted l .vertices .result) (counted l .vertices .ensures) (a .matrices .now) (a .rows .now) (l .loop .matrices) (l .loop .rows) (l .loop .n) (flag l) (rest l) (stands l)
+    inside (a .sh) (a .words .now) (a .floats .now) (a .inverse) (tall s) (a .rotations) (a .room) (counted l .vertices .result) (counted l .vertices .ensures) (a .matrices .now) (a .rows .now) (l .loop .matrices) (l .loop .rows) (l .loop .n) (flag l) (rest l) (tallied l)
 
 short : (s : tie.Start Inv μ) → (length (s .args .matrices .now) < 0x1000_0000_0000_0000) × (length (s .args .rows .now) < 0x4000_0000_0000_0000)
 short s = (omega arith, omega arith)
@@ -162,27 +162,27 @@ long t =
     let k = l .loop .n * counted l .vertices .result in
     same-len-mid k (length (l .loop .rows) - k) (l .loop .rows) (t .try-flag .last .1 .1 .1 .1 .1 .1 .0) (t .try-flag .kept .1 .1 .1 .1 .1 .1 .0) ∙ l .loop .inv .1
 
--- This is what stands then.
-abbrev Stood : tie.After-try-flag Inv μ → ℕ → List Flag → Type 0
-Stood t n =
+-- This is what is tallied then, with n members.
+abbrev TalliedAfter : tie.After-try-flag Inv μ → ℕ → List Flag → Type 0
+TalliedAfter t n =
     let l = t .before .before .before .before in
     let a = start l .args in
     Tally (a .sh) (a .words .now) (a .floats .now) (a .inverse) (a .rotations) (a .room) (counted l .vertices .result) (a .matrices .now) (matrices t) (a .rows .now) (rows t) n
 
-skipped : (t : tie.After-try-flag Inv μ) → t .try-flag .result ≡ Skipped → Stood t (t .before .before .before .before .loop .n) (rest (t .before .before .before .before))
+skipped : (t : tie.After-try-flag Inv μ) → t .try-flag .result ≡ Skipped → TalliedAfter t (t .before .before .before .before .loop .n) (rest (t .before .before .before .before))
 skipped t r =
     let l = t .before .before .before .before in
     let s = start l in
     let a = s .args in
-    tally-skipped (a .sh) (a .words .now) (a .floats .now) (a .inverse) (tall s) (a .rotations) (a .room) (counted l .vertices .result) (counted l .vertices .ensures) (a .matrices .now) (a .rows .now) (l .loop .matrices) (l .loop .rows) (l .loop .n) (flag l) (rest l) (stands l)
+    tally-skipped (a .sh) (a .words .now) (a .floats .now) (a .inverse) (tall s) (a .rotations) (a .room) (counted l .vertices .result) (counted l .vertices .ensures) (a .matrices .now) (a .rows .now) (l .loop .matrices) (l .loop .rows) (l .loop .n) (flag l) (rest l) (tallied l)
     (t .try-flag .result) (t .try-flag .last .1 .1 .1 .1 .1 .0) (t .try-flag .last .1 .1 .1 .1 .1 .1 .0) (t .try-flag .ensures) r
 
-added : (t : tie.After-try-flag Inv μ) → t .try-flag .result ≡ Added → Stood t (t .before .before .before .before .loop .n + 1) (rest (t .before .before .before .before))
+added : (t : tie.After-try-flag Inv μ) → t .try-flag .result ≡ Added → TalliedAfter t (t .before .before .before .before .loop .n + 1) (rest (t .before .before .before .before))
 added t r =
     let l = t .before .before .before .before in
     let s = start l in
     let a = s .args in
-    tally-added (a .sh) (a .words .now) (a .floats .now) (a .inverse) (tall s) (a .rotations) (a .room) (counted l .vertices .result) (counted l .vertices .ensures) (a .matrices .now) (a .rows .now) (l .loop .matrices) (l .loop .rows) (l .loop .n) (flag l) (rest l) (stands l)
+    tally-added (a .sh) (a .words .now) (a .floats .now) (a .inverse) (tall s) (a .rotations) (a .room) (counted l .vertices .result) (counted l .vertices .ensures) (a .matrices .now) (a .rows .now) (l .loop .matrices) (l .loop .rows) (l .loop .n) (flag l) (rest l) (tallied l)
     (t .try-flag .result) (t .try-flag .last .1 .1 .1 .1 .1 .0) (t .try-flag .last .1 .1 .1 .1 .1 .1 .0) (t .try-flag .ensures) r
 
 add-n : tie.Need-add-n Inv μ
@@ -206,7 +206,7 @@ returns r x =
     let s = start l in
     let a = s .args in
     rw (r .of .ensures)
-    (tally-short (a .sh) (a .words .now) (a .floats .now) (a .inverse) (tall s) (a .rotations) (a .room) (counted l .vertices .result) (counted l .vertices .ensures) (a .matrices .now) (a .rows .now) (l .loop .matrices) (l .loop .rows) (l .loop .n) (flag l) (rest l) (stands l)
+    (tally-short (a .sh) (a .words .now) (a .floats .now) (a .inverse) (tall s) (a .rotations) (a .room) (counted l .vertices .result) (counted l .vertices .ensures) (a .matrices .now) (a .rows .now) (l .loop .matrices) (l .loop .rows) (l .loop .n) (flag l) (rest l) (tallied l)
     (t .try-flag .result) (t .try-flag .last .1 .1 .1 .1 .1 .0) (t .try-flag .last .1 .1 .1 .1 .1 .1 .0) (t .try-flag .ensures) (e .enum-told3 .given .1) x)
 
 lists-requires-2 : tie.Need-lists-requires-2 Inv μ
@@ -224,12 +224,12 @@ next-is : (x : tie.After-next Inv μ) → let l = x .before .before .before .bef
 next-is x = rw (x .before .lists2 .ensures) at (x .next .ensures)
 
 -- Where the flag after it is asked for, the flags after it are to come.
-follows : (x : tie.After-next Inv μ) → let m = x .before .before in let t = m .before .before .before .before .before in Stood t (m .match .n) (rest (t .before .before .before .before))
+follows : (x : tie.After-next Inv μ) → let m = x .before .before in let t = m .before .before .before .before .before in TalliedAfter t (m .match .n) (rest (t .before .before .before .before))
 follows x =
     let m = x .before .before in
     let t = m .before .before .before .before .before in
     let l = t .before .before .before .before in
-    ⊎-elim (λ k. subst (λ n. Stood t n (rest l)) (sym (k .2)) (skipped t (k .1 .given .1))) (λ k. subst (λ n. Stood t n (rest l)) (sym (k .2)) (added t (k .1 .given .1))) (m .match .came)
+    ⊎-elim (λ k. subst (λ n. TalliedAfter t n (rest l)) (sym (k .2)) (skipped t (k .1 .given .1))) (λ k. subst (λ n. TalliedAfter t n (rest l)) (sym (k .2)) (added t (k .1 .given .1))) (m .match .came)
 
 loop-less : tie.Need-loop-less Inv μ
 unfolding moreOf
@@ -237,7 +237,7 @@ loop-less c =
     let x = c .before .before .before in
     let l = x .before .before .before .before .before .before .before .before .before .before .before in
     let s = start l in
-    fewer (s .args .sh) (listsOf (s .args .sh) (s .args .words .now)) (s .pre .bench .held) (Stands l) (flag l) (l .loop .inv .2)
+    fewer (s .args .sh) (listsOf (s .args .sh) (s .args .words .now)) (s .pre .bench .held) (Tallied l) (flag l) (l .loop .inv .2)
     (moreOf (x .next .result .advance)) (flagIn (s .args .sh .rank) (x .next .result .flag)) (next-is x) (ap moreOf (c .enum-told4 .given .1))
 
 loop-again : tie.Need-loop-again Inv μ
@@ -250,8 +250,8 @@ loop-again c =
     let s = start l in (
       many t,
       long t,
-      flags-next (s .args .sh) (listsOf (s .args .sh) (s .args .words .now)) (s .pre .bench .held) (Stands l) (flag l) (l .loop .inv .2)
-          (moreOf (x .next .result .advance)) (flagIn (s .args .sh .rank) (x .next .result .flag)) (next-is x) (ap moreOf (c .enum-told4 .given .1)) (Stood t (m .match .n)) (follows x),
+      flags-next (s .args .sh) (listsOf (s .args .sh) (s .args .words .now)) (s .pre .bench .held) (Tallied l) (flag l) (l .loop .inv .2)
+          (moreOf (x .next .result .advance)) (flagIn (s .args .sh .rank) (x .next .result .flag)) (next-is x) (ap moreOf (c .enum-told4 .given .1)) (TalliedAfter t (m .match .n)) (follows x),
     )
 
 same-length-3 : tie.Need-same-length-3 Inv μ
@@ -272,8 +272,8 @@ returns-2 r y =
     let a = s .args in
     rw (r .of2 .ensures)
     (tally-end (a .sh) (a .words .now) (a .floats .now) (a .inverse) (tall s) (a .rotations) (a .room) (counted l .vertices .result) (counted l .vertices .ensures) (a .matrices .now) (a .rows .now) (matrices t) (rows t) (m .match .n)
-    (flags-end (a .sh) (listsOf (a .sh) (a .words .now)) (s .pre .bench .held) (Stands l) (flag l) (l .loop .inv .2)
-    (moreOf (x .next .result .advance)) (flagIn (a .sh .rank) (x .next .result .flag)) (next-is x) (ap moreOf (c .enum-told5 .given .1)) (Stood t (m .match .n)) (follows x)) y)
+    (flags-end (a .sh) (listsOf (a .sh) (a .words .now)) (s .pre .bench .held) (Tallied l) (flag l) (l .loop .inv .2)
+    (moreOf (x .next .result .advance)) (flagIn (a .sh .rank) (x .next .result .flag)) (next-is x) (ap moreOf (c .enum-told5 .given .1)) (TalliedAfter t (m .match .n)) (follows x)) y)
 
 pub list-members-spec : {M : Type 1} → statement M
 list-members-spec =

@@ -8,14 +8,14 @@ use lib.ListN.{length}
 use Rattle.spec.specs.Types.{size}
 use Rattle.ranked.specs.Words.{listsOf, absIn}
 use Rattle.symmetry.specs.Fingerprints.{ProperElement}
-use Rattle.symmetry.proofs.vertex_sets.Sets.{Sought, sought-yes, sought-no, sought-end}
+use Rattle.symmetry.proofs.vertex_sets.Sets.{SetSought, sought-yes, sought-no, sought-end}
 use Rattle.symmetry.proofs.vertex_sets.Looks.{can-count, many-is, few-here, element, fingerprint-in, fingerprints-in, fingerprint-differs}
 use Rattle.symmetry.proofs.vertex_sets.finding.is_vertex_set.Statement.{statement}
 use Rattle.symmetry.proofs.vertex_sets.finding.is_vertex_set.Tie as tie
 
 abbrev Inv : tie.InvT-loop
 Inv words sh r from list p first many e₀ e =
-    (many ≡ size (absIn sh (listsOf sh words)) r) × Sought (absIn sh (listsOf sh words)) r list from e
+    (many ≡ size (absIn sh (listsOf sh words)) r) × SetSought (absIn sh (listsOf sh words)) r list from e
 
 abbrev μ : tie.MeasureT-loop
 μ words sh r from list p first many e₀ e = many - e
