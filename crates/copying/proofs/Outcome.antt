@@ -19,12 +19,12 @@ use Rattle.spec.specs.Lists.{join, holds, written}
 use Rattle.spec.specs.Matrix.{Vector, Matrix}
 use Rattle.spec.specs.Judged.{refused, passed}
 use Rattle.spec.specs.Copying
-use Rattle.spec.specs.Copying.{copies, matrices, copyTable, judgeCopy, copyOut, copyCall}
+use Rattle.spec.specs.Copying.{copies, matrices, copyTable, judgeCopy, copyOut, copyCall, noImage}
 use Rattle.laws.proofs.CopyLaws.{table-length}
 use Rattle.points.proofs.Parts.{length-parts}
 use Rattle.copying.proofs.Tables.{filled-is}
 use Rattle.points.specs.Cells.{Closed, Opened}
-use Rattle.copying.specs.Post.{filling, Fitting, Overfull}
+use Rattle.copying.specs.Post.{Fitting, Overfull}
 
 module _ (n : ℕ) (ms : List Matrix) (cs : List Vector) (points : List Float) (table : List ℕ) where
   abbrev cells : ℕ
@@ -37,7 +37,7 @@ module _ (n : ℕ) (ms : List Matrix) (cs : List Vector) (points : List Float) (
   short e = rw (e, copyOut)
 
   opened : (leb (length cs) n && leb cells (length table)) ≡ true → holds eqb (length cs) (copyTable ms cs) ≡ true
-      → (Refused Open (length (take n cs)), written (join (take n cs)) points, written (replicate cells filling) table) ≡ copyOut n ms cs points table
+      → (Refused Open (length (take n cs)), written (join (take n cs)) points, written (replicate cells noImage) table) ≡ copyOut n ms cs points table
   unfolding copyOut
   opened e f = rw (e, f, copyOut)
 
@@ -89,21 +89,21 @@ module _ (n : ℕ) (ms : List Matrix) (cs : List Vector) (points : List Float) (
           ∙ done room (ap (λ (a : ℕ). holds eqb a (copyTable ms cs)) count ∙ c .none)
 
       -- The table is filled over whatever of it was written.
-      pub answer-open : {t : List ℕ} → Opened m (copyTable ms cs) table t → (Refused Open m, after, written (replicate (length ms * m) filling) t) ≡ copyOut n ms cs points table
+      pub answer-open : {t : List ℕ} → Opened m (copyTable ms cs) table t → (Refused Open m, after, written (replicate (length ms * m) noImage) t) ≡ copyOut n ms cs points table
       answer-open {t} o =
-          ap (λ (a : ℕ). (Refused Open a, after, written (replicate (length ms * m) filling) t)) kept-count
+          ap (λ (a : ℕ). (Refused Open a, after, written (replicate (length ms * m) noImage) t)) kept-count
           ∙ ap₂ (λ (a : List Float) (b : List ℕ). (Refused Open (length (take n cs)), a, b)) points-are filled
           ∙ opened room (ap (λ (a : ℕ). holds eqb a (copyTable ms cs)) count ∙ o .some)
         where
           past : drop cells t ≡ drop cells table
           past = rw (table-length ms cs) at (o .past)
 
-          filled : written (replicate (length ms * m) filling) t ≡ written (replicate cells filling) table
+          filled : written (replicate (length ms * m) noImage) t ≡ written (replicate cells noImage) table
           filled =
-              ap (λ (k : ℕ). written (replicate k filling) t) size
-              ∙ sym (filled-is cells filling t)
-              ∙ ap (λ (l : List ℕ). replicate cells filling ++ l) past
-              ∙ filled-is cells filling table
+              ap (λ (k : ℕ). written (replicate k noImage) t) size
+              ∙ sym (filled-is cells noImage t)
+              ∙ ap (λ (l : List ℕ). replicate cells noImage ++ l) past
+              ∙ filled-is cells noImage table
 
 -- ---- compared by division, since a product can exceed a word
 

@@ -21,10 +21,6 @@ abbrev pub verdictAs : Verdict → Judged (Unit {0})
 verdictAs Accepted = passed tt
 verdictAs (Refused why) = refused why
 
--- This is the number that fills a table where an image is not among the copies.
-abbrev pub filling : ℕ
-filling = 65535
-
 -- Adds one image more to the copies, unless the image is found among them.
 unfoldable pub withImage : List Vector → Vector → List Vector
 withImage cs q = elim (found cs q) [ true ↦ cs | false ↦ cs ++ q ∷ [] ]

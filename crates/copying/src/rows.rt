@@ -4,15 +4,14 @@ ghost use mathlib.Core.Path.{_≡_};
 ghost use Prim.Native.Nat.{_*_, _/_, _≤_};
 ghost use lib.ListN.{length, replicate};
 ghost use Rattle.spec.specs.Limits.{maxDimension, maxCount};
-ghost use Rattle.spec.specs.Copying.{matrices, copyTable};
+ghost use Rattle.spec.specs.Copying.{matrices, copyTable, noImage};
 ghost use Rattle.spec.specs.Lists.{parts, written};
 ghost use Rattle.points.specs.Cells.{Tabled};
-ghost use Rattle.copying.specs.Post.{filling};
 use points::lookup::places;
 use points::lookup::row_of;
 
 // This is the number that fills a table when an image is not among the copies.
-const NONE: u16 = 65535;
+const NO_IMAGE: u16 = 65535;
 
 // Writes row after row, and says whether every image is among the copies.
 pub fn write(copies: &[f64], d: usize, n: usize, turns: &[f64], out: &mut [u16]) -> bool
@@ -35,14 +34,14 @@ pub fn write(copies: &[f64], d: usize, n: usize, turns: &[f64], out: &mut [u16])
     true
 }
 
-// Fills the first cells with NONE.
+// Fills the first cells with NO_IMAGE.
 pub fn fill(out: &mut [u16], cells: usize)
     requires { ⌜ cells ≤ length (now out) ⌝ }
-    ensures { λ _. ⌜ now (out .exit) ≡ written (replicate cells filling) (now (out .entry)) ⌝ }
+    ensures { λ _. ⌜ now (out .exit) ≡ written (replicate cells noImage) (now (out .entry)) ⌝ }
 {
     let mut i: usize = 0;
     while i < cells {
-        out[i] = NONE;
+        out[i] = NO_IMAGE;
         i += 1;
     }
 }

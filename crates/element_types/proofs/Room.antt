@@ -223,7 +223,7 @@ module _ (sh : Shape) (l : List ℕ) (h : Held sh l) where
 
 -- A "workspace under 16 times (E+I+4) 32-bit words" is refused. One that is not is enough, and its words can hold any place in it that a step uses.
 room-enough : (sh : Shape) (w : List ℕ) → Held sh (listsOf sh w) → sh .low ≡ lowOf sh (solids.entries (absIn sh (listsOf sh w)))
-    → 16 * (elements (absIn sh (listsOf sh w)) + solids.entries (absIn sh (listsOf sh w)) + 4) ≤ length w
+    → solids.wordsFor (elements (absIn sh (listsOf sh w))) (solids.entries (absIn sh (listsOf sh w))) ≤ length w
     → (x : Step) → 1 ≤ at x → at x < sh .rank → (needed sh w x ≤ length w) × (needed sh w x < 2 ^ 32)
 unfolding needed
 room-enough sh w h e room x a b =
@@ -231,7 +231,7 @@ room-enough sh w h e room x a b =
     (omega arith, omega (arith, elements-few sh (listsOf sh w) h, stored-few sh (listsOf sh w) h))
 
 pub sweepable : (sh : Shape) (w : List ℕ) → Held sh (listsOf sh w) → sh .low ≡ lowOf sh (solids.entries (absIn sh (listsOf sh w)))
-    → 16 * (elements (absIn sh (listsOf sh w)) + solids.entries (absIn sh (listsOf sh w)) + 4) ≤ length w → Sweepable sh w
+    → solids.wordsFor (elements (absIn sh (listsOf sh w))) (solids.entries (absIn sh (listsOf sh w))) ≤ length w → Sweepable sh w
 sweepable sh w h e room = record {
   held = h;
   room = λ x a b. room-enough sh w h e room x a b .0;

@@ -11,7 +11,7 @@ use lib.Ieee.{Float}
 use Rattle.spec.specs.Limits.{maxElements}
 use Rattle.spec.specs.Types.{Solid, size, elements}
 use Rattle.spec.specs.Float.{zeroF}
-use Rattle.spec.specs.Solid.{entries}
+use Rattle.spec.specs.Solid.{entries, floatsFor}
 use Rattle.ranked.specs.declared.Shape.{Shape}
 use Rattle.ranked.specs.Words.{total, listsOf, absIn, Held}
 use Rattle.preflight.specs.Derive.{pairs}
@@ -125,7 +125,7 @@ laid b = λ gs k. record {
 }
 
 -- There is a bench of just enough floats.
-pub some-bench : (sh : Shape) (ws : List ℕ) → Laid sh ws → Bench sh ws (replicate (8 * (elements (absIn sh (listsOf sh ws)) + 8)) zeroF)
+pub some-bench : (sh : Shape) (ws : List ℕ) → Laid sh ws → Bench sh ws (replicate (floatsFor (elements (absIn sh (listsOf sh ws)))) zeroF)
 some-bench sh ws l =
-    let n = 8 * (elements (absIn sh (listsOf sh ws)) + 8) in
+    let n = floatsFor (elements (absIn sh (listsOf sh ws))) in
     l (replicate n zeroF) (rw length-replicate (le-refl n))

@@ -16,7 +16,7 @@ use Rattle.spec.specs.Lists.{In, join, parts}
 use Rattle.spec.specs.Types.{Solid, elements}
 use Rattle.spec.specs.Judged.{Judged, refused, passed, judge, _>>=_, _>>_}
 use Rattle.spec.specs.Sheet.{Parsed, readSheet}
-use Rattle.spec.specs.Solid.{solidOf, entries, roomy, bound, diamond, Concrete, preflight}
+use Rattle.spec.specs.Solid.{solidOf, entries, roomy, bound, diamond, Concrete, preflight, wordsFor, floatsFor}
 use Rattle.laws.specs.Passed.{Passed}
 use Rattle.laws.proofs.Accepted.{never, same, every-passed}
 use Rattle.sheet.specs.declared.Header.{Header}
@@ -120,7 +120,7 @@ module _ (b : List ℕ) (p : Parsed) (e : readSheet b ≡ passed p) where
     pub header-fits : (h .elements < 2 ^ 32) × (h .entries < 2 ^ 32)
     header-fits = rw eh (let s = header-small b p e in (omega (arith, s .elements), omega (arith, s .entries)))
 
-    pub room-is : (n m : ℕ) → leb (16 * (h .elements + h .entries + 4)) n && leb (8 * (h .elements + 8)) m ≡ roomy (solidOf p) n m
+    pub room-is : (n m : ℕ) → leb (wordsFor (h .elements) (h .entries)) n && leb (floatsFor (h .elements)) m ≡ roomy (solidOf p) n m
     unfolding roomy
     room-is n m = rw (eh, ← elements-is b p e, ← entries-is b p e)
 
@@ -171,7 +171,7 @@ module _ (b : List ℕ) (n m : ℕ) (r : Ready) (ws : List ℕ) (fs : List Float
   unread {why} e v = refusal why (stopped b n m why e) v
 
   module _ (p : Parsed) (e : readSheet b ≡ passed p) (h : Header) (eh : h ≡ headerOf p) (t : Bool)
-      (et : t ≡ (leb (16 * (h .elements + h .entries + 4)) n && leb (8 * (h .elements + 8)) m)) where
+      (et : t ≡ (leb (wordsFor (h .elements) (h .entries)) n && leb (floatsFor (h .elements)) m)) where
     room : t ≡ roomy (solidOf p) n m
     room = et ∙ room-is b p e h eh n m
 
@@ -203,7 +203,7 @@ module _ (b : List ℕ) (n m : ℕ) (r : Ready) (ws : List ℕ) (fs : List Float
             here : absIn (r .shape) (listsOf (r .shape) ws) ≡ solidOf p
             here = k .solid
 
-            space : (16 * (elements (solidOf p) + entries (solidOf p) + 4) ≤ n) × (8 * (elements (solidOf p) + 8) ≤ m)
+            space : (wordsFor (elements (solidOf p)) (entries (solidOf p)) ≤ n) × (floatsFor (elements (solidOf p)) ≤ m)
             space = room-in (solidOf p) n m (sym room ∙ q)
 
         from : SheetJudged p r ws fs → Preflighted b n m r ws fs
@@ -231,6 +231,6 @@ module _ (b : List ℕ) (n m : ℕ) (r : Ready) (ws : List ℕ) (fs : List Float
 
 -- Storing asks for this.
 pub asked : (b : List ℕ) (n m : ℕ) (p : Parsed) (e : readSheet b ≡ passed p) (h : Header) (eh : h ≡ headerOf p) (t : Bool)
-    → t ≡ (leb (16 * (h .elements + h .entries + 4)) n && leb (8 * (h .elements + 8)) m) → t ≡ true
+    → t ≡ (leb (wordsFor (h .elements) (h .entries)) n && leb (floatsFor (h .elements)) m) → t ≡ true
     → (readSheet b ≡ passed (parsedOf b)) × ((h ≡ headerOf (parsedOf b)) × (roomy (solidOf (parsedOf b)) n m ≡ true))
 asked b n m p e h eh t et q = rw (← parsed-is b p e) (e, (eh, sym (room-is b p e h eh n m) ∙ sym et ∙ q))

@@ -8,7 +8,7 @@ use mathlib.Core.List.{List}
 use lib.ListN.{length, take}
 use lib.Ieee.{Float}
 use Rattle.spec.specs.Types.{elements}
-use Rattle.spec.specs.Solid.{entries, bound, diamond}
+use Rattle.spec.specs.Solid.{entries, bound, diamond, wordsFor, floatsFor}
 use Rattle.ranked.specs.declared.Shape.{Shape}
 use Rattle.ranked.specs.Words.{listsOf, absIn, Held}
 use Rattle.preflight.specs.Derive.{Stored}
@@ -26,9 +26,9 @@ pub record Bench (sh : Shape) (ws : List ℕ) (fs : List Float) : Type 0 where
   pub joined : bound (absIn sh (listsOf sh ws)) ≡ true
   pub diamonds : diamond (absIn sh (listsOf sh ws)) ≡ true
   -- There is enough room for 7 not to apply.
-  pub words : 16 * (elements (absIn sh (listsOf sh ws)) + entries (absIn sh (listsOf sh ws)) + 4) ≤ length ws
-  pub floats : 8 * (elements (absIn sh (listsOf sh ws)) + 8) ≤ length fs
+  pub words : wordsFor (elements (absIn sh (listsOf sh ws))) (entries (absIn sh (listsOf sh ws))) ≤ length ws
+  pub floats : floatsFor (elements (absIn sh (listsOf sh ws))) ≤ length fs
 
 -- This is the words' part of a bench, which is a bench together with any floats that are enough.
 abbrev pub Laid : Shape → List ℕ → Type 0
-Laid sh ws = (fs : List Float) → 8 * (elements (absIn sh (listsOf sh ws)) + 8) ≤ length fs → Bench sh ws fs
+Laid sh ws = (fs : List Float) → floatsFor (elements (absIn sh (listsOf sh ws))) ≤ length fs → Bench sh ws fs

@@ -15,7 +15,7 @@ ghost use lib.ListN.{length};
 ghost use lib.Dec.{leb};
 ghost use Rattle.spec.specs.Judged.{passed};
 ghost use Rattle.spec.specs.Sheet.{readSheet};
-ghost use Rattle.spec.specs.Solid.{solidOf, roomy};
+ghost use Rattle.spec.specs.Solid.{solidOf, roomy, wordsFor, floatsFor};
 ghost use Rattle.sheet.specs.Judge.{headerOf};
 ghost use Rattle.ranked.specs.Words.{absIn, Held};
 ghost use Rattle.preflight.specs.Store.{parsedOf};
@@ -48,7 +48,7 @@ fn unready(why: Refusal) -> Ready
 // Tells whether the workspace has room for a solid of so many proper elements and list entries. If it has not, refusal 7 is answered.
 fn is_roomy(elements: usize, entries: usize, words: usize, floats: usize) -> bool
     requires { ⌜ (elements < 2 ^ 32) × (entries < 2 ^ 32) ⌝ }
-    ensures { λ r. ⌜ r ≡ leb (16 * (elements + entries + 4)) words && leb (8 * (elements + 8)) floats ⌝ }
+    ensures { λ r. ⌜ r ≡ leb (wordsFor elements entries) words && leb (floatsFor elements) floats ⌝ }
 {
     if 16 * (elements + entries + 4) <= words {
         return 8 * (elements + 8) <= floats;

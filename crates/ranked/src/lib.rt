@@ -3,7 +3,7 @@
 
 use crate::lists::subs_word;
 use crate::lists::sups_word;
-use spec::MAX_COUNT;
+use spec::MAX_PROPER;
 use spec::MAX_RANK;
 ghost use mathlib.Core.Path.{_≡_};
 ghost use Prim.Native.Nat.{ℕ, suc, _+_, _*_, _^_, _≤_, _<_};
@@ -16,7 +16,7 @@ ghost use Rattle.ranked.specs.Layout.{proper, before, subEntries, sized 
 pub const STARTS: usize = MAX_RANK + 2;
 
 // A solid can have at most this many elements, the least and the top among them.
-pub const ELEMENTS: usize = (MAX_RANK - 1) * MAX_COUNT + 2;
+pub const ELEMENTS: usize = MAX_PROPER + 2;
 
 // This says how the words are laid out. An element is known by its rank r and its number e in it, or by its number over all ranks, first[r] + e. Word
 // 4 * g is where the list of g's subs starts, the next word its length; the two words after them say the same of its sups.

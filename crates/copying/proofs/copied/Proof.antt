@@ -9,10 +9,10 @@ use lib.ListN.{length, replicate}
 use borrow.Author.Needs.{needs}
 use Rattle.spec.specs.Limits.{maxCount}
 use Rattle.spec.specs.Matrix.{Vector, Matrix}
-use Rattle.spec.specs.Copying.{copies, points, matrices, copyOut, copyTable}
+use Rattle.spec.specs.Copying.{copies, points, matrices, copyOut, copyTable, noImage}
 use Rattle.spec.specs.Lists.{written}
 use Rattle.points.specs.Cells.{Tabled}
-use Rattle.copying.specs.Post.{filling, Fitting}
+use Rattle.copying.specs.Post.{Fitting}
 use Rattle.copying.proofs.Squares.{square, square-pos}
 use Rattle.copying.proofs.Growth.{length-matrices}
 use Rattle.copying.proofs.Judgements.{Judgeable, judged-passed}
@@ -147,7 +147,7 @@ returns-4 c =
     let r = k .before .before .before .before .before .before .before in
     let n = k .before .n .given .0 .0 in
     let t = w .write .last .1 .1 .1 .1 .0 in
-    let e : c .before .before .fill .last .0 ≡ written (replicate (length (ms s) * n) filling) t =
+    let e : c .before .before .fill .last .0 ≡ written (replicate (length (ms s) * n) noImage) t =
     rw (length-matrices (s .args .d) (s .args .turns .now)) (c .before .before .fill .ensures) in
     rw e (answer-open (r .room .result) (ms s) (cs s) (s .args .out .now) (s .args .table .now) (fitting k) (roomy (w .before .before .before)) (rw (c .before .before .before .before .if2 .left) at (tabled w)) ∙ limited r)
 

@@ -15,7 +15,7 @@ use borrow.Author.Tests.{eq-eqb, ne-eqb}
 use Rattle.spec.specs.Limits.{maxRank}
 use Rattle.spec.specs.Float.{zeroF}
 use Rattle.spec.specs.Types.{Solid, top, size, subs, elements}
-use Rattle.spec.specs.Solid.{entries, bound, diamond}
+use Rattle.spec.specs.Solid.{entries, bound, diamond, floatsFor}
 use Rattle.spec.specs.Search.{exchangedIn, exchanged}
 use Rattle.laws.specs.SolidLaws.{swap}
 use Rattle.laws.specs.Passed.{Kept}
@@ -217,7 +217,7 @@ module _ (sh : Shape) (w : List ℕ) (st : Stored sh w) (d : diamond (absIn sh w
 -- ---- the whole bench
 
 module _ (sh : Shape) (ws : List ℕ) (l : Laid sh ws) (f : ℕ) (asked : (2 ≤ sh .rank) × (f < sizeAt sh (sh .rank - 1))) where
-  b : Bench sh ws (replicate (8 * (elements (absIn sh (listsOf sh ws)) + 8)) zeroF)
+  b : Bench sh ws (replicate (floatsFor (elements (absIn sh (listsOf sh ws)))) zeroF)
   b = some-bench sh ws l
 
   abbrev whole : Solid
