@@ -21,8 +21,8 @@ use Rattle.spec.specs.Solid.{Concrete}
 use Rattle.spec.specs.Search.{Member}
 use Rattle.spec.specs.Calls.{Room, Outcome, fitting, keptOf, outcome, membersIn, SearchOut, roomOf, searchWritten, searchCall}
 use Rattle.spec.specs.KitText.{refusedLine, membersLine, lastLine, lent, workWords, workFloats}
-use Rattle.laws.proofs.Accepted.{same, every-passed}
-use Rattle.laws.proofs.CallProofs.{apart, counted, choose, call-laws}
+use Rattle.laws.proofs.Accepted.{every-passed}
+use Rattle.laws.proofs.CallProofs.{apart, counted, choose}
 use Rattle.laws.proofs.CopyLaws.{Wide, wide-join}
 use Rattle.laws.proofs.Listed.{found-in, members-confirm}
 use Rattle.laws.proofs.Shapes.{Square, square-long, Shaped, members-shaped, found-cells}

@@ -318,6 +318,50 @@ module _ (s : Solid) (w : Stack 1 s) where
 
 -- ---- the sheet
 
+-- The parts of a sheet that was read, each with the bit at which it starts.
+pub record PartsRead (b : List ℕ) (p : Parsed) : Type 0 where
+  pub dimension-at : ℕ
+  pub counts-at : ℕ
+  pub points-at : ℕ
+  pub lists-at : ℕ
+  pub end-at : ℕ
+  pub rank-is : rank b 0 ≡ passed (p .rank, dimension-at)
+  pub dimension-is : dimension b dimension-at ≡ passed (p .dimension, counts-at)
+  pub counts-are : times (p .rank - 1) (count b) counts-at ≡ passed (p .counts, points-at)
+  pub points-are : times (vertexCount (p .rank) (p .counts)) (times (p .dimension) (coordinate b)) points-at ≡ passed (p .points, lists-at)
+  pub lists-are : lists b (p .counts) lists-at ≡ passed (p .lists, end-at)
+
+sheet-parts : (b : List ℕ) (y : Parsed × ℕ) → sheet b 0 ≡ passed y → PartsRead b (y .0)
+unfolding sheet done
+sheet-parts b y e =
+    let h₁ = bound-by (rank b) _ 0 y e in
+    let h₂ = bound-by (dimension b) _ _ y (h₁ .2) in
+    let h₃ = bound-by (times (h₁ .0 .0 - 1) (count b)) _ _ y (h₂ .2) in
+    let h₄ = bound-by (times (vertexCount (h₁ .0 .0) (h₃ .0 .0)) (times (h₂ .0 .0) (coordinate b))) _ _ y (h₃ .2) in
+    let h₅ = bound-by (lists b (h₃ .0 .0)) _ _ y (h₄ .2) in
+    let h₆ = after (end b) _ _ y (h₅ .2) in
+    subst (λ (z : Parsed × ℕ). PartsRead b (z .0)) (same _ y (h₆ .2)) (record {
+      dimension-at = h₁ .0 .1;
+      counts-at = h₂ .0 .1;
+      points-at = h₃ .0 .1;
+      lists-at = h₄ .0 .1;
+      end-at = h₅ .0 .1;
+      rank-is = h₁ .1;
+      dimension-is = h₂ .1;
+      counts-are = h₃ .1;
+      points-are = h₄ .1;
+      lists-are = h₅ .1;
+    })
+
+pub parts-read : (b : List ℕ) (p : Parsed) → readSheet b ≡ passed p → PartsRead b p
+unfolding readSheet
+parts-read b p = go (sheet b 0) refl
+  where
+    go : (o : Judged (Parsed × ℕ)) → sheet b 0 ≡ o → elim o as (λ z. Judged Parsed) [ refused why ↦ refused why | passed x ↦ passed (x .0) ] ≡ passed p
+        → PartsRead b p
+    go (refused why) q e = absurd (never why p e)
+    go (passed x) q e = rw (← same (x .0) p e) (sheet-parts b x q)
+
 record Read (p : Parsed) : Type 0 where
   tall : p .rank ≤ maxRank
   wide : p .dimension ≤ maxDimension
@@ -327,40 +371,21 @@ record Read (p : Parsed) : Type 0 where
   pointed : length (p .points) ≡ vertexCount (p .rank) (p .counts)
   low : (c : ℕ) (counts : List ℕ) → p .counts ≡ c ∷ counts → Sized counts (p .lists) × Stack c (p .lists)
 
-sheet-read : (b : List ℕ) (y : Parsed × ℕ) → sheet b 0 ≡ passed y → Read (y .0)
-unfolding sheet done
-sheet-read b y e =
-    let h₁ = bound-by (rank b) _ 0 y e in
-    let h₂ = bound-by (dimension b) _ _ y (h₁ .2) in
-    let h₃ = bound-by (times (h₁ .0 .0 - 1) (count b)) _ _ y (h₂ .2) in
-    let h₄ = bound-by (times (vertexCount (h₁ .0 .0) (h₃ .0 .0)) (times (h₂ .0 .0) (coordinate b))) _ _ y (h₃ .2) in
-    let h₅ = bound-by (lists b (h₃ .0 .0)) _ _ y (h₄ .2) in
-    let h₆ = after (end b) _ _ y (h₅ .2) in
-    subst (λ (z : Parsed × ℕ). Read (z .0)) (same _ y (h₆ .2)) (record {
-      tall = rank-read b 0 (h₁ .0) (h₁ .1);
-      wide = dimension-read b (h₁ .0 .1) (h₂ .0) (h₂ .1);
-      counts = times-each (λ n. (0 < n) × (n ≤ maxCount)) (count b) (count-read b) (h₁ .0 .0 - 1) (h₂ .0 .1) (h₃ .0) (h₃ .1);
-      coordinates = times-each (λ x. (length x ≡ h₂ .0 .0) × ((y : Float) → In y x → inRange y ≡ true)) (times (h₂ .0 .0) (coordinate b))
-          (λ i z k. (times-read (h₂ .0 .0) (coordinate b) i z k, times-each (λ y. inRange y ≡ true) (coordinate b) (coordinate-read b) (h₂ .0 .0) i z k))
-          (vertexCount (h₁ .0 .0) (h₃ .0 .0)) (h₃ .0 .1) (h₄ .0) (h₄ .1);
-      counted = times-read (h₁ .0 .0 - 1) (count b) (h₂ .0 .1) (h₃ .0) (h₃ .1);
-      pointed = times-read (vertexCount (h₁ .0 .0) (h₃ .0 .0)) (times (h₂ .0 .0) (coordinate b)) (h₃ .0 .1) (h₄ .0) (h₄ .1);
-      low = λ c counts q. lists-read b c counts (h₄ .0 .1) (h₅ .0) (subst (λ (l : List ℕ). lists b l (h₄ .0 .1) ≡ passed (h₅ .0)) q (h₅ .1));
-    })
-
--- R and D come first, 3 bits each, so D is what the three bits behind R say.
-sheet-dimension : (b : List ℕ) (y : Parsed × ℕ) → sheet b 0 ≡ passed y → (6 ≤ 8 * length b) × (y .0 .dimension ≡ field b 3 3)
-unfolding sheet done rank dimension
-sheet-dimension b y e =
-    let h₁ = bound-by (rank b) _ 0 y e in
-    let h₂ = bound-by (dimension b) _ _ y (h₁ .2) in
-    let h₃ = bound-by (times (h₁ .0 .0 - 1) (count b)) _ _ y (h₂ .2) in
-    let h₄ = bound-by (times (vertexCount (h₁ .0 .0) (h₃ .0 .0)) (times (h₂ .0 .0) (coordinate b))) _ _ y (h₃ .2) in
-    let h₅ = bound-by (lists b (h₃ .0 .0)) _ _ y (h₄ .2) in
-    let h₆ = after (end b) _ _ y (h₅ .2) in
-    let at : h₁ .0 .1 ≡ 3 = ap (λ (z : ℕ × ℕ). z .1) (field-read b 0 3 Format (λ n. leb n maxRank) (h₁ .0) (h₁ .1) .1) in
-    let r = field-read b (h₁ .0 .1) 3 Format (λ n. leb n maxDimension) (h₂ .0) (h₂ .1) in
-    (rw at at (r .0), ap (λ (z : Parsed × ℕ). z .0 .dimension) (sym (same _ y (h₆ .2))) ∙ ap (λ (z : ℕ × ℕ). z .0) (r .1) ∙ ap (λ (n : ℕ). field b n 3) at)
+whole-sheet : (b : List ℕ) (p : Parsed) → readSheet b ≡ passed p → Read p
+whole-sheet b p e =
+    let h = parts-read b p e in
+    let v = vertexCount (p .rank) (p .counts) in
+    record {
+      tall = rank-read b 0 (p .rank, h .dimension-at) (h .rank-is);
+      wide = dimension-read b (h .dimension-at) (p .dimension, h .counts-at) (h .dimension-is);
+      counted = times-read (p .rank - 1) (count b) (h .counts-at) (p .counts, h .points-at) (h .counts-are);
+      counts = times-each (λ n. (0 < n) × (n ≤ maxCount)) (count b) (count-read b) (p .rank - 1) (h .counts-at) (p .counts, h .points-at) (h .counts-are);
+      coordinates = times-each (λ x. (length x ≡ p .dimension) × ((y : Float) → In y x → inRange y ≡ true)) (times (p .dimension) (coordinate b))
+          (λ i z k. (times-read (p .dimension) (coordinate b) i z k, times-each (λ y. inRange y ≡ true) (coordinate b) (coordinate-read b) (p .dimension) i z k))
+          v (h .points-at) (p .points, h .lists-at) (h .points-are);
+      pointed = times-read v (times (p .dimension) (coordinate b)) (h .points-at) (p .points, h .lists-at) (h .points-are);
+      low = λ c counts q. lists-read b c counts (h .lists-at) (p .lists, h .end-at) (subst (λ (l : List ℕ). lists b l (h .lists-at) ≡ passed (p .lists, h .end-at)) q (h .lists-are));
+    }
 
 module _ (p : Parsed) (w : Read p) where
   proper-stack : (counts : List ℕ) → p .counts ≡ counts → Stack 1 (properLists counts (p .lists))
@@ -515,26 +540,19 @@ unfolding Judging.judge
 tested why true y e = refl
 tested why false y e = absurd (never why y e)
 
--- What was read is what the reading of the whole sheet gave.
-sheet-of : (b : List ℕ) (p : Parsed) → readSheet b ≡ passed p → (y : Parsed × ℕ) × (sheet b 0 ≡ passed y) × (y .0 ≡ p)
-unfolding readSheet
-sheet-of b p = go (sheet b 0) refl
-  where
-    go : (o : Judged (Parsed × ℕ)) → sheet b 0 ≡ o → elim o as (λ z. Judged Parsed) [ refused why ↦ refused why | passed x ↦ passed (x .0) ] ≡ passed p
-        → (y : Parsed × ℕ) × (sheet b 0 ≡ passed y) × (y .0 ≡ p)
-    go (refused why) q e = absurd (never why p e)
-    go (passed x) q e = (x, q, same (x .0) p e)
-
-whole-sheet : (b : List ℕ) (p : Parsed) → readSheet b ≡ passed p → Read p
-whole-sheet b p e = let y = sheet-of b p e in rw (← y .2) (sheet-read b (y .0) (y .1))
-
 -- This is the solid of a sheet that was read, whatever workspaces are lent.
 module _ (b : List ℕ) (p : Parsed) (e : readSheet b ≡ passed p) where
   pub read-rank : top (solidOf p) ≡ p .rank
   read-rank = rank-of p (whole-sheet b p e)
 
+  -- R and D come first, 3 bits each, so D is what the three bits behind R say.
   pub read-dimension : (6 ≤ 8 * length b) × (p .dimension ≡ field b 3 3)
-  read-dimension = let y = sheet-of b p e in rw (← y .2) (sheet-dimension b (y .0) (y .1))
+  unfolding rank dimension
+  read-dimension =
+      let h = parts-read b p e in
+      let at : h .dimension-at ≡ 3 = ap (λ (z : ℕ × ℕ). z .1) (field-read b 0 3 Format (λ n. leb n maxRank) (p .rank, h .dimension-at) (h .rank-is) .1) in
+      let r = field-read b (h .dimension-at) 3 Format (λ n. leb n maxDimension) (p .dimension, h .counts-at) (h .dimension-is) in
+      (rw at at (r .0), ap (λ (z : ℕ × ℕ). z .0) (r .1) ∙ ap (λ (n : ℕ). field b n 3) at)
 
   pub read-sound : Sound (solidOf p)
   read-sound = sound-of p (whole-sheet b p e)

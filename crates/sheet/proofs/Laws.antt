@@ -13,9 +13,9 @@ use Rattle.spec.specs.Limits.{maxRank, maxDimension, maxCount, maxEntries}
 use Rattle.spec.specs.Bits.{field}
 use Rattle.spec.specs.Lists.{In, range, sum}
 use Rattle.spec.specs.Judged.{Judged, refused, passed}
-use Rattle.laws.proofs.Accepted.{never, same, bound-by, times-read, times-each, rank-read, dimension-read, count-read}
+use Rattle.laws.proofs.Accepted.{same, bound-by, times-read, times-each, rank-read, dimension-read, count-read}
 use Rattle.laws.proofs.Accepted as accepted
-use Rattle.spec.specs.Sheet.{Parsed, done, times, count, coordinate, list, listsAt, lists, end, vertexCount, rank, dimension, sheet, readSheet}
+use Rattle.spec.specs.Sheet.{Parsed, done, count, list, listsAt, lists, rank, dimension, readSheet}
 use Rattle.spec.specs.Types.{Solid, top, size, properRanks, elements}
 use Rattle.spec.specs.Solid.{properLists, withTop, solidOf, entries}
 use Rattle.sheet.specs.declared.Header.{Header}
@@ -103,30 +103,16 @@ record Said (p : Parsed) : Type 0 where
   each : (n : ℕ) → In n (p .counts) → n ≤ maxCount
   ranks : Ranks (p .counts) (p .lists)
 
-sheet-said : (b : List ℕ) (y : Parsed × ℕ) → sheet b 0 ≡ passed y → Said (y .0)
-unfolding sheet done
-sheet-said b y e =
-    let h₁ = bound-by (rank b) _ 0 y e in
-    let h₂ = bound-by (dimension b) _ _ y (h₁ .2) in
-    let h₃ = bound-by (times (h₁ .0 .0 - 1) (count b)) _ _ y (h₂ .2) in
-    let h₄ = bound-by (times (vertexCount (h₁ .0 .0) (h₃ .0 .0)) (times (h₂ .0 .0) (coordinate b))) _ _ y (h₃ .2) in
-    let h₅ = bound-by (lists b (h₃ .0 .0)) _ _ y (h₄ .2) in
-    let h₆ = accepted.after (end b) _ _ y (h₅ .2) in
-    subst (λ (z : Parsed × ℕ). Said (z .0)) (same _ y (h₆ .2)) (record {
-      low = rank-read b 0 (h₁ .0) (h₁ .1);
-      flat = dimension-read b (h₁ .0 .1) (h₂ .0) (h₂ .1);
-      few = times-read (h₁ .0 .0 - 1) (count b) (h₂ .0 .1) (h₃ .0) (h₃ .1);
-      each = λ n m. times-each (λ n. (0 < n) × (n ≤ maxCount)) (count b) (count-read b) (h₁ .0 .0 - 1) (h₂ .0 .1) (h₃ .0) (h₃ .1) n m .1;
-      ranks = ranks-read b (h₃ .0 .0) (h₄ .0 .1) (h₅ .0) (h₅ .1);
-    })
-
 said : (b : List ℕ) (p : Parsed) → readSheet b ≡ passed p → Said p
-unfolding readSheet
-said b p = go (sheet b 0) refl
-  where
-    go : (o : Judged (Parsed × ℕ)) → sheet b 0 ≡ o → elim o as (λ z. Judged Parsed) [ refused why ↦ refused why | passed x ↦ passed (x .0) ] ≡ passed p → Said p
-    go (refused why) q e = absurd (never why p e)
-    go (passed x) q e = rw (← same (x .0) p e) (sheet-said b x q)
+said b p e =
+    let h = accepted.parts-read b p e in
+    record {
+      low = rank-read b 0 (p .rank, h .dimension-at) (h .rank-is);
+      flat = dimension-read b (h .dimension-at) (p .dimension, h .counts-at) (h .dimension-is);
+      few = times-read (p .rank - 1) (count b) (h .counts-at) (p .counts, h .points-at) (h .counts-are);
+      each = λ n m. times-each (λ n. (0 < n) × (n ≤ maxCount)) (count b) (count-read b) (p .rank - 1) (h .counts-at) (p .counts, h .points-at) (h .counts-are) n m .1;
+      ranks = ranks-read b (p .counts) (h .lists-at) (p .lists, h .end-at) (h .lists-are);
+    }
 
 -- ---- the laws
 

@@ -2,7 +2,6 @@
 -- Assumes nothing.
 use mathlib.Core.Path.{_∙_}
 use native.Mathlib.Omega.{arith}
-use borrow.Author.Needs.{needs}
 use Rattle.sheet.proofs.Laws.{dimension-field}
 use Rattle.sheet.proofs.dimension.Statement.{statement}
 use Rattle.sheet.proofs.dimension.Tie as tie
