@@ -20,10 +20,10 @@ use Rattle.laws.proofs.Counts.{numbers, sum-le, in-keep, once-keep, in-holds}
 use Rattle.laws.proofs.Carry.{rising-once}
 use Rattle.ranked.specs.declared.Shape.{Shape}
 use Rattle.ranked.specs.Words.{firstAt, sizeAt, total, listsOf, absIn, Held}
-use Rattle.preflight.specs.Store.{subEntries, lowOf}
+use Rattle.ranked.specs.Layout.{subEntries, lowOf}
 use Rattle.ranked.proofs.Solids.{top-is, size-is}
-use Rattle.preflight.proofs.Entries.{sub-entries-is}
-use Rattle.preflight.proofs.Benches.{proper-few}
+use Rattle.ranked.proofs.Low.{sub-entries-is}
+use Rattle.ranked.proofs.Counted.{proper-few}
 use Rattle.element_types.specs.State.{entries, needed, Sweepable}
 
 -- ---- sums

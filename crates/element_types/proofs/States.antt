@@ -19,9 +19,9 @@ use Rattle.laws.proofs.Lists.{in-getD, map-same, getD-table, length-table, of-r
 use Rattle.laws.proofs.Renumber.{length-renumber, renumber-pattern}
 use Rattle.laws.proofs.Counts as counts
 use Rattle.ranked.specs.declared.Shape.{Shape}
-use Rattle.ranked.specs.Words.{firstAt, sizeAt, total, listsOf, listAt, absIn}
+use Rattle.ranked.specs.Words.{firstAt, sizeAt, total, listsOf, listAt, absIn, subsWord, supsWord}
 use Rattle.ranked.specs.Layout as layout
-use Rattle.ranked.specs.Reading.{Lies, subsWord, supsWord}
+use Rattle.ranked.specs.Reading.{Lies}
 use Rattle.ranked.proofs.Solids.{size-is, in-order, number-in, subs-lie, sups-lie, subs-listed, sups-listed, sub-in, sup-in}
 use Rattle.element_types.specs.Runs.{over, under, keyOf}
 use Rattle.element_types.specs.Numbers.{keyIn, keysTo, spaceTo, Numberable}

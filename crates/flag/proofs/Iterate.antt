@@ -15,8 +15,8 @@ use Rattle.spec.specs.Types.{Solid, size, subs}
 use Rattle.spec.specs.Flags.{Flag, IsFlag, elementAt, firstTo, flagsTo, flags}
 use Rattle.laws.proofs.Lists.{in-getD}
 use Rattle.ranked.specs.declared.Shape.{Shape}
-use Rattle.ranked.specs.Words.{firstAt, sizeAt, listAt, absIn, Held}
-use Rattle.ranked.specs.Reading.{Lies, subsWord}
+use Rattle.ranked.specs.Words.{firstAt, sizeAt, listAt, absIn, Held, subsWord}
+use Rattle.ranked.specs.Reading.{Lies}
 use Rattle.ranked.proofs.Solids.{top-is, subs-lie, subs-listed, sub-in, list-in}
 use Rattle.flag.specs.Reading.{Follows, Moved, nextPlace}
 use Rattle.flag.proofs.Flags.{flag-in}

@@ -6,8 +6,8 @@ use Prim.Native.Nat.{ℕ, zero, suc, _+_, _-_, _*_, _<_}
 use native.Mathlib.Omega.{arith}
 use Rattle.spec.specs.Solid.{between}
 use Rattle.ranked.specs.declared.Shape.{Shape}
-use Rattle.ranked.specs.Words.{firstAt, sizeAt, absIn, Held}
-use Rattle.ranked.specs.Reading.{subsWord, supsWord, holding, Fork}
+use Rattle.ranked.specs.Words.{firstAt, sizeAt, absIn, Held, subsWord, supsWord}
+use Rattle.ranked.specs.Reading.{holding, Fork}
 use Rattle.ranked.proofs.Judged.{down-is, fork}
 
 -- Element g is of the rank above, and x of the one below.

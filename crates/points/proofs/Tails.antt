@@ -2,11 +2,10 @@
 -- Assumes nothing.
 use mathlib.Core.Path.{_≡_, sym, ap, ap₂, _∙_}
 use mathlib.Core.List.{List, [], _++_, map, map-id, append-nil, append-assoc}
-use Prim.Native.Nat.{ℕ, suc, _+_, _-_, _≤_, _<_}
-use native.Mathlib.Numerals.{add-one}
+use Prim.Native.Nat.{ℕ, _+_, _-_, _≤_}
 use native.Mathlib.Omega.{arith}
-use lib.ListN.{length, getD, set, take, drop, length-append, length-drop, drop-of-length-le}
-use lib.Seq.{take-all, take-suc, drop-cons, drop-drop, take-append-seam, drop-append-seam, set-at, append-snoc, length-take-le}
+use lib.ListN.{length, getD, take, drop, length-append, length-drop, drop-of-length-le}
+use lib.Seq.{take-all, drop-drop, take-append-seam, drop-append-seam}
 use borrow.Rule.Slice.PartMut.{midOf, postOf, putMid}
 use Rattle.spec.specs.Lists.{range, written}
 use Rattle.laws.proofs.Lists.{length-table}
@@ -49,16 +48,3 @@ pub part-written : {A : Type 0} (cells new old now part : List A) (k : ℕ) → 
     → part ≡ written new (midOf k (length now - k) now) → putMid k (length now - k) now part ≡ written (cells ++ new) old
 part-written cells new old now part k l h z e =
     tail-back now part k h ∙ ap (λ u. take k now ++ u) (e ∙ ap (λ u. written new u) (tail-is now part k h)) ∙ rw (z, ← l) (written-after cells new old)
-
-module _ {A : Type 0} (q l : List A) where
-  -- The first i cells are q's, and then one more is.
-  pub front-next : (i : ℕ) (z : A) → i < length q → i < length l → set (take i q ++ drop i l) i (getD q i z) ≡ take (i + 1) q ++ drop (i + 1) l
-  front-next i z h k =
-      let y = getD q i z in
-      let rest = drop (suc i) l in
-      rw (add-one, drop-cons l i z k, take-suc q i z h)
-      (set-at (take i q) (getD l i z) rest y i (length-take-le i q (omega arith)) ∙ sym (append-snoc (take i q) y rest))
-
-  pub front-end : (d : ℕ) → d ≤ length q → take d q ++ drop d l ≡ written (take d q) l
-  unfolding written
-  front-end d h = ap (λ (k : ℕ). take d q ++ drop k l) (sym (length-take-le d q h))

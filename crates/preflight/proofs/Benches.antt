@@ -20,7 +20,7 @@ use Rattle.preflight.specs.Bench.{Bench, Laid}
 use Rattle.ranked.proofs.Low.{entries-0, entries-1, sub-entries-is}
 use Rattle.ranked.proofs.Solids.{size-is}
 use Rattle.ranked.proofs.Counted.{total-few, vertices-few}
-pub use Rattle.ranked.proofs.Counted.{proper-few}
+use Rattle.ranked.proofs.Counted.{proper-few}
 use Rattle.preflight.proofs.Entries.{pairs-are}
 
 -- ---- the number of entries

@@ -16,7 +16,7 @@ use Rattle.ranked.specs.declared.Shape.{Shape}
 use Rattle.ranked.specs.Words.{absIn}
 use Rattle.ranked.specs.Layout.{subEntries}
 use Rattle.ranked.proofs.Low.{entries-0, entries-1}
-pub use Rattle.ranked.proofs.Low.{sub-entries-is}
+use Rattle.ranked.proofs.Low.{sub-entries-is}
 use Rattle.preflight.specs.Derive.{pairsTo, pairs, running}
 use Rattle.ranked.proofs.Solids.{top-is, size-is}
 use Rattle.preflight.proofs.store.Flat.{rank-length}

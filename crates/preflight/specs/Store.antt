@@ -17,7 +17,7 @@ use Rattle.spec.specs.Solid.{solidOf, entries, Concrete}
 use Rattle.ranked.specs.declared.Shape.{Shape}
 use Rattle.ranked.specs.Words.{firstAt, sizeAt, total, listsOf, listAt, absIn, Held}
 use Rattle.preflight.specs.Derive.{running, Stored}
-unfoldable pub use Rattle.ranked.specs.Layout.{subEntries, lowOf, baseOf, sized}
+use Rattle.ranked.specs.Layout.{lowOf, baseOf, sized}
 
 -- ---- fields
 

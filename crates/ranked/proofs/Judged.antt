@@ -13,8 +13,8 @@ use Rattle.spec.specs.Types.{Solid, size, subs, sups, properRanks}
 use Rattle.spec.specs.Solid.{bound, between, diamond}
 use Rattle.laws.proofs.Lists.{of-range}
 use Rattle.ranked.specs.declared.Shape.{Shape}
-use Rattle.ranked.specs.Words.{firstAt, sizeAt, listAt, absIn, Held}
-use Rattle.ranked.specs.Reading.{subsWord, supsWord, boundIn, holding, Fork, twoUnder, Tier, twoAt, twoRank, twoFrom}
+use Rattle.ranked.specs.Words.{firstAt, sizeAt, listAt, absIn, Held, subsWord, supsWord}
+use Rattle.ranked.specs.Reading.{boundIn, holding, Fork, twoUnder, Tier, twoAt, twoRank, twoFrom}
 use Rattle.ranked.proofs.Solids.{top-is, size-is, subs-lie, sups-lie, subs-listed, sups-listed, sub-in, sup-in}
 use Rattle.ranked.proofs.Between.{upward, between-upward}
 

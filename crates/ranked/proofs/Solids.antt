@@ -12,9 +12,9 @@ use Rattle.spec.specs.Lists.{In, range}
 use Rattle.spec.specs.Types.{top, size, subs, sups}
 use Rattle.laws.proofs.Lists.{getD-table, length-table}
 use Rattle.ranked.specs.declared.Shape.{Shape}
-use Rattle.ranked.specs.Words.{firstAt, sizeAt, total, listAt, subsIn, supsIn, absIn, Inside, Held}
+use Rattle.ranked.specs.Words.{firstAt, sizeAt, total, listAt, subsIn, supsIn, absIn, Inside, Held, subsWord, supsWord}
 use Rattle.ranked.specs.Layout.{coordinates}
-use Rattle.ranked.specs.Reading.{Lies, subsWord, supsWord}
+use Rattle.ranked.specs.Reading.{Lies}
 use Rattle.ranked.proofs.Between.{sup-means}
 use Rattle.ranked.proofs.Starts.{lt-or-le, first-rises}
 

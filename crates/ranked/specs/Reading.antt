@@ -8,8 +8,7 @@ use lib.ListN.{length}
 use lib.Dec.{eqb, ltb}
 use Rattle.spec.specs.Lists.{In, range, holds, keep, every}
 use Rattle.ranked.specs.declared.Shape.{Shape}
-use Rattle.ranked.specs.Words.{firstAt, sizeAt, listAt, Inside}
-pub use Rattle.ranked.specs.Words.{subsWord, supsWord}
+use Rattle.ranked.specs.Words.{firstAt, sizeAt, listAt, subsWord, supsWord, Inside}
 
 -- The two words that say where the list at word i is lie within the words, and so does the list.
 pub record Lies (w : List ℕ) (i : ℕ) : Type 0 where

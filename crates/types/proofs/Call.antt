@@ -25,7 +25,7 @@ use Rattle.laws.proofs.Counts.{sum-le}
 use Rattle.ranked.specs.declared.Shape.{Shape}
 use Rattle.ranked.specs.Words.{listsOf, absIn}
 use Rattle.ranked.specs.Layout.{proper}
-use Rattle.geometry.proofs.elements.Room.{proper-is}
+use Rattle.ranked.proofs.Counted.{proper-is}
 use Rattle.element_types.specs.State.{stateIn, Countable}
 use Rattle.types.specs.Call.{handedOut, answered}
 use Rattle.types.proofs.Rows.{many-few}

@@ -21,7 +21,7 @@ use Rattle.ranked.specs.Words.{firstAt, sizeAt, listsOf, absIn}
 use Rattle.ranked.specs.Layout as layout
 use Rattle.ranked.specs.Layout.{proper}
 use Rattle.ranked.proofs.Solids.{top-is, size-is, in-order}
-use Rattle.geometry.proofs.elements.Room.{proper-is}
+use Rattle.ranked.proofs.Counted.{proper-is}
 use Rattle.element_types.specs.State.{typesIn, stateIn, Countable}
 use Rattle.element_types.proofs.Scanned.{table-snoc}
 use Rattle.element_types.proofs.Tallied.{counts-all, Tally, tally-first, run-in, run-numbered, tally-next, tally-end}

@@ -15,7 +15,7 @@ use Rattle.laws.proofs.TypeLaws as laws
 use Rattle.ranked.specs.declared.Shape.{Shape}
 use Rattle.ranked.specs.Words.{listsOf, absIn}
 use Rattle.ranked.specs.Layout.{proper, scratchAt}
-use Rattle.geometry.proofs.elements.Room.{proper-is}
+use Rattle.ranked.proofs.Counted.{proper-is}
 use Rattle.element_types.specs.State.{stateIn, Sweepable, Countable}
 use Rattle.element_types.proofs.Sweeps.{sweepable-kept}
 use Rattle.element_types.specs.declared.settling.settled.Ending.{Ending}

@@ -6,8 +6,8 @@ use native.Mathlib.Numerals.{add-one}
 use mathlib.Core.Path.{_≡_, sym, ap, _∙_}
 use Prim.Native.Nat.{suc, _-_}
 use Rattle.spec.specs.Solid.{between}
-use Rattle.ranked.specs.Words.{firstAt, absIn}
-use Rattle.ranked.specs.Reading.{subsWord, supsWord, holding, Fork}
+use Rattle.ranked.specs.Words.{firstAt, absIn, subsWord, supsWord}
+use Rattle.ranked.specs.Reading.{holding, Fork}
 use Rattle.flag.specs.Reading.{otherIn}
 use Rattle.flag.proofs.Sides.{sides, between-is}
 use Rattle.flag.proofs.other_between.Statement.{statement}

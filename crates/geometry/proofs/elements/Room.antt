@@ -1,7 +1,7 @@
 -- The floats that preflight asks for are room for the coordinates, the list and the classes.
 -- Assumes nothing.
 use mathlib.Core.List.{List}
-use Prim.Native.Nat.{ℕ, _+_, _*_, _≤_}
+use Prim.Native.Nat.{ℕ, _+_, _≤_}
 use native.Mathlib.Nat.{mul-le-mul-left}
 use native.Mathlib.Omega.{arith}
 use Rattle.spec.specs.Solid.{floatsFor}
@@ -11,7 +11,7 @@ use Rattle.ranked.specs.Words.{sizeAt, absIn, Held}
 use Rattle.ranked.specs.Layout.{proper, classesAt}
 use Rattle.ranked.proofs.Solids.{sizes-are}
 use Rattle.ranked.proofs.Counted.{vertices-few}
-pub use Rattle.ranked.proofs.Counted.{proper-is}
+use Rattle.ranked.proofs.Counted.{proper-is}
 
 module _ (sh : Shape) (w : List ℕ) (h : Held sh w) where
   -- The room of "8 times (E+8) floats" holds the coordinates, the list and the classes.

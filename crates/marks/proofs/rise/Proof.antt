@@ -6,8 +6,7 @@ use native.Mathlib.Numerals.{add-one}
 use mathlib.Core.Path.{_≡_}
 use Prim.Native.Nat.{ℕ, suc, _+_, _<_}
 use lib.ListN.{length, getD}
-use Rattle.ranked.specs.Words.{firstAt, listAt}
-use Rattle.ranked.specs.Reading.{subsWord}
+use Rattle.ranked.specs.Words.{firstAt, listAt, subsWord}
 use Rattle.ranked.proofs.Solids.{subs-lie}
 use Rattle.ranked.proofs.Turns.{entry-in}
 use Rattle.marks.proofs.Found.{some-sub, sub-cell, over-lie, each-lie, rises}

@@ -22,12 +22,12 @@ use Rattle.laws.specs.Passed.{Kept}
 use Rattle.laws.proofs.Exchange.{swap-low, size-same, subs-n, subs-other, elements-same, entries-same, bound-same, every-exchange}
 use Rattle.ranked.specs.declared.Shape.{Shape}
 use Rattle.ranked.specs.Words.{firstAt, sizeAt, total, listsOf, listAt, subsIn, absIn, Held}
-use Rattle.ranked.specs.Layout.{supEntriesAt, solidIn}
+use Rattle.ranked.specs.Layout.{supEntriesAt, solidIn, subEntries, lowOf, baseOf}
 use Rattle.preflight.specs.Derive.{pairs, Stored}
-use Rattle.preflight.specs.Store.{subEntries, lowOf, baseOf}
 use Rattle.preflight.specs.Bench.{Bench, Laid}
 use Rattle.ranked.proofs.Solids.{top-is, size-is, subs-is}
 use Rattle.preflight.proofs.store.Places.{first-le}
+use Rattle.preflight.proofs.store.Derived.{stored-on}
 use Rattle.preflight.proofs.Entries.{pairs-are}
 use Rattle.preflight.proofs.Benches.{base-in, base-pairs, low-small, some-bench}
 use Rattle.symmetry.specs.Swapping.{swappedLists}
@@ -194,25 +194,14 @@ module _ (sh : Shape) (w : List ℕ) (st : Stored sh w) (d : diamond (absIn sh w
       ∙ sym (pairs-are sh w (st .sound) (st .filled))
 
   pub stored : Stored sh w′
-  stored = record {
-    tall = st .tall;
-    wide = st .wide;
-    ranks = st .ranks;
-    start = st .start;
-    some = st .some;
-    few = st .few;
-    rest = st .rest;
-    small = st .small;
-    room = rw (lists-length w g (g + f)) (st .room);
-    apart = λ k h. let c = came k h in rw (c .2 .0) (st .apart (c .0) (c .1));
-    subs-inside = λ k h.
-        let c = came k h in
-        let q : getD w′ (suc (4 * k)) 0 ≡ getD w (suc (4 * c .0)) 0 = rw (add-one (4 * k), add-one (4 * c .0)) at (c .2 .1) in
-        rw (q, c .2 .0, lists-length w g (g + f)) (st .subs-inside (c .0) (c .1));
-    sound = rw solid-is (kept .sound);
-    filled = rw solid-is (kept .filled);
-    entries = omega (arith, pairs-same, st .entries);
-  }
+  stored =
+      stored-on st (rw (lists-length w g (g + f)) (st .room))
+      (λ k h. let c = came k h in rw (c .2 .0) (st .apart (c .0) (c .1)))
+      (λ k h.
+      let c = came k h in
+      let q : getD w′ (suc (4 * k)) 0 ≡ getD w (suc (4 * c .0)) 0 = rw (add-one (4 * k), add-one (4 * c .0)) at (c .2 .1) in
+      rw (q, c .2 .0, lists-length w g (g + f)) (st .subs-inside (c .0) (c .1)))
+      (rw solid-is (kept .sound)) (rw solid-is (kept .filled)) (omega (arith, pairs-same, st .entries))
 
 -- ---- the whole bench
 

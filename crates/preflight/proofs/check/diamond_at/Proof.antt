@@ -11,8 +11,8 @@ use Prim.Native.Nat.{ℕ, suc, _+_, _*_, _≤_, _-_}
 use lib.ListN.{length}
 use Rattle.spec.specs.Lists.{In, every}
 use Rattle.ranked.specs.declared.Shape.{Shape}
-use Rattle.ranked.specs.Words.{firstAt, listAt}
-use Rattle.ranked.specs.Reading.{Lies, subsWord, supsWord, Fork, Tier, twoUnder, twoAt}
+use Rattle.ranked.specs.Words.{firstAt, listAt, subsWord, supsWord}
+use Rattle.ranked.specs.Reading.{Lies, Fork, Tier, twoUnder, twoAt}
 use Rattle.ranked.proofs.Turns.{entry-in, Every, every-yes, every-no, every-end}
 use Rattle.ranked.proofs.Judged.{every-same, tier}
 use Rattle.preflight.proofs.check.diamond_at.Statement.{statement}

@@ -8,7 +8,7 @@ use Rattle.spec.specs.Types.{typeCount}
 use Rattle.spec.specs.Calls.{TypesOut}
 use Rattle.ranked.specs.Words.{listsOf, absIn}
 use Rattle.ranked.specs.Layout.{proper}
-use Rattle.geometry.proofs.elements.Room.{proper-is}
+use Rattle.ranked.proofs.Counted.{proper-is}
 use Rattle.element_types.specs.State.{stateIn}
 use Rattle.types.proofs.Call.{types-few, short-elements, short-types, all-handed}
 use Rattle.types.proofs.giving.give_out.Statement.{statement}
