@@ -1,6 +1,6 @@
 #!/bin/sh
-# bench.sh: prints the times of the static library and of the Rust of oracle/ on the same input (compare/bench.rs), and then those of crate
-# `float` and of large sheets. It needs rt and rustc, and gcc and python3 for the last two.
+# bench.sh: prints the times of the static library and of the Rust of oracle/ on the same input (compare/bench.rs), and then those of crates
+# `float` and `matrix` and of large sheets. It needs rt and rustc, and gcc and python3 for the last two.
 set -e
 cd "$(dirname "$0")/.."
 sh compare/build.sh

@@ -1,5 +1,5 @@
 #!/bin/sh
-# bench_float.sh: prints the nanoseconds of processor time that each operation of crate `float` takes, and those of the machine's own square
+# bench_float.sh: prints the nanoseconds of processor time that each operation of crates `float` and `matrix` takes, and those of the machine's own square
 # root beside them. It needs `rt`, gcc and python3.
 set -e
 cd "$(dirname "$0")/.."

@@ -1,5 +1,5 @@
 #!/bin/sh
-# bench_sheets.sh: prints the milliseconds of processor time that refusals 1 to 6, storing included, take on large sheets
+# bench_sheets.sh: prints the milliseconds of processor time that refusals 1 to 7, storing included, take on large sheets
 # (tools/make_largest.py says which). Each sheet is judged 64 times, and the best of five runs counts. It needs `rt` and python3.
 set -e
 cd "$(dirname "$0")/.."

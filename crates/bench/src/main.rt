@@ -1,6 +1,6 @@
 // This program does one thing again and again, and prints its last result. The first argument names it: r is the root of crate `float`, i is the
 // inverse of crate `matrix`, d its determinant and p its product, each on what the time before gave; s judges the sheet from standard input, by
-// refusals 1 to 6 and storing its solid (`preflight`). The second is a digit n and says how often it is done, which is 8^n times.
+// refusals 1 to 7 and storing its solid (`preflight`). The second is a digit n and says how often it is done, which is 8^n times.
 // tools/bench_float.sh and tools/bench_sheets.sh time it. With no argument, as in the gate, it does each of them a few times, the sheet being the one
 // that has every count at its limit.
 mod arithmetic;

@@ -44,7 +44,7 @@ nine m h w =
 abbrev pub floats : List Matrix → List Float
 floats t = join (join (map (corner 3) t))
 
-pub record Laid (t : List Matrix) (before buffer : List Float) (k : ℕ) : Type 0 where
+pub record TurnsLaid (t : List Matrix) (before buffer : List Float) (k : ℕ) : Type 0 where
   pub long : length (floats (take k t)) ≡ k * 9
   pub is : buffer ≡ written (floats (take k t)) before
 
@@ -59,7 +59,7 @@ floats-more t k h =
     ∙ ap join (join-append before (corner 3 m ∷ []) ∙ ap (λ (x : Matrix). join before ++ x) (append-nil (corner 3 m)))
     ∙ join-append (join before) (corner 3 m)
 
-module _ {t : List Matrix} {before buffer : List Float} {k : ℕ} (l : Laid t before buffer k) where
+module _ {t : List Matrix} {before buffer : List Float} {k : ℕ} (l : TurnsLaid t before buffer k) where
   pub laid-length : k * 9 ≤ length before → length buffer ≡ length before
   unfolding written
   laid-length h =
@@ -69,7 +69,7 @@ module _ {t : List Matrix} {before buffer : List Float} {k : ℕ} (l : Laid t be
   -- The next matrix is written to the part after them.
   pub laid-next : {part : List Float} → k < length t → k * 9 ≤ length buffer → length (join (corner 3 (getD t k []))) ≡ 9
       → part ≡ written (join (corner 3 (getD t k []))) (midOf (k * 9) (length buffer - k * 9) buffer)
-      → Laid t before (putMid (k * 9) (length buffer - k * 9) buffer part) (k + 1)
+      → TurnsLaid t before (putMid (k * 9) (length buffer - k * 9) buffer part) (k + 1)
   laid-next {part} h f n e =
       let old = floats (take k t) in
       let new = join (corner 3 (getD t k [])) in
@@ -83,7 +83,7 @@ module _ {t : List Matrix} {before buffer : List Float} {k : ℕ} (l : Laid t be
       let all = take-all k t (omega arith) in
       (rw (all, e) at (l .long), rw all at (l .is))
 
-pub laid-none : {t : List Matrix} {before : List Float} → Laid t before before 0
+pub laid-none : {t : List Matrix} {before : List Float} → TurnsLaid t before before 0
 unfolding join written
 laid-none = record { long = refl; is = refl }
 

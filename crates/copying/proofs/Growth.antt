@@ -43,7 +43,7 @@ same n d l h = rw (join-parts n d l, length-take-le (n * d) l h) (sym (take-appe
 
 -- ---- the buffer, with n copies in it
 
-pub record Grown (d limit : ℕ) (before buffer : List Float) (n : ℕ) : Type 0 where
+pub record CopiesGrown (d limit : ℕ) (before buffer : List Float) (n : ℕ) : Type 0 where
   pub room : n ≤ limit
   pub long : length buffer ≡ length before
   pub is : buffer ≡ written (join (parts n d buffer)) before
@@ -53,10 +53,10 @@ abbrev pub Longer : List Vector → List Vector → Type 0
 Longer cs all = (new : List Vector) × (all ≡ cs ++ new)
 
 module _ {d limit : ℕ} {before : List Float} where
-  pub grown-first : {n : ℕ} → n ≤ limit → limit * d ≤ length before → Grown d limit before before n
+  pub grown-first : {n : ℕ} → n ≤ limit → limit * d ≤ length before → CopiesGrown d limit before before n
   grown-first {n} h k = record { room = h; long = refl; is = same n d before (omega (arith, mul-le-mul-right d h)) }
 
-  module _ {buffer : List Float} {n : ℕ} {all : List Vector} (g : Grown d limit before buffer n) (new : Longer (parts n d buffer) all) where
+  module _ {buffer : List Float} {n : ℕ} {all : List Vector} (g : CopiesGrown d limit before buffer n) (new : Longer (parts n d buffer) all) where
     over : written (join all) buffer ≡ written (join all) before
     over =
         ap (written (join all)) (g .is)
@@ -64,7 +64,7 @@ module _ {d limit : ℕ} {before : List Float} where
         ∙ join-over (parts n d buffer) (new .0) before
         ∙ ap (λ (x : List Vector). written (join x) before) (sym (new .1))
 
-    pub grown-next : {after : List Float} {m : ℕ} → length after ≡ length buffer → Fitting d limit all buffer after m → Grown d limit before after m
+    pub grown-next : {after : List Float} {m : ℕ} → length after ≡ length buffer → Fitting d limit all buffer after m → CopiesGrown d limit before after m
     grown-next l k = record {
       room = k .room;
       long = l ∙ g .long;
@@ -94,7 +94,7 @@ module _ {d limit : ℕ} {before : List Float} where
               (sym (one .1) ∙ sym (ap (take limit) (more .1) ∙ take-append-le limit all (more .0) (omega (arith, k .more))));
         }
 
-  pub grown-end : {buffer : List Float} {n : ℕ} {whole : List Vector} → Grown d limit before buffer n → parts n d buffer ≡ whole → Fitting d limit whole before buffer n
+  pub grown-end : {buffer : List Float} {n : ℕ} {whole : List Vector} → CopiesGrown d limit before buffer n → parts n d buffer ≡ whole → Fitting d limit whole before buffer n
   grown-end g e = record { room = g .room; read = e; is = g .is ∙ ap (λ (x : List Vector). written (join x) before) e }
 
 -- ---- one image, and one point

@@ -23,7 +23,7 @@ use Rattle.spec.specs.Copying.{copies, matrices, copyTable, judgeCopy, copyOut,
 use Rattle.laws.proofs.CopyLaws.{table-length}
 use Rattle.points.proofs.Parts.{length-parts}
 use Rattle.copying.proofs.Tables.{filled-is}
-use Rattle.points.specs.Cells.{Closed, Opened}
+use Rattle.points.specs.Cells.{Complete, Opened}
 use Rattle.copying.specs.Post.{Fitting, Overfull}
 
 module _ (n : ℕ) (ms : List Matrix) (cs : List Vector) (points : List Float) (table : List ℕ) where
@@ -82,7 +82,7 @@ module _ (n : ℕ) (ms : List Matrix) (cs : List Vector) (points : List Float) (
       room : (leb (length cs) n && leb cells (length table)) ≡ true
       room = rw (within, le-leb cells (length table) (omega (arith, h, size)))
 
-      pub answer-done : {t : List ℕ} → Closed m (copyTable ms cs) table t → (Done m, after, t) ≡ copyOut n ms cs points table
+      pub answer-done : {t : List ℕ} → Complete m (copyTable ms cs) table t → (Done m, after, t) ≡ copyOut n ms cs points table
       answer-done {t} c =
           ap (λ (a : ℕ). (Done a, after, t)) (sym count)
           ∙ ap₂ (λ (a : List Float) (b : List ℕ). (Done (length cs), a, b)) points-are (c .is)

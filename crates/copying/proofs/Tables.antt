@@ -14,7 +14,7 @@ use Rattle.spec.specs.Points.{rowOf}
 use Rattle.spec.specs.Copying.{copyTable}
 use Rattle.laws.proofs.Lists.{getD-map}
 use Rattle.laws.proofs.CopyLaws.{Wide, wide-join}
-use Rattle.points.specs.Cells.{Closed, Opened}
+use Rattle.points.specs.Cells.{Complete, Opened}
 use Rattle.points.proofs.Parts.{part-end}
 use Rattle.points.proofs.Tails.{tail-is, tail-back, tail-written}
 use Rattle.points.proofs.Filled.{Piece, length-row}
@@ -54,7 +54,7 @@ module _ (cs : List Vector) where
 -- ---- a row, back from a call on the part from cell k to the end
 
 module _ (l ys : List ℕ) (k : ℕ) (h : k ≤ length l) (w : ℕ) {x : ℕ} {new : List ℕ} (n : length new ≡ w) where
-  pub closed-back : Closed x new (midOf k (length l - k) l) ys → putMid k (length l - k) l ys ≡ take k l ++ (new ++ drop w (drop k l))
+  pub closed-back : Complete x new (midOf k (length l - k) l) ys → putMid k (length l - k) l ys ≡ take k l ++ (new ++ drop w (drop k l))
   closed-back c = tail-written l ys k h w new n (c .is)
 
   pub opened-back : Opened x new (midOf k (length l - k) l) ys → drop (k + w) (putMid k (length l - k) l ys) ≡ drop (k + w) l

@@ -73,8 +73,8 @@ module _ (w : List ℕ) (p q n m : ℕ) (hp : n ≡ getD w p 0) (hq : m ≡ getD
 -- ---- keys
 
 -- What is left from j on has the key where all have it.
-abbrev pub Sought : List ℕ → List (List ℕ) → ℕ → Type 0
-Sought x ks j = j + place eqList x (drop j ks) ≡ place eqList x ks
+abbrev pub KeySought : List ℕ → List (List ℕ) → ℕ → Type 0
+KeySought x ks j = j + place eqList x (drop j ks) ≡ place eqList x ks
 
 module _ (w : List ℕ) (reps m q : ℕ) where
   abbrev ks : List (List ℕ)
@@ -91,18 +91,18 @@ module _ (w : List ℕ) (reps m q : ℕ) where
   rest : (j : ℕ) → j < m → drop j ks ≡ keyAt w (getD w (reps + j) 0) ∷ drop (suc j) ks
   rest j h = drop-cons ks j [] (rw length-keys h) ∙ ap (λ (x : List ℕ). x ∷ drop (suc j) ks) (getD-keys j h)
 
-  pub sought-first : Sought (keyAt w q) ks 0
+  pub sought-first : KeySought (keyAt w q) ks 0
   sought-first = omega arith
 
-  pub sought-yes : (j : ℕ) → j < m → Sought (keyAt w q) ks j → true ≡ eqList (keyAt w (getD w (reps + j) 0)) (keyAt w q) → j ≡ place eqList (keyAt w q) ks
+  pub sought-yes : (j : ℕ) → j < m → KeySought (keyAt w q) ks j → true ≡ eqList (keyAt w (getD w (reps + j) 0)) (keyAt w q) → j ≡ place eqList (keyAt w q) ks
   sought-yes j h s e =
       omega (arith, s, ap (place eqList (keyAt w q)) (rest j h) ∙ place-yes eqList lists (drop (suc j) ks) (sym e))
 
-  pub sought-no : (j : ℕ) → j < m → Sought (keyAt w q) ks j → false ≡ eqList (keyAt w (getD w (reps + j) 0)) (keyAt w q) → Sought (keyAt w q) ks (j + 1)
+  pub sought-no : (j : ℕ) → j < m → KeySought (keyAt w q) ks j → false ≡ eqList (keyAt w (getD w (reps + j) 0)) (keyAt w q) → KeySought (keyAt w q) ks (j + 1)
   sought-no j h s e =
       rw (add-one j) (omega (arith, s, ap (place eqList (keyAt w q)) (rest j h) ∙ place-no eqList lists (drop (suc j) ks) (sym e)))
 
-  pub sought-end : (j : ℕ) → m ≤ j → j ≤ m → Sought (keyAt w q) ks j → m ≡ place eqList (keyAt w q) ks
+  pub sought-end : (j : ℕ) → m ≤ j → j ≤ m → KeySought (keyAt w q) ks j → m ≡ place eqList (keyAt w q) ks
   unfolding place
   sought-end j h k s =
       omega (arith, s, ap (place eqList (keyAt w q)) (drop-of-length-le ks {i = j} (rw length-keys h)))

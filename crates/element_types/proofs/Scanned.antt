@@ -74,7 +74,7 @@ space-in l lists e n h = omega (arith, space-le l lists (n - suc e) (suc e) n (o
 
 -- ---- the loop
 
-pub record Scan (w : List ℕ) (lists n base from out : ℕ) (v : List ℕ) (m q e : ℕ) : Type 0 where
+pub record KeysScan (w : List ℕ) (lists n base from out : ℕ) (v : List ℕ) (m q e : ℕ) : Type 0 where
   pub bound : e ≤ n
   pub long : length v ≡ length w
   pub kept : take out v ≡ take out w
@@ -91,7 +91,7 @@ Sums w lists from out q e =
     (q + 2 + length (listAt (take out w) (lists + 4 * e)) ≤ length w) × (lists + 4 * e < length w) × (from + e < length w) × (out + e < length w)
 
 module _ (w : List ℕ) (lists n base from out : ℕ) (r : Numberable w lists n base from out) where
-  pub scan-first : Scan w lists n base from out w 0 (out + n + n) 0
+  pub scan-first : KeysScan w lists n base from out w 0 (out + n + n) 0
   unfolding keysTo repKeys spaceTo renumber distinct range
   scan-first = record {
     bound = omega arith;
@@ -105,12 +105,12 @@ module _ (w : List ℕ) (lists n base from out : ℕ) (r : Numberable w lists n 
     high = omega arith;
   }
 
-  pub scan-end : (v : List ℕ) (m q e : ℕ) → Scan w lists n base from out v m q e → n ≤ e → NumbersWritten w v lists n base from out
+  pub scan-end : (v : List ℕ) (m q e : ℕ) → KeysScan w lists n base from out v m q e → n ≤ e → NumbersWritten w v lists n base from out
   scan-end v m q e s h =
       let g : e ≡ n = omega (arith, s .bound) in
       record { long = s .long; kept = s .kept; numbers = rw g at (s .numbers) }
 
-  module _ (v : List ℕ) (m q e : ℕ) (s : Scan w lists n base from out v m q e) (h : e < n) where
+  module _ (v : List ℕ) (m q e : ℕ) (s : KeysScan w lists n base from out v m q e) (h : e < n) where
     abbrev i : ℕ
     i = lists + 4 * e
 
@@ -238,7 +238,7 @@ module _ (w : List ℕ) (lists n base from out : ℕ) (r : Numberable w lists n 
     unfolding keysTo
     keys-old k = rw (add-one e) (sym (distinct-old eqList test done key (met k)))
 
-    scan-low : p < m → Scan w lists n base from out u₁ m q (e + 1)
+    scan-low : p < m → KeysScan w lists n base from out u₁ m q (e + 1)
     scan-low k = record {
       bound = omega arith;
       long = long₁;
@@ -292,7 +292,7 @@ module _ (w : List ℕ) (lists n base from out : ℕ) (r : Numberable w lists n 
     stored₂ : take (suc (out + e)) u₂ ≡ take (out + e) v ++ p ∷ []
     stored₂ = take-set-le (suc (out + e)) u₁ (out + n + m) q (omega arith) ∙ stored
 
-    scan-high : m ≤ p → Scan w lists n base from out u₂ (m + 1) (q + 2 + length l) (e + 1)
+    scan-high : m ≤ p → KeysScan w lists n base from out u₂ (m + 1) (q + 2 + length l) (e + 1)
     scan-high k = record {
       bound = omega arith;
       long = length-set u₁ (out + n + m) q ∙ long₁;
@@ -312,13 +312,13 @@ module _ (w : List ℕ) (lists n base from out : ℕ) (r : Numberable w lists n 
       asked = rw c opened
 
       module _ (y : List ℕ) (z : ℕ) (f : z ≡ numberOf x (out + n) m q) (g : y ≡ noted x (out + e) (out + n) m q) where
-        pub scan-old : z ≢ m → Scan w lists n base from out y m q (e + 1)
+        pub scan-old : z ≢ m → KeysScan w lists n base from out y m q (e + 1)
         unfolding p
         scan-old k =
             let a : p < m = omega (arith, rw c at f, number-le u (out + n) m q, k) in
             rw (g, c, noted-low u (out + e) (out + n) m q a) (scan-low a)
 
-        pub scan-new : z ≡ m → (k : ℕ) → k ≡ length (listAt (take q v) i) → Scan w lists n base from out y (m + 1) (q + 2 + k) (e + 1)
+        pub scan-new : z ≡ m → (k : ℕ) → k ≡ length (listAt (take q v) i) → KeysScan w lists n base from out y (m + 1) (q + 2 + k) (e + 1)
         unfolding p
         scan-new d k b =
             let a : m ≤ p = omega (arith, rw c at f, d) in

@@ -26,7 +26,7 @@ use Rattle.ranked.proofs.Solids.{size-is, in-order, number-in, subs-lie, sups-l
 use Rattle.element_types.specs.Runs.{over, under, keyOf}
 use Rattle.element_types.specs.Numbers.{keyIn, keysTo, spaceTo, Numberable}
 use Rattle.element_types.specs.State.{typesIn, stateIn, entries, needed, Steppable, Stepping, steppedAt}
-use Rattle.element_types.proofs.Keys.{Typed, key-same}
+use Rattle.element_types.proofs.Keys.{TypesUsed, key-same}
 use Rattle.element_types.proofs.Parts.{run-take, list-kept, length-over, take-over, drop-here, drop-past}
 use Rattle.element_types.proofs.Scanned.{table-snoc}
 
@@ -168,7 +168,7 @@ module _ (sh : Shape) (w : List ℕ) (x : Step) (t : Steppable sh w x) (listing 
   held : ℕ → List ℕ
   held e = typeOf S (at x) e ∷ sorted (map (λ y. getD (typesAt S (next x)) y 0) (neighbours s x e))
 
-  typed : (e : ℕ) → e < n → Typed (typesAt S (next x)) (neighbours s x e)
+  typed : (e : ℕ) → e < n → TypesUsed (typesAt S (next x)) (neighbours s x e)
   typed e h y m = in-getD 0 (typesAt S (next x)) y (rw (length-types (next x) (o .next-in)) (o .inside e y h m))
 
   same-test : (e f : ℕ) → e < n → f < n → eqList (held e) (held f) ≡ eqList (paper e) (paper f)

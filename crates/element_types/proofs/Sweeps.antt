@@ -55,12 +55,12 @@ steps-are sh l = ap (λ (n : ℕ). map up (range 1 (n - 1)) ++ map down (reverse
 -- ---- in the words
 
 -- The lists of v are those of w, and what the steps xs make of v's state, the steps ys make of w's.
-pub record Swept (sh : Shape) (w v : List ℕ) (xs ys : List Step) : Type 0 where
+pub record StepsSwept (sh : Shape) (w v : List ℕ) (xs ys : List Step) : Type 0 where
   pub long : length v ≡ length w
   pub kept : listsOf sh v ≡ listsOf sh w
   pub state : play (absIn sh (listsOf sh w)) (stateIn sh v) xs ≡ play (absIn sh (listsOf sh w)) (stateIn sh w) ys
 
-pub swept-first : (sh : Shape) (w : List ℕ) (xs : List Step) → Swept sh w w xs xs
+pub swept-first : (sh : Shape) (w : List ℕ) (xs : List Step) → StepsSwept sh w w xs xs
 swept-first sh w xs = record { long = refl; kept = refl; state = refl }
 
 -- The lists and the length are all that a step asks of the words.
@@ -75,14 +75,14 @@ sweepable-kept sh w v e k a = record {
 pub steppable : (sh : Shape) (w : List ℕ) → Sweepable sh w → (x : Step) → 1 ≤ at x → at x < sh .rank → Steppable sh w x
 steppable sh w a x b c = record { held = a .held; above = b; under = c; room = a .room x b c; small = a .small x b c }
 
-module _ (sh : Shape) (w v : List ℕ) (xs ys : List Step) (i : Swept sh w v xs ys) where
+module _ (sh : Shape) (w v : List ℕ) (xs ys : List Step) (i : StepsSwept sh w v xs ys) where
   -- Any step can be done.
   pub swept-ready : Sweepable sh w → (x : Step) → 1 ≤ at x → at x < sh .rank → Steppable sh v x
   swept-ready a = steppable sh v (sweepable-kept sh w v (i .long) (i .kept) a)
 
   -- The first of those left leaves the others.
   pub swept-next : (x : Step) (zs : List Step) → xs ≡ x ∷ zs → (u : List ℕ) → length u ≡ length v → listsOf sh u ≡ listsOf sh v
-      → stateIn sh u ≡ step (absIn sh (listsOf sh v)) (stateIn sh v) x → Swept sh w u zs ys
+      → stateIn sh u ≡ step (absIn sh (listsOf sh v)) (stateIn sh v) x → StepsSwept sh w u zs ys
   unfolding play
   swept-next x zs e u long kept state = record {
     long = long ∙ i .long;

@@ -142,15 +142,15 @@ module _ (sh : Shape) (w : List ℕ) where
   counts-end r h = let e : sh .rank - r ≡ 0 = omega arith in rw e refl
 
 -- Below rank r, n types were counted.
-pub record Tally (sh : Shape) (w : List ℕ) (n r : ℕ) : Type 0 where
+pub record TypesTally (sh : Shape) (w : List ℕ) (n r : ℕ) : Type 0 where
   pub proper : 1 ≤ r
   pub few : n ≤ firstAt sh r
   pub rest : n + countsFrom sh w r ≡ countsFrom sh w 1
 
-pub tally-first : (sh : Shape) (w : List ℕ) → Tally sh w 0 1
+pub tally-first : (sh : Shape) (w : List ℕ) → TypesTally sh w 0 1
 tally-first sh w = record { proper = omega arith; few = omega arith; rest = omega arith }
 
-module _ (sh : Shape) (w : List ℕ) (a : Countable sh w) (n r : ℕ) (i : Tally sh w n r) where
+module _ (sh : Shape) (w : List ℕ) (a : Countable sh w) (n r : ℕ) (i : TypesTally sh w n r) where
   module _ (h : r < sh .rank) where
     -- The rank's elements are among all elements.
     pub offsets : (firstAt sh r < firstAt sh (suc r)) × (firstAt sh (suc r) ≤ total sh)
@@ -176,7 +176,7 @@ module _ (sh : Shape) (w : List ℕ) (a : Countable sh w) (n r : ℕ) (i : Tally
         pub sum-fits : n + k ≤ length w
         sum-fits = omega (arith, few-more, offsets, a .room)
 
-        pub tally-next : Tally sh w (n + k) (r + 1)
+        pub tally-next : TypesTally sh w (n + k) (r + 1)
         unfolding countIn
         tally-next =
             let c : k ≡ countIn sh w r = e ∙ ap (λ (t : List ℕ). length (distinct eqb t)) (run-is ∙ types-at sh w r (omega arith)) in

@@ -13,8 +13,8 @@ use Rattle.spec.specs.Types.{start}
 use Rattle.spec.specs.Hull.{classes}
 use Rattle.spec.specs.Classes.{distances, classTable, byTable}
 use Rattle.ranked.specs.declared.Shape.{Shape}
-use Rattle.ranked.specs.Words.{listsOf, absIn}
-use Rattle.ranked.specs.Layout.{proper, scratchAt, solidIn}
+use Rattle.ranked.specs.Words.{listsOf}
+use Rattle.ranked.specs.Layout.{proper, scratchAt, solidIn, abstractIn}
 use Rattle.geometry.specs.Classes.{sameClass}
 use Rattle.element_types.specs.State.{stateIn, Sweepable}
 
@@ -57,4 +57,4 @@ pub record Startable (sh : Shape) (w : List ℕ) (cells : List Float) : Type 0 w
 pub record Begins (sh : Shape) (w v : List ℕ) (cells : List Float) : Type 0 where
   pub lists : listsOf sh v ≡ listsOf sh w
   pub state : (fs : List Float) → take (proper sh) cells ≡ classes (distances (solidIn sh w fs))
-      → stateIn sh v ≡ start (absIn sh (listsOf sh w)) (byTable (classTable (solidIn sh w fs)))
+      → stateIn sh v ≡ start (abstractIn sh w) (byTable (classTable (solidIn sh w fs)))

@@ -7,8 +7,8 @@ use Rattle.spec.specs.Limits.{maxRank}
 use Rattle.spec.specs.Lists.{range, renumber, eqList, sum}
 use Rattle.spec.specs.Types.{Solid, size, State, Step, up, down, at, neighbours, Numbered}
 use Rattle.ranked.specs.declared.Shape.{Shape}
-use Rattle.ranked.specs.Words.{firstAt, sizeAt, listsOf, absIn, Held}
-use Rattle.ranked.specs.Layout.{typesAt, scratchAt}
+use Rattle.ranked.specs.Words.{firstAt, sizeAt, listsOf, Held}
+use Rattle.ranked.specs.Layout.{typesAt, scratchAt, abstractIn}
 use Rattle.element_types.specs.Runs.{over}
 use Rattle.element_types.specs.Numbers.{Numberable, keysTo}
 
@@ -27,7 +27,7 @@ entries s x = sum (map (λ e. length (neighbours s x e)) (range 0 (size s (at x)
 -- Counts the words that a step uses: the lists, the types, and for each element of its rank a number, a place, and a key of two words and the types
 -- of its neighbours.
 unfoldable pub needed : Shape → List ℕ → Step → ℕ
-needed sh w x = scratchAt sh + 4 * sizeAt sh (at x) + entries (absIn sh (listsOf sh w)) x
+needed sh w x = scratchAt sh + 4 * sizeAt sh (at x) + entries (abstractIn sh w) x
 
 -- A step at a proper rank needs this of the words.
 pub record Steppable (sh : Shape) (w : List ℕ) (x : Step) : Type 0 where
@@ -68,4 +68,4 @@ downs r = map down (reverse (range 1 (r - 1)))
 pub record Countable (sh : Shape) (w : List ℕ) : Type 0 where
   pub held : Held sh (listsOf sh w)
   pub room : scratchAt sh ≤ length w
-  pub numbered : (r : ℕ) → 1 ≤ r → r < sh .rank → Numbered (absIn sh (listsOf sh w)) (stateIn sh w) r
+  pub numbered : (r : ℕ) → 1 ≤ r → r < sh .rank → Numbered (abstractIn sh w) (stateIn sh w) r

@@ -14,15 +14,15 @@ use lib.Ieee.{Float, nan, inf, fin, binary64, up, down, round, unlike, mul, ofBi
 use Rattle.spec.specs.Float.{zeroF, plus, times, zip, addOn, total, dot}
 
 -- The float t is the sum of the first i products.
-abbrev pub Summed : List Float → List Float → Float → ℕ → Type 0
-Summed a b t i = addOn t (zip times (drop i a) (drop i b)) ≡ dot a b
+abbrev pub DotSummed : List Float → List Float → Float → ℕ → Type 0
+DotSummed a b t i = addOn t (zip times (drop i a) (drop i b)) ≡ dot a b
 
 pub none : (a b : List Float) → 0 ≡ length a → ofBits binary64 0 ≡ dot a b
 unfolding dot total zip zeroF
 none [] b h = refl
 none (x ∷ a) b h = absurd (omega arith)
 
-pub first : (a b : List Float) → 0 < length a → 0 < length b → Summed a b (times (getD a 0 nan) (getD b 0 nan)) 1
+pub first : (a b : List Float) → 0 < length a → 0 < length b → DotSummed a b (times (getD a 0 nan) (getD b 0 nan)) 1
 unfolding dot total zip
 first [] b h k = absurd (omega arith)
 first (x ∷ a) [] h k = absurd (omega arith)
@@ -35,10 +35,10 @@ module _ (a b : List Float) (t : Float) (i : ℕ) where
   unfolding addOn zip
   one-more h k = rw (add-one, drop-cons a i nan, drop-cons b i nan)
 
-  pub next : i < length a → i < length b → Summed a b t i → Summed a b (plus t (times (getD a i nan) (getD b i nan))) (i + 1)
+  pub next : i < length a → i < length b → DotSummed a b t i → DotSummed a b (plus t (times (getD a i nan) (getD b i nan))) (i + 1)
   next h k s = sym (one-more h k) ∙ s
 
-  pub end : length a ≤ i → Summed a b t i → t ≡ dot a b
+  pub end : length a ≤ i → DotSummed a b t i → t ≡ dot a b
   unfolding addOn zip
   end h s = rw (drop-of-length-le a h) at s
 

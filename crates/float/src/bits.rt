@@ -1,7 +1,6 @@
 // This module makes floats from and to their bit patterns, for every pattern: the language's own conversions are undefined at a NaN.
 ghost use mathlib.Core.Path.{_≡_};
 ghost use lib.Ieee.{binary64, ofBits, toBits};
-ghost use Rattle.float.specs.Reading.{Alike};
 
 // This is the pattern of the one NaN that the definitions have.
 const NAN: u64 = 0x7ff8_0000_0000_0000;
@@ -26,11 +25,4 @@ pub fn pattern(x: f64) -> u64
         return NAN;
     }
     f64::to_bits(x)
-}
-
-// Tells whether two floats are the same float, by their patterns. A zero and its negative are two floats, and the one NaN is the same as itself.
-pub fn same(x: f64, y: f64) -> bool
-    ensures { λ r. ⌜ Alike r x y ⌝ }
-{
-    pattern(x) == pattern(y)
 }

@@ -14,7 +14,7 @@ use Rattle.spec.specs.Hull.{nearer, smaller, listedFor, listing}
 use Rattle.geometry.specs.Classes.{Takes}
 
 -- The value o is what x finds in the first n of l, from i on.
-pub record Found (x : Float) (l : List Float) (n : ℕ) (o : Option Float) (i : ℕ) : Type 0 where
+pub record NearestFound (x : Float) (l : List Float) (n : ℕ) (o : Option Float) (i : ℕ) : Type 0 where
   pub is : o ≡ listedFor x (drop i (take n l))
 
 module _ (x y : Float) (ys : List Float) where
@@ -42,7 +42,7 @@ left l n i hn h0 hi =
     drop-cons (take n l) (i - 1) nan (omega arith) ∙ rw (getD-take n l (i - 1) nan (omega arith), e)
 
 module _ {x : Float} {l : List Float} {n : ℕ} (hn : n ≤ length l) where
-  pub first : Found x l n none n
+  pub first : NearestFound x l n none n
   unfolding listedFor
   first =
       let k = length-take-le n l hn in
@@ -50,13 +50,13 @@ module _ {x : Float} {l : List Float} {n : ℕ} (hn : n ≤ length l) where
       record { is = rw e }
 
   pub near : {o p : Option Float} {i : ℕ} → 0 < i → i ≤ n → nearer x (getD l (i - 1) nan) ≡ true → p ≡ smaller (getD l (i - 1) nan) o →
-      Found x l n o i → Found x l n p (i - 1)
+      NearestFound x l n o i → NearestFound x l n p (i - 1)
   near {i = i} h0 hi t e w = record { is = e ∙ ap (smaller (getD l (i - 1) nan)) (w .is) ∙ sym (ap (listedFor x) (left l n i hn h0 hi) ∙ at-near x _ _ t) }
 
-  pub far : {o : Option Float} {i : ℕ} → 0 < i → i ≤ n → nearer x (getD l (i - 1) nan) ≡ false → Found x l n o i → Found x l n o (i - 1)
+  pub far : {o : Option Float} {i : ℕ} → 0 < i → i ≤ n → nearer x (getD l (i - 1) nan) ≡ false → NearestFound x l n o i → NearestFound x l n o (i - 1)
   far {i = i} h0 hi t w = record { is = w .is ∙ sym (ap (listedFor x) (left l n i hn h0 hi) ∙ at-far x _ _ t) }
 
-  pub end : {o : Option Float} {i : ℕ} → i ≤ 0 → Found x l n o i → o ≡ listedFor x (take n l)
+  pub end : {o : Option Float} {i : ℕ} → i ≤ 0 → NearestFound x l n o i → o ≡ listedFor x (take n l)
   end {i = i} h w = let e : i ≡ 0 = omega arith in rw e at (w .is)
 
 -- ---- taking a listed value, and joining

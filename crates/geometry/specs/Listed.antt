@@ -12,7 +12,7 @@ use Rattle.spec.specs.Classes.{distanceOf, distances}
 use Rattle.spec.specs.Solid.{Concrete}
 use Rattle.ranked.specs.declared.Shape.{Shape}
 use Rattle.ranked.specs.Words.{Held}
-use Rattle.ranked.specs.Layout.{proper, before, coordinates, classesAt, solidOn}
+use Rattle.ranked.specs.Layout.{proper, before, coordinates, classesAt, solidOn, classesIn}
 
 -- Gives the list that results when distances join the list l one after another.
 unfoldable pub listAfter : List Float → List Float → List Float
@@ -25,7 +25,7 @@ rankDistances c r = map (distanceOf c r) (range 0 (size (c .abs) r))
 
 -- The distances xs were taken. The list stands from cell `from` on, and had n values before and has m now. The classes stand from `cell` on, behind
 -- the k classes that stood there before. The cells below `from` are as they were.
-pub record Grown (from cell k : ℕ) (old new : List Float) (n m : ℕ) (xs : List Float) : Type 0 where
+pub record ListGrown (from cell k : ℕ) (old new : List Float) (n m : ℕ) (xs : List Float) : Type 0 where
   pub same : take from new ≡ take from old
   pub long : length new ≡ length old
   pub few : m ≤ n + length xs
@@ -47,4 +47,4 @@ pub record Classed (sh : Shape) (w : List ℕ) (old new : List Float) (n : ℕ) 
   pub long : length new ≡ length old
   pub few : n ≤ proper sh
   pub list : take n (drop (coordinates sh) new) ≡ listAfter [] (distances (solidOn sh w old))
-  pub cells : take (proper sh) (drop (classesAt sh) new) ≡ classes (distances (solidOn sh w old))
+  pub cells : classesIn sh new ≡ classes (distances (solidOn sh w old))

@@ -7,7 +7,7 @@ ghost use lib.ListN.{length};
 ghost use Rattle.spec.specs.Classes.{distanceOf};
 ghost use Rattle.ranked.specs.Words.{sizeAt, Held};
 ghost use Rattle.ranked.specs.Layout.{proper, before, coordinates, classesAt, solidOn};
-ghost use Rattle.geometry.specs.Listed.{rankDistances, Grown, Classable, Classed};
+ghost use Rattle.geometry.specs.Listed.{rankDistances, ListGrown, Classable, Classed};
 use crate::classes;
 use crate::distance;
 use ranked::Shape;
@@ -31,7 +31,7 @@ pub fn element_distance(lists: &[u32], sh: Shape, floats: &[f64], r: usize, e: u
 // written as class number k of those that stand from float `cell` on.
 fn take_class(floats: &mut [f64], from: usize, n: usize, cell: usize, k: usize, x: f64) -> usize
     requires { ⌜ (from + n < cell) × (cell + k < length (now floats)) ⌝ }
-    ensures { λ m. ⌜ Grown from cell k (now (floats .entry)) (now (floats .exit)) n m (x ∷ []) ⌝ }
+    ensures { λ m. ⌜ ListGrown from cell k (now (floats .entry)) (now (floats .exit)) n m (x ∷ []) ⌝ }
 {
     let taken = classes::list_distance(&mut floats[from..], n, x);
     floats[cell + k] = taken.value;
@@ -41,7 +41,7 @@ fn take_class(floats: &mut [f64], from: usize, n: usize, cell: usize, k: usize, 
 // Takes the distances of the elements of rank r, by rising index, where n values are listed already. The answer is how many are listed afterwards.
 fn classes_of_rank(lists: &[u32], sh: Shape, floats: &mut [f64], n: usize, r: usize) -> usize
     requires { ⌜ Classable sh (now lists) (now floats) n r ⌝ }
-    ensures { λ m. ⌜ Grown (coordinates sh) (classesAt sh) (before sh r) (now (floats .entry)) (now (floats .exit)) n m
+    ensures { λ m. ⌜ ListGrown (coordinates sh) (classesAt sh) (before sh r) (now (floats .entry)) (now (floats .exit)) n m
         (rankDistances (solidOn sh (now (lists .entry)) (now (floats .entry))) r) ⌝ }
 {
     let from = sh.coordinates();

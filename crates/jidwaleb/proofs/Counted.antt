@@ -17,7 +17,7 @@ use Rattle.spec.specs.Judged.{Judged, refused, passed}
 use Rattle.spec.specs.Lists.{holds, join, written}
 use Rattle.spec.specs.Matrix.{Vector, Matrix}
 use Rattle.spec.specs.Calls.{TypesOut, typesCall}
-use Rattle.spec.specs.Copying.{copies, points, matrices, copyTable, judgeCopy, copyOut, copyCall}
+use Rattle.spec.specs.Copying.{copies, points, matrices, copyTable, judgeCopy, copyOut, copyCall, noImage}
 use Rattle.laws.proofs.Accepted.{le-test}
 use Rattle.types.proofs.Few.{call-count}
 
@@ -28,17 +28,17 @@ module _ (n : ℕ) (ms : List Matrix) (cs : List Vector) (outPoints : List Float
   abbrev cells : ℕ
   cells = length ms * length cs
 
-  abbrev Within : Answer × List Float × List ℕ → Type 0
-  Within o = answerCount (o .0) ≤ n
+  abbrev CountWithin : Answer × List Float × List ℕ → Type 0
+  CountWithin o = answerCount (o .0) ≤ n
 
-  out-count : Within (copyOut n ms cs outPoints outTable)
+  out-count : CountWithin (copyOut n ms cs outPoints outTable)
   unfolding copyOut
   out-count = go (leb (length cs) n) refl (leb cells (length outTable)) (holds eqb (length cs) (copyTable ms cs))
     where
-      go : (a : Bool) → leb (length cs) n ≡ a → (b c : Bool) → Within (elim (a && b) [
+      go : (a : Bool) → leb (length cs) n ≡ a → (b c : Bool) → CountWithin (elim (a && b) [
         | false ↦ (Refused ShortSheet (length (take n cs)), written (join (take n cs)) outPoints, outTable)
         | true ↦ elim c [
-          | true ↦ (Refused Open (length (take n cs)), written (join (take n cs)) outPoints, written (replicate cells 65535) outTable)
+          | true ↦ (Refused Open (length (take n cs)), written (join (take n cs)) outPoints, written (replicate cells noImage) outTable)
           | false ↦ (Done (length cs), written (join (take n cs)) outPoints, written (copyTable ms cs) outTable)
         ]
       ])
@@ -60,10 +60,10 @@ copy-count d ps ts outPoints outTable = go (judgeCopy d ps ts)
     cs : List Vector
     cs = copies ms (points d ps)
 
-    Fits : Answer × List Float × List ℕ → Type 0
-    Fits o = answerCount (o .0) < 2 ^ 32
+    CodeFits : Answer × List Float × List ℕ → Type 0
+    CodeFits o = answerCount (o .0) < 2 ^ 32
 
-    go : (j : Judged (Unit {0})) → Fits (elim j [
+    go : (j : Judged (Unit {0})) → CodeFits (elim j [
       | refused why ↦ (Refused why 0, outPoints, outTable)
       | passed u ↦ copyOut room ms cs outPoints outTable
     ])

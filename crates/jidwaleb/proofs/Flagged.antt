@@ -12,7 +12,7 @@ use borrow.Author.Tests.{ltb-true, ltb-false}
 use lib.Dec.{eqb, ltb}
 use lib.ListN.{length, getD, length-map, List·getD-eq-default}
 use lib.Seq.{ext-getD}
-use Rattle.spec.specs.Limits.{maxRank, maxEntries}
+use Rattle.spec.specs.Limits.{maxRank, maxStored}
 use Rattle.spec.specs.Lists.{In, holds, every, range, sum}
 use Rattle.spec.specs.Types.{Solid, top, size, subs}
 use Rattle.spec.specs.Demand.{RisingAbove, Rising, Sound}
@@ -99,24 +99,20 @@ module _ (s : Solid) (v : Sound s) where
 
 -- ---- the flags of a solid
 
--- A sheet can have this many entries in its lists.
-abbrev mostEntries : ℕ
-mostEntries = (maxRank - 1) * maxEntries
-
 -- This many flags at most go down from an element of rank r: one from a vertex, two from an edge, and from two ranks up as many for each entry.
 unfoldable flagLimit : ℕ → ℕ
 flagLimit zero = 1
 flagLimit (suc zero) = 1
 flagLimit (suc (suc zero)) = 2
-flagLimit (suc (suc (suc r))) = mostEntries * flagLimit (suc r)
+flagLimit (suc (suc (suc r))) = maxStored * flagLimit (suc r)
 
--- A code has 32 bits for the count, and no rank that a sheet can have needs more. This is the one place that asks how great the limits are.
+-- A code has 32 bits for the count, and no rank that a sheet can have needs more. Of the proofs of this crate, only this one asks how great the limits are.
 limits-fit : every (λ r. ltb (flagLimit r) (2 ^ 32)) (range 0 (suc maxRank)) ≡ true
 unfolding every range flagLimit
 limits-fit = refl
 
-module _ (s : Solid) (v : Sound s) (d : diamond s ≡ true) (filled : (r e : ℕ) → e < size s (suc r) → 0 < length (subs s (suc r) e)) (few : entries s ≤ mostEntries) where
-  entries-in : (r : ℕ) → 2 ≤ r → r < top s → sum (map length (getD s r [])) ≤ mostEntries
+module _ (s : Solid) (v : Sound s) (d : diamond s ≡ true) (filled : (r e : ℕ) → e < size s (suc r) → 0 < length (subs s (suc r) e)) (few : entries s ≤ maxStored) where
+  entries-in : (r : ℕ) → 2 ≤ r → r < top s → sum (map length (getD s r [])) ≤ maxStored
   unfolding entries sum From
   entries-in r a b = omega (arith, few, sum-some (λ q. sum (map length (getD s q []))) (suc r) 2 (top s - 2) (r ∷ []) (a, omega arith, tt) (omega arith))
 
@@ -154,7 +150,7 @@ module _ (s : Solid) (v : Sound s) (d : diamond s ≡ true) (filled : (r e : ℕ
   at-two : 1 < top s → (e : ℕ) → many s v 2 e ≤ 2
   at-two h e = omega (arith, next s v 1 1 at-one e, ends-two h e)
 
-  above : (r k : ℕ) → 1 ≤ r → suc r < top s → ((f : ℕ) → many s v r f ≤ k) → (e : ℕ) → many s v (suc (suc r)) e ≤ mostEntries * k
+  above : (r k : ℕ) → 1 ≤ r → suc r < top s → ((f : ℕ) → many s v r f ≤ k) → (e : ℕ) → many s v (suc (suc r)) e ≤ maxStored * k
   above r k a b h e = le-trans (over s v r k h e) (mul-le-mul (entries-in (suc r) (omega arith) b) (le-refl k))
 
   to-rank : (r : ℕ) → r ≤ top s → (e : ℕ) → many s v r e ≤ flagLimit r

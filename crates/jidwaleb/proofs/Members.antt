@@ -4,14 +4,14 @@ use mathlib.Core.Path.{_≡_, refl, sym, ap, _∙_, subst}
 use mathlib.Core.Bool.{Bool, true, false}
 use mathlib.Core.Option.{Option, none, some}
 use mathlib.Core.List.{List, [], _∷_}
-use Prim.Native.Nat.{ℕ, suc, _-_, _*_, _^_, _≤_, _<_, zero-le}
+use Prim.Native.Nat.{ℕ, suc, _-_, _^_, _≤_, _<_, zero-le}
 use native.Mathlib.Omega.{arith}
 use lib.ListN.{length}
 use lib.Dec.{leb, eqb, ltb}
 use Rattle.spec.specs.declared.Refusal.the-variants.{NotFull, DoubleCorner, Centred, Flat, ShortSheet, Unsettled}
 use Rattle.spec.specs.declared.Answer.the-variants.{Done, Refused}
 use Rattle.spec.specs.Refusal.{answerCount}
-use Rattle.spec.specs.Limits.{maxRank, maxEntries}
+use Rattle.spec.specs.Limits.{maxStored}
 use Rattle.spec.specs.Lists.{range, noRepeats}
 use Rattle.spec.specs.Types.{top, size}
 use Rattle.spec.specs.Matrix.{inverse}
@@ -92,7 +92,7 @@ exchanged-few b words floats c e tall f low =
     let p = every-passed b words floats c e in
     let t = top-same s tall f low in
     let k = every-exchange s (p .sound) (p .diamonds) (p .filled) tall f low in
-    let small : entries s ≤ (maxRank - 1) * maxEntries = omega (arith, ap entries (p .solid), entries-is b (p .parsed) (p .read), header-small b (p .parsed) (p .read) .entries) in
+    let small : entries s ≤ maxStored = omega (arith, ap entries (p .solid), entries-is b (p .parsed) (p .read), header-small b (p .parsed) (p .read) .entries) in
     few-flags (exchangedIn s f) (k .sound) (k .diamonds) (k .filled)
     (omega (arith, entries-same s tall f low))
     (omega (arith, p .tall))

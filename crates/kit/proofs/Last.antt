@@ -25,7 +25,7 @@ use Rattle.laws.proofs.Accepted.{every-passed}
 use Rattle.laws.proofs.CallProofs.{apart, counted, choose}
 use Rattle.laws.proofs.CopyLaws.{Wide, wide-join}
 use Rattle.laws.proofs.Listed.{found-in, members-confirm}
-use Rattle.laws.proofs.Shapes.{Square, square-long, Shaped, members-shaped, found-cells}
+use Rattle.laws.proofs.Shapes.{Square, square-long, MembersShaped, members-shaped, found-cells}
 use Rattle.sheet.specs.Judge.{headerOf, judgementOf}
 use Rattle.text.specs.Members.{membersText, rotationCount}
 use Rattle.text.proofs.Outputs.{members-out}
@@ -110,7 +110,7 @@ module _ (b : List ℕ) (old new : SearchOut) (a : Answer) (words floats : ℕ) 
     flat = let h = dimension-is b workWords workFloats (solid n q .0) (solid n q .1) in omega (arith, s, h .0, h .1)
 
     square : (x : Member) → In x (found .members) → Square d (x .matrix)
-    unfolding Shaped
+    unfolding MembersShaped
     square x i =
         let h = found-in members lent x i in
         let m = members-shaped b workWords workFloats (h .0) (h .1) x (h .2) .matrix in

@@ -73,16 +73,16 @@ AllFrom c [] = Unit {0}
 AllFrom c (l ∷ ls) = From 0 c l × AllFrom c ls
 
 -- No list is empty.
-Filled : List (List ℕ) → Type 0
-Filled [] = Unit {0}
-Filled (l ∷ ls) = (0 < length l) × Filled ls
+NoneEmpty : List (List ℕ) → Type 0
+NoneEmpty [] = Unit {0}
+NoneEmpty (l ∷ ls) = (0 < length l) × NoneEmpty ls
 
 -- The ranks' sizes are `sizes`, and no list is empty.
 Sized : List ℕ → List (List (List ℕ)) → Type 0
 Sized [] [] = Unit {0}
 Sized [] (ls ∷ more) = ⊥
 Sized (n ∷ sizes) [] = ⊥
-Sized (n ∷ sizes) (ls ∷ more) = (length ls ≡ n) × Filled ls × Sized sizes more
+Sized (n ∷ sizes) (ls ∷ more) = (length ls ≡ n) × NoneEmpty ls × Sized sizes more
 
 -- Each rank's lists lie below the size of the rank before, and the first's below c.
 Stack : ℕ → List (List (List ℕ)) → Type 0
@@ -112,15 +112,15 @@ module _ (b : List ℕ) where
       let k = lt-test 0 (h₁ .0 .0) (judged BadList (ltb 0 (h₁ .0 .0)) _ _ (h₃ .1)) in
       (rw (r .0) k, r .1)
 
-  lists-at : (c n used i : ℕ) (y : List (List ℕ) × ℕ) → listsAt b c n used i ≡ passed y → (length (y .0) ≡ n) × AllFrom c (y .0) × Filled (y .0)
-  unfolding listsAt done AllFrom Filled
-  lists-at c zero used i y e = subst (λ (z : List (List ℕ) × ℕ). (length (z .0) ≡ 0) × AllFrom c (z .0) × Filled (z .0)) (same ([], i) y e) (refl, tt, tt)
+  lists-at : (c n used i : ℕ) (y : List (List ℕ) × ℕ) → listsAt b c n used i ≡ passed y → (length (y .0) ≡ n) × AllFrom c (y .0) × NoneEmpty (y .0)
+  unfolding listsAt done AllFrom NoneEmpty
+  lists-at c zero used i y e = subst (λ (z : List (List ℕ) × ℕ). (length (z .0) ≡ 0) × AllFrom c (z .0) × NoneEmpty (z .0)) (same ([], i) y e) (refl, tt, tt)
   lists-at c (suc n) used i y e =
       let h₁ = bound-by (list b c used) _ i y e in
       let h₂ = bound-by (listsAt b c n (used + length (h₁ .0 .0))) _ _ y (h₁ .2) in
       let r = lists-at c n (used + length (h₁ .0 .0)) _ (h₂ .0) (h₂ .1) in
       let l = list-read c used i (h₁ .0) (h₁ .1) in
-      subst (λ (z : List (List ℕ) × ℕ). (length (z .0) ≡ suc n) × AllFrom c (z .0) × Filled (z .0)) (same _ y (h₂ .2)) (ap suc (r .0), (l .1, r .1), (l .0, r .2))
+      subst (λ (z : List (List ℕ) × ℕ). (length (z .0) ≡ suc n) × AllFrom c (z .0) × NoneEmpty (z .0)) (same _ y (h₂ .2)) (ap suc (r .0), (l .1, r .1), (l .0, r .2))
 
   lists-read : (c : ℕ) (counts : List ℕ) (i : ℕ) (y : List (List (List ℕ)) × ℕ) → lists b (c ∷ counts) i ≡ passed y → Sized counts (y .0) × Stack c (y .0)
   unfolding lists done Stack Sized
@@ -404,18 +404,18 @@ module _ (p : Parsed) (w : Read p) where
   Fine : List (List ℕ) → Type 0
   Fine ls = (0 < length ls) × (length ls ≤ maxCount)
 
-  sized-fine : (sizes : List ℕ) (more : List (List (List ℕ))) → Sized sizes more → ((n : ℕ) → In n sizes → (0 < n) × (n ≤ maxCount)) → (ls : List (List ℕ)) → In ls more → Fine ls × Filled ls
+  sized-fine : (sizes : List ℕ) (more : List (List (List ℕ))) → Sized sizes more → ((n : ℕ) → In n sizes → (0 < n) × (n ≤ maxCount)) → (ls : List (List ℕ)) → In ls more → Fine ls × NoneEmpty ls
   unfolding Sized Fine
   sized-fine [] [] h k ls m = absurd m
   sized-fine (n ∷ sizes) (a ∷ more) h k ls (inl q) = rw (q, h .0) (k n (inl refl), h .1)
   sized-fine (n ∷ sizes) (a ∷ more) h k ls (inr m) = sized-fine sizes more (h .2) (λ n i. k n (inr i)) ls m
 
-  filled-replicate : (n : ℕ) → Filled (replicate n (0 ∷ []))
-  unfolding Filled
+  filled-replicate : (n : ℕ) → NoneEmpty (replicate n (0 ∷ []))
+  unfolding NoneEmpty
   filled-replicate zero = tt
   filled-replicate (suc n) = (omega arith, filled-replicate n)
 
-  proper-fine : (counts : List ℕ) → p .counts ≡ counts → (ls : List (List ℕ)) → In ls (properLists counts (p .lists)) → Fine ls × Filled ls
+  proper-fine : (counts : List ℕ) → p .counts ≡ counts → (ls : List (List ℕ)) → In ls (properLists counts (p .lists)) → Fine ls × NoneEmpty ls
   unfolding properLists Fine
   proper-fine [] q ls m = absurd m
   proper-fine (c ∷ counts) q ls (inl h) = rw (h, length-replicate) (w .counts c (rw q (inl refl)), filled-replicate c)
@@ -437,15 +437,15 @@ module _ (p : Parsed) (w : Read p) where
   crowned : List (List ℕ)
   crowned = range 0 (size (([] ∷ []) ∷ rest) (top (([] ∷ []) ∷ rest))) ∷ []
 
-  crown-filled : Filled crowned
-  unfolding Filled crowned
+  crown-filled : NoneEmpty crowned
+  unfolding NoneEmpty crowned
   crown-filled = (rw length-range last-fine, tt)
 
-  more-filled : (ls : List (List ℕ)) → In ls (rest ++ (crowned ∷ [])) → Filled ls
+  more-filled : (ls : List (List ℕ)) → In ls (rest ++ (crowned ∷ [])) → NoneEmpty ls
   unfolding rest
   more-filled ls m = go (in-either ls rest (crowned ∷ []) m)
     where
-      go : In ls rest ⊎ In ls (crowned ∷ []) → Filled ls
+      go : In ls rest ⊎ In ls (crowned ∷ []) → NoneEmpty ls
       go (inl h) = proper-fine (p .counts) refl ls h .1
       go (inr (inl q)) = rw q crown-filled
 
@@ -457,13 +457,13 @@ module _ (p : Parsed) (w : Read p) where
       go (inl h) = under-fine ls h
       go (inr (inl q)) = rw q (omega arith, omega arith)
 
-  filled-at : (ls : List (List ℕ)) → Filled ls → (e : ℕ) → e < length ls → 0 < length (getD ls e [])
-  unfolding Filled
+  filled-at : (ls : List (List ℕ)) → NoneEmpty ls → (e : ℕ) → e < length ls → 0 < length (getD ls e [])
+  unfolding NoneEmpty
   filled-at [] f e h = absurd (omega arith)
   filled-at (l ∷ ls) f zero h = f .0
   filled-at (l ∷ ls) f (suc e) h = filled-at ls (f .1) e (omega arith)
 
-  filled-in : (s : List (List (List ℕ))) → ((ls : List (List ℕ)) → In ls s → Filled ls) → (r e : ℕ) → e < length (getD s r []) → 0 < length (getD (getD s r []) e [])
+  filled-in : (s : List (List (List ℕ))) → ((ls : List (List ℕ)) → In ls s → NoneEmpty ls) → (r e : ℕ) → e < length (getD s r []) → 0 < length (getD (getD s r []) e [])
   filled-in [] f r e h = absurd (omega arith)
   filled-in (a ∷ s) f zero e h = filled-at a (f a (inl refl)) e h
   filled-in (a ∷ s) f (suc r) e h = filled-in s (λ ls m. f ls (inr m)) r e h

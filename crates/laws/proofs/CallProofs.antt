@@ -27,7 +27,7 @@ use Rattle.spec.specs.Types.{State, given, elementTypes}
 use Rattle.spec.specs.Classes.{typesOf}
 use Rattle.spec.specs.Judged as Judging
 use Rattle.spec.specs.Judged.{Judged, refused, passed}
-use Rattle.spec.specs.Copying.{copies, copyTable, points, matrices, judgeCopy, copyOut, copyCall}
+use Rattle.spec.specs.Copying.{copies, copyTable, points, matrices, judgeCopy, copyOut, copyCall, noImage}
 use Rattle.spec.specs.Solid.{Concrete, preflight}
 use Rattle.spec.specs.Search.{Member}
 use Rattle.spec.specs.Calls.{Given, typeCells, TypesOut, typesGiven, typesWritten, typesCall, Room, Outcome, haveRoom, fitting, keptOf, outcome, membersIn, rotationsIn, SearchOut, roomOf, searchWritten, searchCall, rotationsCall}
@@ -37,7 +37,7 @@ use Rattle.laws.proofs.Counts.{numbers}
 use Rattle.laws.proofs.Marked.{both, lt-test}
 use Rattle.laws.proofs.Accepted.{never, same, bound-to, then-to, tested, le-test}
 use Rattle.laws.proofs.Refuses.{by-judge, by-wanted, by-then, unlike, Refuses, not13, Spares, spares-preflight, spares-members, spares-rotations}
-use Rattle.laws.proofs.Shapes.{wanted-some, Shaped, members-shaped, rotations-shaped, found-cells, type-cells}
+use Rattle.laws.proofs.Shapes.{wanted-some, MembersShaped, members-shaped, rotations-shaped, found-cells, type-cells}
 use Rattle.laws.proofs.CopyLaws.{Wide, all-wide, kept-fit, wide-join, written-length, table-length, closed-table, open-table, some-copy}
 
 pub apart : (why : Refusal) (k m : ℕ) → Refused why k ≡ Done m → ⊥
@@ -61,18 +61,18 @@ choose kept b = elim b [ true ↦ record { answer = Refused ShortSheet (length k
 -- ---- what fits
 
 -- Of members l, after n others, those that are kept are the first; there is room for them, and for one more only where no more are left.
-record Kept (m : Room) (d v n : ℕ) (l kept : List Member) : Type 0 where
+record MembersKept (m : Room) (d v n : ℕ) (l kept : List Member) : Type 0 where
   first : kept ≡ take (length kept) l
   fit : haveRoom m d v (n + length kept) ≡ true
   full : length kept < length l → haveRoom m d v (suc (n + length kept)) ≡ false
 
-fitting-kept : (m : Room) (d v n : ℕ) (l : List Member) → haveRoom m d v n ≡ true → Kept m d v n l (fitting m d v n l)
+fitting-kept : (m : Room) (d v n : ℕ) (l : List Member) → haveRoom m d v n ≡ true → MembersKept m d v n l (fitting m d v n l)
 unfolding fitting
 fitting-kept m d v n [] h = record { first = refl; fit = let q : n + 0 ≡ n = omega arith in rw q h; full = λ k. absurd (omega arith) }
 fitting-kept m d v n (x ∷ l) h = go (haveRoom m d v (suc n)) refl (λ k. fitting-kept m d v (suc n) l k)
   where
-    go : (b : Bool) → haveRoom m d v (suc n) ≡ b → (haveRoom m d v (suc n) ≡ true → Kept m d v (suc n) l (fitting m d v (suc n) l))
-        → Kept m d v n (x ∷ l) (elim b as (λ z. List Member) [ true ↦ x ∷ fitting m d v (suc n) l | false ↦ [] ])
+    go : (b : Bool) → haveRoom m d v (suc n) ≡ b → (haveRoom m d v (suc n) ≡ true → MembersKept m d v (suc n) l (fitting m d v (suc n) l))
+        → MembersKept m d v n (x ∷ l) (elim b as (λ z. List Member) [ true ↦ x ∷ fitting m d v (suc n) l | false ↦ [] ])
     go true e f =
         let k = f e in
         let q : n + suc (length (fitting m d v (suc n) l)) ≡ suc n + length (fitting m d v (suc n) l) = omega arith in
@@ -87,17 +87,17 @@ no-members-fit m d v = rw (zero-mul (d * d), zero-mul v, le-leb 0 (m .floats) (o
 
 module _ (o : Judged (Concrete × List Member)) (m : Room) where
   -- There is room for n members of the solid c.
-  abbrev Fits : Concrete → ℕ → Bool
-  Fits c n = haveRoom m (c .dimension) (length (c .points)) n
+  abbrev MembersFit : Concrete → ℕ → Bool
+  MembersFit c n = haveRoom m (c .dimension) (length (c .points)) n
 
   -- A search whose members are o, with the room m, ends in one of these ways: by a refusal that is not 13, with the first k members, or with all.
   data SearchEnds : Outcome → Type 0 where
     before : (why : Refusal) → why ≢ ShortSheet → SearchEnds (record { answer = Refused why 0; members = [] })
-    short : (c : Concrete) (ms : List Member) (k : ℕ) → o ≡ passed (c, ms) → Fits c k ≡ true → Fits c (suc k) ≡ false → k < length ms
+    short : (c : Concrete) (ms : List Member) (k : ℕ) → o ≡ passed (c, ms) → MembersFit c k ≡ true → MembersFit c (suc k) ≡ false → k < length ms
         → SearchEnds (record { answer = Refused ShortSheet k; members = take k ms })
-    whole : (c : Concrete) (ms : List Member) → o ≡ passed (c, ms) → Fits c (length ms) ≡ true → 0 < length ms → SearchEnds (record { answer = Done (length ms); members = ms })
+    whole : (c : Concrete) (ms : List Member) → o ≡ passed (c, ms) → MembersFit c (length ms) ≡ true → 0 < length ms → SearchEnds (record { answer = Done (length ms); members = ms })
 
-  kept-ends : (c : Concrete) (ms kept : List Member) → o ≡ passed (c, ms) → Kept m (c .dimension) (length (c .points)) 0 ms kept → SearchEnds (keptOf ms kept)
+  kept-ends : (c : Concrete) (ms kept : List Member) → o ≡ passed (c, ms) → MembersKept m (c .dimension) (length (c .points)) 0 ms kept → SearchEnds (keptOf ms kept)
   unfolding keptOf choose
   kept-ends c [] kept q h = before Blank (unlike Blank ShortSheet tt)
   kept-ends c (x ∷ l) kept q h = go (ltb (length kept) (length (x ∷ l))) refl
@@ -113,7 +113,7 @@ module _ (o : Judged (Concrete × List Member)) (m : Room) where
       go false e =
           let k : length (x ∷ l) ≤ length kept = nltb→le (length kept) (length (x ∷ l)) (subst (λ (b : Bool). T (not b)) (sym e) tt) in
           let r : kept ≡ x ∷ l = h .first ∙ take-all (length kept) (x ∷ l) k in
-          let f : Fits c (length (x ∷ l)) ≡ true = subst (λ (ys : List Member). Fits c (length ys) ≡ true) r (rw none-before at (h .fit)) in
+          let f : MembersFit c (length (x ∷ l)) ≡ true = subst (λ (ys : List Member). MembersFit c (length ys) ≡ true) r (rw none-before at (h .fit)) in
           subst (λ (ys : List Member). SearchEnds (record { answer = Done (length ys); members = ys })) (sym r) (whole c (x ∷ l) q f (omega arith))
 
 search-ends : (o : Judged (Concrete × List Member)) (m : Room) → Spares o → SearchEnds o m (outcome o m)
@@ -152,7 +152,7 @@ module _ (o : Judged (Concrete × List Member)) (old : SearchOut) where
   ended-untouched f (short c ms n q r t h) why k e p = absurd (p (sym (same-refusal ShortSheet why n k e)))
   ended-untouched f (whole c ms q r h) why k e p = absurd (apart why k (length ms) (sym e))
 
-search-lengths : (o : Judged (Concrete × List Member)) → Shaped o → (old : SearchOut) →
+search-lengths : (o : Judged (Concrete × List Member)) → MembersShaped o → (old : SearchOut) →
     let new = searchWritten (outcome o (roomOf old)) old .1 in
     SameLength (old .matrices) (new .matrices) × SameLength (old .rows) (new .rows) × SameLength (old .marks) (new .marks)
 unfolding searchWritten roomOf
@@ -160,7 +160,7 @@ search-lengths o s old =
     let c = found-cells o s (roomOf old) in
     (written-length _ (old .matrices) (c .matrices), written-length _ (old .rows) (c .rows), written-length _ (old .marks) (c .marks))
 
-search-laws : (inside : List ℕ → ℕ → ℕ → Judged (Concrete × List Member)) → ((b : List ℕ) (words floats : ℕ) → Shaped (inside b words floats)) → ((b : List ℕ) (words floats : ℕ) → Spares (inside b words floats))
+search-laws : (inside : List ℕ → ℕ → ℕ → Judged (Concrete × List Member)) → ((b : List ℕ) (words floats : ℕ) → MembersShaped (inside b words floats)) → ((b : List ℕ) (words floats : ℕ) → Spares (inside b words floats))
     → SearchLaws (λ b words floats old. searchWritten (outcome (inside b words floats) (roomOf old)) old) inside
 unfolding searchWritten
 search-laws inside shaped spares = record {
@@ -310,7 +310,7 @@ module _ (d : ℕ) (ps ts : List Float) where
       )
 
 -- In l cells there is room for n points of d floats each, 2,048 at most, and for no more.
-record Fit (n d l : ℕ) : Type 0 where
+record PointsFit (n d l : ℕ) : Type 0 where
   limit : n ≤ maxCount
   cells : n * d ≤ l
   most : (n ≡ maxCount) ⊎ (l < suc n * d)
@@ -319,8 +319,8 @@ module _ (d : ℕ) (ms : List Matrix) (cs : List Vector) (outPoints : List Float
   abbrev All : ℕ → List Float → List ℕ → Type 0
   All = AllCopies d ms cs outPoints outTable
 
-  abbrev First : ℕ → List Float → List ℕ → Type 0
-  First = FirstCopies d ms cs outPoints outTable
+  abbrev FirstKept : ℕ → List Float → List ℕ → Type 0
+  FirstKept = FirstCopies d ms cs outPoints outTable
 
   abbrev Unclosed : ℕ → List Float → List ℕ → Type 0
   Unclosed = OpenCopies d ms cs outPoints outTable
@@ -328,11 +328,11 @@ module _ (d : ℕ) (ms : List Matrix) (cs : List Vector) (outPoints : List Float
   -- A call with the copies cs under the matrices ms ends in one of these ways, which say what it answers, and what it leaves in the outputs.
   data Ends : Answer × List Float × List ℕ → Type 0 where
     before : (why : Refusal) → Early why → Ends (Refused why 0, outPoints, outTable)
-    short : (k : ℕ) (p : List Float) (t : List ℕ) → First k p t → Ends (Refused ShortSheet k, p, t)
+    short : (k : ℕ) (p : List Float) (t : List ℕ) → FirstKept k p t → Ends (Refused ShortSheet k, p, t)
     unclosed : (k : ℕ) (p : List Float) (t : List ℕ) → Unclosed k p t → Ends (Refused Open k, p, t)
     whole : (n : ℕ) (p : List Float) (t : List ℕ) → All n p t → Ends (Done n, p, t)
 
-  ends : (n : ℕ) → Fit n d (length outPoints) → 0 < length cs → Ends (copyOut n ms cs outPoints outTable)
+  ends : (n : ℕ) → PointsFit n d (length outPoints) → 0 < length cs → Ends (copyOut n ms cs outPoints outTable)
   unfolding copyOut
   ends n f s = go (leb (length cs) n) refl (leb cells (length outTable)) refl (holds eqb (length cs) (copyTable ms cs)) refl
     where
@@ -345,7 +345,7 @@ module _ (d : ℕ) (ms : List Matrix) (cs : List Vector) (outPoints : List Float
       go : (a : Bool) → leb (length cs) n ≡ a → (b : Bool) → leb cells (length outTable) ≡ b → (c : Bool) → holds eqb (length cs) (copyTable ms cs) ≡ c → Ends (elim (a && b) [
         | false ↦ (Refused ShortSheet (length (take n cs)), written (join (take n cs)) outPoints, outTable)
         | true ↦ elim c [
-          | true ↦ (Refused Open (length (take n cs)), written (join (take n cs)) outPoints, written (replicate cells 65535) outTable)
+          | true ↦ (Refused Open (length (take n cs)), written (join (take n cs)) outPoints, written (replicate cells noImage) outTable)
           | false ↦ (Done (length cs), written (join (take n cs)) outPoints, written (copyTable ms cs) outTable)
         ]
       ])
@@ -399,9 +399,9 @@ module _ (d : ℕ) (ms : List Matrix) (cs : List Vector) (outPoints : List Float
   ends-done o (unclosed k p t h) n e = absurd (apart Open k n e)
   ends-done o (whole k p t h) n e = subst (λ (i : ℕ). All i p t) (counted k n e) h
 
-  ends-short : (o : Answer × List Float × List ℕ) → Ends o → (k : ℕ) → o .0 ≡ Refused ShortSheet k → First k (o .1) (o .2)
+  ends-short : (o : Answer × List Float × List ℕ) → Ends o → (k : ℕ) → o .0 ≡ Refused ShortSheet k → FirstKept k (o .1) (o .2)
   ends-short o (before why h) k e = absurd (h .0 (same-refusal why ShortSheet 0 k e))
-  ends-short o (short n p t h) k e = subst (λ (i : ℕ). First i p t) (same-count ShortSheet n k e) h
+  ends-short o (short n p t h) k e = subst (λ (i : ℕ). FirstKept i p t) (same-count ShortSheet n k e) h
   ends-short o (unclosed n p t h) k e = absurd (open-short n k e)
   ends-short o (whole n p t h) k e = absurd (apart ShortSheet k n (sym e))
 
@@ -428,7 +428,7 @@ module _ (d : ℕ) (ms : List Matrix) (cs : List Vector) (outPoints : List Float
   )
   ends-lengths w o (unclosed k p t h) = (
     rw (h .points) (all-length w k (h .count) (h .points-fit)),
-    rw (h .table) (written-length (replicate (length ms * k) 65535) outTable (rw length-replicate (h .table-fit))),
+    rw (h .table) (written-length (replicate (length ms * k) noImage) outTable (rw length-replicate (h .table-fit))),
   )
   ends-lengths w o (whole n p t h) = (
     rw (h .points) (all-length w n (h .count) (h .points-fit)),

@@ -67,10 +67,10 @@ proper-is s r p = go (ltb 0 r) (ltb r (top s)) (lt→ltb 0 r (p .0)) (lt→ltb r
     go true true x y = refl
 
 module _ (s : Solid) (w : Sound s) (cls : Classes) (σ : ℕ → ℕ → ℕ) (c : Carries s cls σ) where
-  abbrev pub Kept : State → Type 0
-  Kept S = (r e : ℕ) → e < size s r → typeOf S r (σ r e) ≡ typeOf S r e
+  abbrev pub TypesKept : State → Type 0
+  TypesKept S = (r e : ℕ) → e < size s r → typeOf S r (σ r e) ≡ typeOf S r e
 
-  pub start-kept : Kept (start s cls)
+  pub start-kept : TypesKept (start s cls)
   unfolding startAt
   start-kept r e h = there (decLt r (length s))
     where
@@ -171,7 +171,7 @@ module _ (s : Solid) (w : Sound s) (cls : Classes) (σ : ℕ → ℕ → ℕ) (c
 
   -- ---- a step keeps it
 
-  pub step-kept : (S : State) (x : Step) → Good s cls S → Proper s (at x) → Kept S → Kept (step s S x)
+  pub step-kept : (S : State) (x : Step) → Good s cls S → Proper s (at x) → TypesKept S → TypesKept (step s S x)
   step-kept S x g p h r e he = go (ℕ-discrete r (at x))
     where
       here : (f : ℕ) → f < size s (at x) → typeOf (step s S x) (at x) (σ (at x) f) ≡ typeOf (step s S x) (at x) f

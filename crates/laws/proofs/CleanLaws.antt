@@ -164,10 +164,10 @@ module _ {A : Type 0} (same : A → A → Bool) (k d : A) where
   at-count [] h = absurd (not-suc-le-zero h)
   at-count (x ∷ l) h = go (same x k) refl (λ e. at-count l (subst (λ (n : ℕ). 0 < n) (count-miss x l e) h))
     where
-      Found : List A → Type 0
-      Found m = (i : ℕ) × (i < length m) × (same (getD m i d) k ≡ true)
+      FoundIn : List A → Type 0
+      FoundIn m = (i : ℕ) × (i < length m) × (same (getD m i d) k ≡ true)
 
-      go : (b : Bool) → same x k ≡ b → (same x k ≡ false → Found l) → Found (x ∷ l)
+      go : (b : Bool) → same x k ≡ b → (same x k ≡ false → FoundIn l) → FoundIn (x ∷ l)
       go true e later = (0, omega arith, e)
       go false e later = let t = later e in (suc (t .0), omega (arith, t .1), t .2)
 

@@ -10,12 +10,12 @@ use Rattle.spec.specs.Demand.{Sound, Proper, AllProper, Carries}
 use Rattle.laws.specs.Demand3.{Demand3}
 use Rattle.laws.proofs.Steps.{Good, start-good, step-good}
 use Rattle.laws.proofs.Result.{kept, result-kept, result-good, play-below, play-result}
-use Rattle.laws.proofs.Carry.{Kept, start-kept, step-kept}
+use Rattle.laws.proofs.Carry.{TypesKept, start-kept, step-kept}
 use Rattle.laws.proofs.Marked.{carries}
 
 module _ (s : Solid) (w : Sound s) (cls : Classes) (z : State) (e : result s cls ≡ some z) (xs : List Step) (a : AllProper s xs) (σ : ℕ → ℕ → ℕ) (c : Carries s cls σ) where
   both : State → Type 0
-  both S = Good s cls S × Kept s w cls σ c S
+  both S = Good s cls S × TypesKept s w cls σ c S
 
   more : (S : State) (x : Step) → Proper s (at x) → both S → both (step s S x)
   unfolding both

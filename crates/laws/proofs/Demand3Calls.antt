@@ -27,7 +27,7 @@ use Rattle.laws.proofs.Lists.{in-getD, in-map, getD-map}
 use Rattle.laws.proofs.Accepted.{one-solid, every-passed}
 use Rattle.laws.proofs.Demand3.{demand3}
 use Rattle.laws.proofs.Listed.{found-in, Confirms, members-confirm, rotations-confirm}
-use Rattle.laws.proofs.Shapes.{Shaped, members-shaped, rotations-shaped}
+use Rattle.laws.proofs.Shapes.{MembersShaped, members-shaped, rotations-shaped}
 use Rattle.laws.proofs.CallProofs.{apart, counted, choose, behind}
 
 -- ---- part k of lists of one length
@@ -64,13 +64,13 @@ no-member : Member
 no-member = record { matrix = []; row = []; mark = 0 }
 
 -- The members of the call are o, and the solid of the sheet is c.
-module _ (b : List ℕ) (words floats : ℕ) (o : Judged (Concrete × List Member)) (shaped : Shaped o) (w : Confirms b words floats o)
+module _ (b : List ℕ) (words floats : ℕ) (o : Judged (Concrete × List Member)) (shaped : MembersShaped o) (w : Confirms b words floats o)
     (words′ floats′ : ℕ) (c : Concrete) (e : preflight b words′ floats′ ≡ passed c) (old : SearchOut) where
   ms : List Member
   ms = outcome o (roomOf old) .members
 
   row-length : (x : Member) → In x ms → length (x .row) ≡ length (c .points)
-  unfolding ms Shaped
+  unfolding ms MembersShaped
   row-length x m =
       let f = found-in o (roomOf old) x m in
       shaped (f .0) (f .1) x (f .2) .row ∙ ap (λ (d : Concrete). length (d .points)) (one-solid b words floats words′ floats′ (f .0 .0) c (w .read (f .0) (f .1)) e)
@@ -105,7 +105,7 @@ module _ (b : List ℕ) (words floats : ℕ) (o : Judged (Concrete × List Membe
     unfolding one
     confirmed q = rw row-is (row-rule one (in-getD no-member ms k there) (sym mark-is ∙ q))
 
-listed : (inside : List ℕ → ℕ → ℕ → Judged (Concrete × List Member)) → ((b : List ℕ) (words floats : ℕ) → Shaped (inside b words floats)) → ((b : List ℕ) (words floats : ℕ) → Confirms b words floats (inside b words floats))
+listed : (inside : List ℕ → ℕ → ℕ → Judged (Concrete × List Member)) → ((b : List ℕ) (words floats : ℕ) → MembersShaped (inside b words floats)) → ((b : List ℕ) (words floats : ℕ) → Confirms b words floats (inside b words floats))
     → (b : List ℕ) (words floats : ℕ) (c : Concrete) → preflight b words floats ≡ passed c → (S z : State) → Agree (c .abs) (byTable (classTable c)) S z
     → ListedMembers (λ b words floats old. searchWritten (outcome (inside b words floats) (roomOf old)) old) b c S z
 listed inside shaped confirms b words floats c e S z a = record {

@@ -241,15 +241,15 @@ module _ (s : Solid) (tall : 2 ≤ top s) (f : ℕ) (low : f < size s (top s - 1
           ∙ ap (λ (n : ℕ). every (λ e. ltb 0 (length (sups s r e))) (range 0 n)) (size-same r)
 
   -- The subs of an element are those of one of its rank before.
-  record Before (r e : ℕ) : Type 0 where
+  record SubsCame (r e : ℕ) : Type 0 where
     was : ℕ
     subs-was : subs t r e ≡ subs s r was
     low-was : e < size s r → was < size s r
 
-  before : (r e : ℕ) → Before r e
+  before : (r e : ℕ) → SubsCame r e
   before r e = go (ℕ-discrete r (top s - 1))
     where
-      go : Dec (r ≡ top s - 1) → Before r e
+      go : Dec (r ≡ top s - 1) → SubsCame r e
       go (yes p) = record { was = swap f e; subs-was = rw p (subs-n e); low-was = λ h. swap-low f e (size s r) (rw p low) h }
       go (no n) = record { was = e; subs-was = subs-other r n e; low-was = λ h. h }
 

@@ -39,11 +39,11 @@ module _ {A : Type 0} where
 -- ---- lists in an order: each member stands before all that follow it
 
 module _ {A : Type 0} (R : A → A → Type 0) where
-  abbrev Ordered : List A → Type 0
-  Ordered [] = Unit {0}
-  Ordered (x ∷ l) = ((y : A) → In y l → R x y) × Ordered l
+  abbrev InThatOrder : List A → Type 0
+  InThatOrder [] = Unit {0}
+  InThatOrder (x ∷ l) = ((y : A) → In y l → R x y) × InThatOrder l
 
-  ordered-append : (a b : List A) → Ordered a → Ordered b → ((x y : A) → In x a → In y b → R x y) → Ordered (a ++ b)
+  ordered-append : (a b : List A) → InThatOrder a → InThatOrder b → ((x y : A) → In x a → In y b → R x y) → InThatOrder (a ++ b)
   ordered-append [] b oa ob d = ob
   ordered-append (x ∷ a) b oa ob d = (
     λ y m. go y (in-either y a b m),
@@ -54,14 +54,14 @@ module _ {A : Type 0} (R : A → A → Type 0) where
       go y (inl h) = oa .0 y h
       go y (inr h) = d x y (inl refl) h
 
-  ordered-map : (f : A → A) (l : List A) → ((x y : A) → In x l → In y l → R x y → R (f x) (f y)) → Ordered l → Ordered (map f l)
+  ordered-map : (f : A → A) (l : List A) → ((x y : A) → In x l → In y l → R x y → R (f x) (f y)) → InThatOrder l → InThatOrder (map f l)
   ordered-map f [] k o = tt
   ordered-map f (x ∷ l) k o = (
     λ y m. let h = in-map f y l m in rw (h .2) (k x (h .0) (inl refl) (inr (h .1)) (o .0 (h .0) (h .1))),
     ordered-map f l (λ y z hy hz. k y z (inr hy) (inr hz)) (o .1),
   )
 
-  ordered-at : (d : A) (l : List A) → Ordered l → (i j : ℕ) → i < j → j < length l → R (getD l i d) (getD l j d)
+  ordered-at : (d : A) (l : List A) → InThatOrder l → (i j : ℕ) → i < j → j < length l → R (getD l i d) (getD l j d)
   ordered-at d l o i zero h k = absurd (omega arith)
   ordered-at d (x ∷ l) o zero (suc j) h k = o .0 (getD l j d) (in-getD d l j (omega arith))
   ordered-at d (x ∷ l) o (suc i) (suc j) h k = ordered-at d l (o .1) i j (omega arith) (omega arith)
@@ -82,8 +82,8 @@ module _ {A B : Type 0} (g : B → List A) where
 
 module _ {A : Type 0} (g : ℕ → List A) where
   -- The joined lists are ordered where a lower number's list stands before a greater number's.
-  ordered-join : (R : A → A → Type 0) (l : List ℕ) → Rising l → ((x : ℕ) → Ordered R (g x))
-      → ((x y : ℕ) (t u : A) → x < y → In t (g x) → In u (g y) → R t u) → Ordered R (join (map g l))
+  ordered-join : (R : A → A → Type 0) (l : List ℕ) → Rising l → ((x : ℕ) → InThatOrder R (g x))
+      → ((x y : ℕ) (t u : A) → x < y → In t (g x) → In u (g y) → R t u) → InThatOrder R (join (map g l))
   unfolding join
   ordered-join R [] w each apart = tt
   ordered-join R (x ∷ l) w each apart = ordered-append R (g x) (join (map g l)) (each x) (ordered-join R l (rest x l w) each apart)
@@ -181,12 +181,12 @@ module _ (s : Solid) where
       join-in (ups r e) F f (subs s (suc r) e) (rw (w .end) at (w .chain r (omega arith)))
       (subst (λ (K : Flag). In K (ups r e f)) (sym (whole r e F w)) (map-in (λ (G : Flag). G ++ (e ∷ [])) (take (suc r) F) (flagsTo s r f) (of-to r f (take (suc r) F) (less r e F w))))
 
-  order-to : Sound s → (r e : ℕ) → Ordered Before (flagsTo s r e)
+  order-to : Sound s → (r e : ℕ) → InThatOrder Before (flagsTo s r e)
   unfolding flagsTo ups
   order-to v zero e = (λ F m. absurd m, tt)
   order-to v (suc r) e = ordered-join (ups r e) Before (subs s (suc r) e) (v .rising (suc r) e) (λ f. each f (order-to v r f)) apart
     where
-      each : (f : ℕ) → Ordered Before (flagsTo s r f) → Ordered Before (ups r e f)
+      each : (f : ℕ) → InThatOrder Before (flagsTo s r f) → InThatOrder Before (ups r e f)
       each f o = ordered-map Before (λ (G : Flag). G ++ (e ∷ [])) (flagsTo s r f)
           (λ G H g h b. before-more G H (e ∷ []) (suc r) (to-of r f G g .long) (to-of r f H h .long) b) o
 
@@ -208,7 +208,7 @@ module _ (s : Solid) where
           })
 
 -- A flag does not stand before itself, so that nothing is listed twice.
-once-at : (d : Flag) (l : List Flag) → Ordered Before l → (i j : ℕ) → i < length l → j < length l → getD l i d ≡ getD l j d → i ≡ j
+once-at : (d : Flag) (l : List Flag) → InThatOrder Before l → (i j : ℕ) → i < length l → j < length l → getD l i d ≡ getD l j d → i ≡ j
 once-at d l o i j hi hj e = go (decLt i j) (decLt j i)
   where
     not-same : (F G : Flag) → Before F G → F ≡ G → ⊥

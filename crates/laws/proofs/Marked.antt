@@ -175,12 +175,12 @@ module _ (s : Solid) (row : List ℕ) (a : Permutes s row) where
 -- ---- an element that is carried
 
 module _ (s : Solid) (cls : Classes) (row : List ℕ) where
-  pub record Fit (r e : ℕ) : Type 0 where
+  pub record ElementFit (r e : ℕ) : Type 0 where
     pub inside : goes s row r e < size s r
     pub class : cls r (goes s row r e) ≡ cls r e
     pub onto : subs s r (goes s row r e) ≡ inOrder (size s (pred r)) (map (goes s row (pred r)) (subs s r e))
 
-  pub fit-of : (r e : ℕ) → carriesElement s cls row r e ≡ true → Fit r e
+  pub fit-of : (r e : ℕ) → carriesElement s cls row r e ≡ true → ElementFit r e
   unfolding carriesElement
   fit-of r e ok =
       let a = ltb (goes s row r e) (size s r) in
@@ -193,12 +193,12 @@ module _ (s : Solid) (cls : Classes) (row : List ℕ) where
 -- ---- a confirmed row
 
 module _ (s : Solid) (w : Sound s) (cls : Classes) (row : List ℕ) (ok : marked s cls row ≡ true) where
-  record Parts : Type 0 where
+  record RuleParts : Type 0 where
     sets : (r : ℕ) → Proper s r → Once (vertexSets s r)
     permutes : Permutes s row
     fit : (r e : ℕ) → Proper s r → e < size s r → carriesElement s cls row r e ≡ true
 
-  parts : Parts
+  parts : RuleParts
   unfolding marked
   parts =
       let n₁ = size s 1 in
@@ -222,7 +222,7 @@ module _ (s : Solid) (w : Sound s) (cls : Classes) (row : List ℕ) (ok : marked
             (every-in (λ q. every (carriesElement s cls row q) (range 0 (size s q))) (properRanks s) (h₄ .1) r (proper-rank s r p)) i (in-range 0 (size s r) i (omega arith) (omega arith));
       }
 
-  fit : (r e : ℕ) → Proper s r → e < size s r → Fit s cls row r e
+  fit : (r e : ℕ) → Proper s r → e < size s r → ElementFit s cls row r e
   fit r e p h = fit-of s cls row r e (parts .fit r e p h)
 
   inside : (r e : ℕ) → e < size s r → goes s row r e < size s r

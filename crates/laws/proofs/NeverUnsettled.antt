@@ -24,7 +24,7 @@ use Rattle.spec.specs.Judged.{Judged, refused, passed}
 use Rattle.spec.specs.Sheet.{Parsed, Reader, _>>=_, _>>_, done, judge, times, bits, rank, dimension, count, coordinate, subList, list, listsAt, lists, end, sheet, readSheet, vertexCount}
 use Rattle.spec.specs.Solid.{Concrete, preflight}
 use Rattle.spec.specs.Classes.{byTable, classTable, typesOf}
-use Rattle.spec.specs.Copying.{copyTable, judgeCopy, copyOut, copyCall}
+use Rattle.spec.specs.Copying.{copyTable, judgeCopy, copyOut, copyCall, noImage}
 use Rattle.spec.specs.Search.{Member, setting, search}
 use Rattle.spec.specs.Calls.{Given, TypesOut, typesGiven, typesWritten, typesCall, Room, Outcome, keptOf, outcome, membersIn, rotationsIn, roomOf, searchWritten, searchCall, rotationsCall}
 use Rattle.laws.specs.TypeLaws.{NotUnsettled, NeverUnsettled}
@@ -36,50 +36,50 @@ use Rattle.laws.proofs.Settled.{settled}
 abbrev Low : Refusal → Type 0
 Low why = number why < 15
 
-abbrev Clear : {A : Type 0} → Judged A → Type 0
-Clear (refused why) = Low why
-Clear (passed x) = Unit {0}
+abbrev LowIfRefused : {A : Type 0} → Judged A → Type 0
+LowIfRefused (refused why) = Low why
+LowIfRefused (passed x) = Unit {0}
 
-clear-bind : {A B : Type 0} (m : Judged A) (k : A → Judged B) → Clear m → ((x : A) → Clear (k x)) → Clear (Judging._>>=_ m k)
+clear-bind : {A B : Type 0} (m : Judged A) (k : A → Judged B) → LowIfRefused m → ((x : A) → LowIfRefused (k x)) → LowIfRefused (Judging._>>=_ m k)
 unfolding Judging._>>=_
 clear-bind (refused why) k h f = h
 clear-bind (passed x) k h f = f x
 
-clear-then : {A B : Type 0} (m : Judged A) (k : Judged B) → Clear m → Clear k → Clear (Judging._>>_ m k)
+clear-then : {A B : Type 0} (m : Judged A) (k : Judged B) → LowIfRefused m → LowIfRefused k → LowIfRefused (Judging._>>_ m k)
 unfolding Judging._>>_
 clear-then (refused why) k h f = h
 clear-then (passed x) k h f = f
 
-clear-judge : (why : Refusal) (ok : Bool) → Low why → Clear (Judging.judge why ok)
+clear-judge : (why : Refusal) (ok : Bool) → Low why → LowIfRefused (Judging.judge why ok)
 unfolding Judging.judge
 clear-judge why true h = tt
 clear-judge why false h = h
 
-clear-wanted : {A : Type 0} (why : Refusal) (o : Option A) → Low why → Clear (Judging.wanted why o)
+clear-wanted : {A : Type 0} (why : Refusal) (o : Option A) → Low why → LowIfRefused (Judging.wanted why o)
 unfolding Judging.wanted
 clear-wanted why none h = h
 clear-wanted why (some a) h = tt
 
 -- What is there is not refused at all.
-clear-there : {A : Type 0} (why : Refusal) (o : Option A) → o ≢ none → Clear (Judging.wanted why o)
+clear-there : {A : Type 0} (why : Refusal) (o : Option A) → o ≢ none → LowIfRefused (Judging.wanted why o)
 unfolding Judging.wanted
 clear-there why none n = absurd (n refl)
 clear-there why (some a) n = tt
 
-clear-not : {A : Type 0} (m : Judged A) → Clear m → m ≢ refused Unsettled
-clear-not m h e = let k : Low Unsettled = subst Clear e h in omega arith
+clear-not : {A : Type 0} (m : Judged A) → LowIfRefused m → m ≢ refused Unsettled
+clear-not m h e = let k : Low Unsettled = subst LowIfRefused e h in omega arith
 
 -- ---- reading a sheet
 
 abbrev ClearReader : {A : Type 0} → Reader A → Type 0
-ClearReader m = (i : ℕ) → Clear (m i)
+ClearReader m = (i : ℕ) → LowIfRefused (m i)
 
 module _ {A B : Type 0} where
   reads-bind : (m : Reader A) (k : A → Reader B) → ClearReader m → ((x : A) → ClearReader (k x)) → ClearReader (m >>= k)
   unfolding _>>=_
   reads-bind m k h f i = go (m i) (h i)
     where
-      go : (o : Judged (A × ℕ)) → Clear o → Clear {A = B × ℕ} (elim o as (λ z. Judged (B × ℕ)) [ refused why ↦ refused why | passed x ↦ k (x .0) (x .1) ])
+      go : (o : Judged (A × ℕ)) → LowIfRefused o → LowIfRefused {A = B × ℕ} (elim o as (λ z. Judged (B × ℕ)) [ refused why ↦ refused why | passed x ↦ k (x .0) (x .1) ])
       go (refused why) l = l
       go (passed x) l = f (x .0) (x .1)
 
@@ -87,7 +87,7 @@ module _ {A B : Type 0} where
   unfolding _>>_
   reads-then m k h f i = go (m i) (h i)
     where
-      go : (o : Judged (A × ℕ)) → Clear o → Clear {A = B × ℕ} (elim o as (λ z. Judged (B × ℕ)) [ refused why ↦ refused why | passed x ↦ k (x .1) ])
+      go : (o : Judged (A × ℕ)) → LowIfRefused o → LowIfRefused {A = B × ℕ} (elim o as (λ z. Judged (B × ℕ)) [ refused why ↦ refused why | passed x ↦ k (x .1) ])
       go (refused why) l = l
       go (passed x) l = f (x .1)
 
@@ -110,7 +110,7 @@ module _ (b : List ℕ) where
   unfolding bits
   reads-bits w i = go (leb (i + w) (8 * length b))
     where
-      go : (o : Bool) → Clear {A = ℕ × ℕ} (elim o as (λ z. Judged (ℕ × ℕ)) [ true ↦ passed (field b i w, i + w) | false ↦ refused CutSheet ])
+      go : (o : Bool) → LowIfRefused {A = ℕ × ℕ} (elim o as (λ z. Judged (ℕ × ℕ)) [ true ↦ passed (field b i w, i + w) | false ↦ refused CutSheet ])
       go true = tt
       go false = lit< tt
 
@@ -150,15 +150,15 @@ module _ (b : List ℕ) where
       reads-bind _ _ (reads-lists counts) (λ ls.
       reads-then _ _ (λ i. reads-judge CutSheet _ (lit< tt) i) (reads-done _))))))
 
-  clear-sheet : Clear (readSheet b)
+  clear-sheet : LowIfRefused (readSheet b)
   unfolding readSheet
   clear-sheet = go (sheet b 0) (reads-sheet 0)
     where
-      go : (o : Judged (Parsed × ℕ)) → Clear o → Clear {A = Parsed} (elim o as (λ z. Judged Parsed) [ refused why ↦ refused why | passed x ↦ passed (x .0) ])
+      go : (o : Judged (Parsed × ℕ)) → LowIfRefused o → LowIfRefused {A = Parsed} (elim o as (λ z. Judged Parsed) [ refused why ↦ refused why | passed x ↦ passed (x .0) ])
       go (refused why) l = l
       go (passed x) l = tt
 
-  clear-preflight : (words floats : ℕ) → Clear (preflight b words floats)
+  clear-preflight : (words floats : ℕ) → LowIfRefused (preflight b words floats)
   unfolding preflight
   clear-preflight words floats =
       clear-bind _ _ clear-sheet (λ p.
@@ -173,7 +173,7 @@ have-types : (c : Concrete) → typesOf c ≢ none
 unfolding typesOf
 have-types c = settled (c .abs) (byTable (classTable c))
 
-clear-setting : (c : Concrete) → Clear (setting c)
+clear-setting : (c : Concrete) → LowIfRefused (setting c)
 unfolding setting
 clear-setting c =
     clear-then _ _ (clear-judge NotFull _ (lit< tt))
@@ -184,7 +184,7 @@ clear-setting c =
     clear-bind _ _ (clear-wanted Flat _ (lit< tt)) (λ i.
     clear-then _ _ (clear-judge Flat _ (lit< tt)) tt))))))
 
-clear-given : (b : List ℕ) (words floats n m : ℕ) → Clear (typesGiven b words floats n m)
+clear-given : (b : List ℕ) (words floats n m : ℕ) → LowIfRefused (typesGiven b words floats n m)
 unfolding typesGiven
 clear-given b words floats n m =
     clear-bind _ _ (clear-preflight b words floats) (λ c.
@@ -192,13 +192,13 @@ clear-given b words floats n m =
     clear-bind _ _ tt (λ g.
     clear-then _ _ (clear-judge ShortSheet _ (lit< tt)) tt)))
 
-clear-members : (b : List ℕ) (words floats : ℕ) → Clear (membersIn b words floats)
+clear-members : (b : List ℕ) (words floats : ℕ) → LowIfRefused (membersIn b words floats)
 unfolding membersIn search
 clear-members b words floats =
     clear-bind _ _ (clear-preflight b words floats) (λ c.
     clear-bind _ _ (clear-bind _ _ (clear-setting c) (λ w. tt)) (λ ms. tt))
 
-clear-rotations : (b : List ℕ) (words floats : ℕ) → Clear (rotationsIn b words floats)
+clear-rotations : (b : List ℕ) (words floats : ℕ) → LowIfRefused (rotationsIn b words floats)
 unfolding rotationsIn
 clear-rotations b words floats = clear-bind _ _ (clear-members b words floats) (λ x. tt)
 
@@ -211,7 +211,7 @@ ClearAnswer (Refused why k) = Low why
 clear-answer : (a : Answer) → ClearAnswer a → NotUnsettled a
 clear-answer a h k e = let l : Low Unsettled = subst ClearAnswer e h in omega arith
 
-types-answer : (o : Judged Given) (old : TypesOut) → Clear o → ClearAnswer (typesWritten o old .0)
+types-answer : (o : Judged Given) (old : TypesOut) → LowIfRefused o → ClearAnswer (typesWritten o old .0)
 unfolding typesWritten
 types-answer (refused why) old h = h
 types-answer (passed g) old h = tt
@@ -225,31 +225,31 @@ kept-answer (x ∷ l) kept = go (ltb (length kept) (length (x ∷ l)))
     go true = lit< tt
     go false = tt
 
-found-answer : (o : Judged (Concrete × List Member)) (m : Room) → Clear o → ClearAnswer (outcome o m .answer)
+found-answer : (o : Judged (Concrete × List Member)) (m : Room) → LowIfRefused o → ClearAnswer (outcome o m .answer)
 unfolding outcome
 found-answer (refused why) m h = h
 found-answer (passed x) m h = kept-answer (x .1) _
 
 -- ---- copying
 
-clear-copying : (d : ℕ) (ps ts : List Float) → Clear (judgeCopy d ps ts)
+clear-copying : (d : ℕ) (ps ts : List Float) → LowIfRefused (judgeCopy d ps ts)
 unfolding judgeCopy
 clear-copying d ps ts =
     clear-then _ _ (clear-judge Format _ (lit< tt))
     (clear-then _ _ (clear-judge CutSheet _ (lit< tt))
     (clear-then _ _ (clear-judge OffTheBoard _ (lit< tt)) (clear-judge Blank _ (lit< tt))))
 
-abbrev Copied : Type 0
-Copied = Answer × List Float × List ℕ
+abbrev CopySettles : Type 0
+CopySettles = Answer × List Float × List ℕ
 
 copy-out : (n : ℕ) (ms : List Matrix) (cs : List Vector) (outPoints : List Float) (outTable : List ℕ) → ClearAnswer (copyOut n ms cs outPoints outTable .0)
 unfolding copyOut
 copy-out n ms cs outPoints outTable = go (leb (length cs) n && leb (length ms * length cs) (length outTable)) (holds eqb (length cs) (copyTable ms cs))
   where
-    go : (a c : Bool) → ClearAnswer ((elim a as (λ z. Copied) [
+    go : (a c : Bool) → ClearAnswer ((elim a as (λ z. CopySettles) [
       | false ↦ (Refused ShortSheet (length (take n cs)), written (join (take n cs)) outPoints, outTable)
-      | true ↦ elim c as (λ z. Copied) [
-        | true ↦ (Refused Open (length (take n cs)), written (join (take n cs)) outPoints, written (replicate (length ms * length cs) 65535) outTable)
+      | true ↦ elim c as (λ z. CopySettles) [
+        | true ↦ (Refused Open (length (take n cs)), written (join (take n cs)) outPoints, written (replicate (length ms * length cs) noImage) outTable)
         | false ↦ (Done (length cs), written (join (take n cs)) outPoints, written (copyTable ms cs) outTable)
       ]
     ]) .0)
@@ -257,8 +257,8 @@ copy-out n ms cs outPoints outTable = go (leb (length cs) n && leb (length ms * 
     go true true = lit< tt
     go true false = tt
 
-copy-answer : (o : Judged (Unit {0})) (outPoints : List Float) (outTable : List ℕ) (x : Copied) → Clear o → ClearAnswer (x .0)
-    → ClearAnswer ((elim o as (λ z. Copied) [ refused why ↦ (Refused why 0, outPoints, outTable) | passed u ↦ x ]) .0)
+copy-answer : (o : Judged (Unit {0})) (outPoints : List Float) (outTable : List ℕ) (x : CopySettles) → LowIfRefused o → ClearAnswer (x .0)
+    → ClearAnswer ((elim o as (λ z. CopySettles) [ refused why ↦ (Refused why 0, outPoints, outTable) | passed u ↦ x ]) .0)
 copy-answer (refused why) outPoints outTable x h k = h
 copy-answer (passed u) outPoints outTable x h k = k
 

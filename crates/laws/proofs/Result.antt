@@ -19,7 +19,7 @@ use Rattle.laws.proofs.Distinct.{in-distinct}
 use Rattle.laws.proofs.Lists.{in-getD, map-same, map-map, map-in, in-map, getD-map, in-range, of-range}
 use Rattle.laws.proofs.Renumber.{Coarser, renumber-pattern, factor, glue, fewer, as-many}
 use Rattle.laws.proofs.Counts.{numbers, regroup, in-keep, sum-eq, in-left, in-right, in-reverse}
-use Rattle.laws.proofs.Steps.{look, key-counts, key-same, proper?, Good, Below, start-good, step-else, step-good, step-key, key-step, step-parts}
+use Rattle.laws.proofs.Steps.{look, key-counts, key-same, proper?, Good, PartsNoMore, start-good, step-else, step-good, step-key, key-step, step-parts}
 
 -- ---- neighbours are there
 
@@ -35,7 +35,7 @@ Calm s T x = Coarser 0 0 (typesAt (step s T x) (at x)) (typesAt T (at x))
 
 -- ---- a step from a coarser state stays coarser than a state in which that step parts nothing
 
-module _ (s : Solid) (w : Sound s) (cls : Classes) (S T : State) (gS : Good s cls S) (gT : Good s cls T) (b : Below S T) (x : Step) (p : Proper s (at x)) (calm : Calm s T x) where
+module _ (s : Solid) (w : Sound s) (cls : Classes) (S T : State) (gS : Good s cls S) (gT : Good s cls T) (b : PartsNoMore S T) (x : Step) (p : Proper s (at x)) (calm : Calm s T x) where
   glued : ℕ → ℕ
   glued = glue eqb 0 (typesAt T (next x)) (typesAt S (next x))
 
@@ -54,7 +54,7 @@ module _ (s : Solid) (w : Sound s) (cls : Classes) (S T : State) (gS : Good s cl
       in-distinct eqb numbers t (typesAt T (next x))
       (rw (r .2) (in-getD 0 (typesAt T (next x)) (r .0) (rw (gT .sizes (next x)) (near-low s w x p e (r .0) (r .1)))))
 
-  pub below-step : Below (step s S x) T
+  pub below-step : PartsNoMore (step s S x) T
   below-step r = go (ℕ-discrete r (at x))
     where
       go : Dec (r ≡ at x) → Coarser 0 0 (typesAt (step s S x) r) (typesAt T r)
@@ -129,15 +129,15 @@ module _ (s : Solid) where
 
 -- ---- the order of states
 
-pub below-refl : (S : State) → Below S S
+pub below-refl : (S : State) → PartsNoMore S S
 below-refl S r i j hi hj e = e
 
 module _ (s : Solid) (cls : Classes) where
-  pub below-trans : (S T U : State) → Good s cls T → Good s cls U → Below S T → Below T U → Below S U
+  pub below-trans : (S T U : State) → Good s cls T → Good s cls U → PartsNoMore S T → PartsNoMore T U → PartsNoMore S U
   below-trans S T U gT gU b c r i j hi hj e =
       b r i j (rw (gT .sizes r) (rw (gU .sizes r) at hi)) (rw (gT .sizes r) (rw (gU .sizes r) at hj)) (c r i j hi hj e)
 
-  pub below-both : (S T : State) → Good s cls S → Good s cls T → Below S T → Below T S → S ≡ T
+  pub below-both : (S T : State) → Good s cls S → Good s cls T → PartsNoMore S T → PartsNoMore T S → S ≡ T
   below-both S T gS gT b c =
       ext-getD [] S T (gS .ranks ∙ sym (gT .ranks))
       (λ r h. sym (gS .canon r)
@@ -148,13 +148,13 @@ module _ (s : Solid) (cls : Classes) where
   good-play = kept s (Good s cls) (λ S x p g. step-good s cls S g x p)
 
   abbrev Above : State → State → Type 0
-  Above S T = Good s cls T × Below S T
+  Above S T = Good s cls T × PartsNoMore S T
 
-  pub play-parts : (S : State) (xs : List Step) → AllProper s xs → Good s cls S → Below S (play s S xs)
+  pub play-parts : (S : State) (xs : List Step) → AllProper s xs → Good s cls S → PartsNoMore S (play s S xs)
   play-parts S xs a g = kept s (Above S) (λ T x p h. (step-good s cls T (h .0) x p, below-trans S T (step s T x) (h .0) (step-good s cls T (h .0) x p) (h .1) (step-parts s cls T (h .0) x p))) S xs a (g, below-refl S) .1
 
   -- Steps that end no finer than they began part nothing on the way.
-  pub idle : (S : State) (xs : List Step) → AllProper s xs → Good s cls S → Below (play s S xs) S → (x : Step) → In x xs → step s (play s S xs) x ≡ play s S xs
+  pub idle : (S : State) (xs : List Step) → AllProper s xs → Good s cls S → PartsNoMore (play s S xs) S → (x : Step) → In x xs → step s (play s S xs) x ≡ play s S xs
   unfolding play
   idle S (y ∷ ys) a g b x m = go m (λ (k : In x ys). idle S₁ ys (a .1) g₁ b₁ x k)
     where
@@ -170,7 +170,7 @@ module _ (s : Solid) (cls : Classes) where
       gz : Good s cls z
       gz = good-play S₁ ys (a .1) g₁
 
-      b₁ : Below z S₁
+      b₁ : PartsNoMore z S₁
       b₁ = below-trans z S S₁ g g₁ b (step-parts s cls S g y (a .0))
 
       here : step s z y ≡ z
@@ -183,7 +183,7 @@ module _ (s : Solid) (cls : Classes) where
       go (inr k) rest = rest k
 
   -- A sweep that leaves the number of types unchanged ends no finer than it began.
-  pub unchanged : (S : State) → Good s cls S → typeCount s (sweep s S) ≡ typeCount s S → Below (sweep s S) S
+  pub unchanged : (S : State) → Good s cls S → typeCount s (sweep s S) ≡ typeCount s S → PartsNoMore (sweep s S) S
   unfolding sweep typeCount
   unchanged S g e r = go (proper? s r)
     where
@@ -193,7 +193,7 @@ module _ (s : Solid) (cls : Classes) where
       gz : Good s cls z
       gz = good-play S (sweepSteps s) (sweep-proper s) g
 
-      b : Below S z
+      b : PartsNoMore S z
       b = play-parts S (sweepSteps s) (sweep-proper s) g
 
       len : (q : ℕ) → length (typesAt S q) ≡ length (typesAt z q)
@@ -240,7 +240,7 @@ module _ (s : Solid) (cls : Classes) where
   pub result-good : (z : State) → result s cls ≡ some z → Good s cls z
   result-good = result-kept (Good s cls) (λ S x p g. step-good s cls S g x p) (start-good s cls)
 
-  pub result-above : (z : State) → result s cls ≡ some z → Below (start s cls) z
+  pub result-above : (z : State) → result s cls ≡ some z → PartsNoMore (start s cls) z
   result-above z e =
       result-kept (Above (start s cls))
       (λ T x p h. (step-good s cls T (h .0) x p, below-trans (start s cls) T (step s T x) (h .0) (step-good s cls T (h .0) x p) (h .1) (step-parts s cls T (h .0) x p)))
@@ -249,7 +249,7 @@ module _ (s : Solid) (cls : Classes) where
   -- ---- the state T is calm and above the start: then it is above all that steps reach
   module _ (w : Sound s) (T : State) (gT : Good s cls T) (calm : (x : Step) → Proper s (at x) → Calm s T x) where
     abbrev Under : State → Type 0
-    Under S = Good s cls S × Below S T
+    Under S = Good s cls S × PartsNoMore S T
 
     pub under-step : (S : State) (x : Step) → Proper s (at x) → Under S → Under (step s S x)
     under-step S x p h = (step-good s cls S (h .0) x p, below-step s w cls S T (h .0) gT (h .1) x p (calm x p))
@@ -259,7 +259,7 @@ module _ (s : Solid) (cls : Classes) where
     result-calm x p = rw (result-idle z e x p) (λ i j hi hj t. t)
 
     -- This is claim (a) of demand 3.
-    pub play-below : Below (play s (start s cls) xs) z
+    pub play-below : PartsNoMore (play s (start s cls) xs) z
     play-below = kept s (Under w z (result-good z e) result-calm) (under-step w z (result-good z e) result-calm) (start s cls) xs a (start-good s cls, result-above z e) .1
 
     -- This is claim (b) of demand 3.
@@ -279,5 +279,5 @@ module _ (s : Solid) (cls : Classes) where
             last (yes q) = q
             last (no n) = absurd (st x p (at x) i j (rw (gS .sizes (at x)) at hi) (rw (gS .sizes (at x)) at hj) (t, n))
 
-        above : Below z S
+        above : PartsNoMore z S
         above = result-kept (Under w S gS calm) (under-step w S gS calm) (start-good s cls, play-parts (start s cls) xs a (start-good s cls)) z e .1

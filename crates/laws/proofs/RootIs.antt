@@ -40,12 +40,12 @@ four-pos k = subst (λ (x : ℕ). 0 < x) (sym (four-two k)) (pow-pos (k + k))
 
 -- ---- the whole part of a root
 
-abbrev pub Whole : ℕ → ℕ → Type 0
-Whole r n = (r * r ≤ n) × (n < suc r * suc r)
+abbrev pub WholeRoot : ℕ → ℕ → Type 0
+WholeRoot r n = (r * r ≤ n) × (n < suc r * suc r)
 
 -- The whole part of a root comes from the whole part of a quarter's root.
-whole-step : (s n : ℕ) → Whole s (n / 4) → (b : Bool) → (T b → suc (2 * s) * suc (2 * s) ≤ n) → (T (not b) → n < suc (2 * s) * suc (2 * s))
-    → Whole (elim b [ true ↦ suc (2 * s) | false ↦ 2 * s ]) n
+whole-step : (s n : ℕ) → WholeRoot s (n / 4) → (b : Bool) → (T b → suc (2 * s) * suc (2 * s) ≤ n) → (T (not b) → n < suc (2 * s) * suc (2 * s))
+    → WholeRoot (elim b [ true ↦ suc (2 * s) | false ↦ 2 * s ]) n
 whole-step s n h true p q =
     let a = h .1 in
     let b = sq-suc s in
@@ -58,7 +58,7 @@ whole-step s n h false p q =
     let e = sq-twice s in
     (omega arith, q tt)
 
-pub rootDown-is : (d n : ℕ) → n < 4 ^ d → Whole (rootDown d n) n
+pub rootDown-is : (d n : ℕ) → n < 4 ^ d → WholeRoot (rootDown d n) n
 unfolding rootDown
 rootDown-is zero n h = let z : n < 1 = subst (λ (x : ℕ). n < x) (pow-zero 4) h in (omega arith, omega arith)
 rootDown-is (suc d) n h =
@@ -80,13 +80,13 @@ quotient n k e h =
       lt-of-lt-of-le (size-lt n) (le-trans (pow-mono (subst (λ (x : ℕ). z ≤ 53 + x + (53 + x)) (sym e) (p .0))) (le-of-eq (sym (four-two (53 + k)) ∙ pow-add 4 53 k))),
     )
 
-pub record Kept (n k q : ℕ) : Type 0 where
+pub record DigitsKept (n k q : ℕ) : Type 0 where
   pub least : 2 ^ 52 ≤ q
   pub most : q < 2 ^ 53
   pub low : q * q * 4 ^ k ≤ n
   pub high : n < suc q * suc q * 4 ^ k
 
-pub kept-is : (n k : ℕ) → k ≡ (size n + 1) / 2 - 53 → 105 ≤ size n → Kept n k (rootDown 53 (n / 4 ^ k))
+pub kept-is : (n k : ℕ) → k ≡ (size n + 1) / 2 - 53 → 105 ≤ size n → DigitsKept n k (rootDown 53 (n / 4 ^ k))
 kept-is n k e h =
     let b = quotient n k e h in
     let a = n / 4 ^ k in
@@ -354,7 +354,7 @@ sq-shift a k = mul-mul-mul-comm a (2 ^ k) a (2 ^ k) ∙ ap (λ (x : ℕ). a * a 
 mid : (q p : ℕ) → q * p + suc q * p ≡ (2 * q + 1) * p
 mid q p = let e : q + suc q ≡ 2 * q + 1 = omega arith in sym (add-mul q (suc q) p) ∙ ap (λ (x : ℕ). x * p) e
 
-module _ (n k q : ℕ) (K : Kept n k q) (r : Float) where
+module _ (n k q : ℕ) (K : DigitsKept n k q) (r : Float) where
   -- The two cases are that the root was rounded down, and that it was rounded up.
   down-over : At r q k → square (inUnits (below r) + inUnits r) < 4 * n
   down-over a =
@@ -416,7 +416,7 @@ cmp a b = go (compare a b) (leb→le a b) (nleb→lt a b) (eqb→eq a b) (λ (e 
     go Ordering·eq h k e n = e tt
     go Ordering·gt h k e n = k tt
 
-rounded : (x : Float) (n k q : ℕ) → Kept n k q → scaled x ≡ 4 * n → 0 < k → k < 2000 → (4 * n ≡ (2 * q + 1) * (2 * q + 1) * 4 ^ k → ⊥)
+rounded : (x : Float) (n k q : ℕ) → DigitsKept n k q → scaled x ≡ 4 * n → 0 < k → k < 2000 → (4 * n ≡ (2 * q + 1) * (2 * q + 1) * 4 ^ k → ⊥)
     → (o : Ordering) → Cmp o (4 * n) ((2 * q + 1) * (2 * q + 1) * 4 ^ k) → IsRoot x (units binary64 false (nearest q o) k)
 rounded x n k q K s z b tie Ordering·lt c =
     let a = at-units q k (K .least) (le-of-lt (K .most)) z b in

@@ -17,7 +17,7 @@ use Rattle.spec.specs.Pack.{bitsOf, pointBits, listBits, rankBits, packBits, nu
 use Rattle.laws.specs.RoundTrip.{RoundTrip, PackedAllowed, ReadAllowed}
 use Rattle.laws.proofs.Lists.{in-getD, in-place}
 use Rattle.laws.proofs.Accepted.{never, same}
-use Rattle.laws.proofs.SheetBits.{Holds, Ended, sheet-reads, sheet-writes}
+use Rattle.laws.proofs.SheetBits.{BitsAre, BitsEnded, sheet-reads, sheet-writes}
 
 -- ---- lists of bits
 
@@ -150,29 +150,29 @@ module _ (b : List ℕ) where
   zero-field i zero h = refl
   zero-field i (suc w) h = omega (arith, zero-field i w (λ t k. h t (omega arith)), h w (omega arith))
 
-  pub holds-length : (l : List ℕ) (i j : ℕ) → Holds b i l j → i + length l ≡ j
-  unfolding Holds
+  pub holds-length : (l : List ℕ) (i j : ℕ) → BitsAre b i l j → i + length l ≡ j
+  unfolding BitsAre
   holds-length [] i j h = omega arith
   holds-length (x ∷ l) i j h = omega (arith, holds-length l (suc i) j (h .2))
 
-  holds-most : (l : List ℕ) (i j : ℕ) → i ≤ 8 * length b → Holds b i l j → j ≤ 8 * length b
-  unfolding Holds
+  holds-most : (l : List ℕ) (i j : ℕ) → i ≤ 8 * length b → BitsAre b i l j → j ≤ 8 * length b
+  unfolding BitsAre
   holds-most [] i j s h = omega arith
   holds-most (x ∷ l) i j s h = holds-most l (suc i) j (h .0) (h .2)
 
-  holds-at : (l : List ℕ) (i j : ℕ) → Holds b i l j → (t : ℕ) → t < length l → getD l t 0 ≡ bit b (i + t)
-  unfolding Holds
+  holds-at : (l : List ℕ) (i j : ℕ) → BitsAre b i l j → (t : ℕ) → t < length l → getD l t 0 ≡ bit b (i + t)
+  unfolding BitsAre
   holds-at [] i j h t k = absurd (omega arith)
   holds-at (x ∷ l) i j h zero k = let q : i + 0 ≡ i = omega arith in rw q (sym (h .1))
   holds-at (x ∷ l) i j h (suc t) k = let q : i + suc t ≡ suc i + t = omega arith in rw q (holds-at l (suc i) j (h .2) t (omega arith))
 
-  holds-by : (l : List ℕ) (i : ℕ) → i + length l ≤ 8 * length b → ((t : ℕ) → t < length l → bit b (i + t) ≡ getD l t 0) → Holds b i l (i + length l)
-  unfolding Holds
+  holds-by : (l : List ℕ) (i : ℕ) → i + length l ≤ 8 * length b → ((t : ℕ) → t < length l → bit b (i + t) ≡ getD l t 0) → BitsAre b i l (i + length l)
+  unfolding BitsAre
   holds-by [] i s h = omega arith
   holds-by (x ∷ l) i s h =
       let q : i + 0 ≡ i = omega arith in
       let r : suc i + length l ≡ i + suc (length l) = omega arith in
-      (omega arith, rw q at (h 0 (omega arith)), subst (Holds b (suc i) l) r (holds-by l (suc i) (omega arith) (λ t k. let z : suc i + t ≡ i + suc t = omega arith in rw z (h (suc t) (omega arith)))))
+      (omega arith, rw q at (h 0 (omega arith)), subst (BitsAre b (suc i) l) r (holds-by l (suc i) (omega arith) (λ t k. let z : suc i + t ≡ i + suc t = omega arith in rw z (h (suc t) (omega arith)))))
 
 -- ---- a sheet that was read
 
@@ -184,7 +184,7 @@ sheet-of b p = go (sheet b 0) refl
     go (refused why) q e = absurd (never why p e)
     go (passed x) q e = (x .1, rw (← same (x .0) p e) q)
 
-module _ (b l : List ℕ) (j : ℕ) (h : Holds b 0 l j) (z : Ended b j) where
+module _ (b l : List ℕ) (j : ℕ) (h : BitsAre b 0 l j) (z : BitsEnded b j) where
   -- The bits are those of b, and 0 past their end, where b's are too.
   same-bits : (t : ℕ) → t < 8 * length b → getD l t 0 ≡ bit b t
   same-bits t k = go (decLt t (length l))
@@ -241,12 +241,12 @@ module _ (l : List ℕ) (h : Binary l) where
       ∙ number-bit l h (8 * (t / 8)) (t % 8) (7 - t % 8) 8 (omega arith)
       ∙ ap (λ (z : ℕ). getD l z 0) e
 
-  packed-holds : Holds (bytesOf l) 0 l (length l)
+  packed-holds : BitsAre (bytesOf l) 0 l (length l)
   packed-holds =
       let e : 0 + length l ≡ length l = omega arith in
       rw e at (holds-by (bytesOf l) l 0 (omega (arith, size)) (λ t k. let q : 0 + t ≡ t = omega arith in rw q (packed-bit t (omega (arith, size)))))
 
-  packed-ended : Ended (bytesOf l) (length l)
+  packed-ended : BitsEnded (bytesOf l) (length l)
   packed-ended = record {
     short = omega (arith, size);
     zeros = zero-field (bytesOf l) (length l) (8 * length (bytesOf l) - length l) (λ t k. packed-bit (length l + t) (omega arith) ∙ List·getD-eq-default l 0 (omega arith));

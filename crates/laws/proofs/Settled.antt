@@ -1,4 +1,4 @@
--- The sweeps always settle, as E + 2 are enough, so there is always a result. This answers change request L11.
+-- The sweeps always settle, as E + 2 are enough, so there is always a result.
 -- Assumes nothing.
 use mathlib.Core.Path.{_≡_, refl, sym, _∙_, subst}
 use mathlib.Core.Logic.{_≢_}

@@ -124,38 +124,38 @@ unfolding flagColumns
 flag-columns c F = columns-length _ ∙ length-map (walk (c .abs) (c .dimension) F) (pointOf c) ∙ walk-length c (c .dimension) F
 
 -- The setting is for D dimensions and V vertices.
-pub record Fit (d v : ℕ) (w : Setting) : Type 0 where
+pub record SettingFit (d v : ℕ) (w : Setting) : Type 0 where
   pub wide : w .searched .dimension ≡ d
   pub many : length (w .searched .points) ≡ v
   pub inverse : length (w .inv) ≡ d
 
-pub record Shape (d v : ℕ) (x : Member) : Type 0 where
+pub record MemberShape (d v : ℕ) (x : Member) : Type 0 where
   pub matrix : Square d (x .matrix)
   pub row : length (x .row) ≡ v
 
-pub candidate-shape : (d v : ℕ) (w : Setting) → Fit d v w → (F : Flag) → Square d (candidate w F)
+pub candidate-shape : (d v : ℕ) (w : Setting) → SettingFit d v w → (F : Flag) → Square d (candidate w F)
 unfolding candidate
 candidate-shape d v w h F =
     let a = flagColumns (w .searched) F in
     (product-length a (w .inv) ∙ flag-columns (w .searched) F ∙ h .wide, λ r m. product-rows a (w .inv) r m ∙ h .inverse)
 
-pub tested-shape : (d v : ℕ) (w : Setting) → Fit d v w → (m : Matrix) → Square d m → (x : Member) → tested w m ≡ some x → Shape d v x
+pub tested-shape : (d v : ℕ) (w : Setting) → SettingFit d v w → (m : Matrix) → Square d m → (x : Member) → tested w m ≡ some x → MemberShape d v x
 unfolding tested rowOf
 tested-shape d v w h m k x = go (every (λ u. ltb u (length (w .searched .points))) (rowOf (w .searched .points) m) && examplesGo (w .searched .abs) (w .types) (rowOf (w .searched .points) m))
     (record { matrix = k; row = length-map (w .searched .points) _ ∙ h .many })
   where
-    go : (b : Bool) → Shape d v (record { matrix = m; row = rowOf (w .searched .points) m; mark = markOf (w .read .abs) (byTable (w .classes)) (rowOf (w .searched .points) m) })
-        → elim b as (λ z. Option Member) [ true ↦ some (record { matrix = m; row = rowOf (w .searched .points) m; mark = markOf (w .read .abs) (byTable (w .classes)) (rowOf (w .searched .points) m) }) | false ↦ none ] ≡ some x → Shape d v x
-    go true s e = subst (λ (y : Member). Shape d v y) (Option·some-injective _ x e) s
+    go : (b : Bool) → MemberShape d v (record { matrix = m; row = rowOf (w .searched .points) m; mark = markOf (w .read .abs) (byTable (w .classes)) (rowOf (w .searched .points) m) })
+        → elim b as (λ z. Option Member) [ true ↦ some (record { matrix = m; row = rowOf (w .searched .points) m; mark = markOf (w .read .abs) (byTable (w .classes)) (rowOf (w .searched .points) m) }) | false ↦ none ] ≡ some x → MemberShape d v x
+    go true s e = subst (λ (y : Member). MemberShape d v y) (Option·some-injective _ x e) s
     go false s e = absurd (Option·none-ne-some x e)
 
-member-shape : (d v : ℕ) (w : Setting) → Fit d v w → (l : List Flag) (x : Member) → In x (membersOf w l) → Shape d v x
+member-shape : (d v : ℕ) (w : Setting) → SettingFit d v w → (l : List Flag) (x : Member) → In x (membersOf w l) → MemberShape d v x
 unfolding membersOf
 member-shape d v w s (F ∷ l) x h = go (sameTypes w F) (tested w (candidate w F)) refl h (λ k. member-shape d v w s l x k)
   where
     go : (b : Bool) (o : Option Member) → tested w (candidate w F) ≡ o
         → In x (elim b as (λ z. List Member) [ true ↦ elim o as (λ z. List Member) [ some m ↦ m ∷ membersOf w l | none ↦ membersOf w l ] | false ↦ membersOf w l ])
-        → (In x (membersOf w l) → Shape d v x) → Shape d v x
+        → (In x (membersOf w l) → MemberShape d v x) → MemberShape d v x
     go false o e k f = f k
     go true none e k f = f k
     go true (some m) e (inl q) f = rw q (tested-shape d v w s (candidate w F) (candidate-shape d v w s F) m e)
@@ -166,7 +166,7 @@ unfolding Judging.wanted
 wanted-some why none x e = absurd (never why x e)
 wanted-some why (some y) x e = ap some (same y x e)
 
-set-shape : (c : Concrete) (w : Setting) → setting c ≡ passed w → Fit (c .dimension) (length (c .points)) w
+set-shape : (c : Concrete) (w : Setting) → setting c ≡ passed w → SettingFit (c .dimension) (length (c .points)) w
 unfolding setting exchanged
 set-shape c w e =
     let h₁ = then-to (Judging.judge NotFull (full c)) _ w e in
@@ -179,7 +179,7 @@ set-shape c w e =
     let q : exchanged c (h₃ .0) ≡ h₄ .0 = same _ (h₄ .0) (h₄ .1) in
     let i : length (h₆ .0) ≡ h₄ .0 .dimension =
     inverse-length (flagColumns (h₄ .0) (firstFlag (h₄ .0 .abs))) (h₆ .0) (wanted-some Flat (inverse (flagColumns (h₄ .0) (firstFlag (h₄ .0 .abs)))) (h₆ .0) (h₆ .1)) ∙ flag-columns (h₄ .0) (firstFlag (h₄ .0 .abs)) in
-    subst (λ (u : Setting). Fit (c .dimension) (length (c .points)) u) (same _ w (h₇ .2)) (record {
+    subst (λ (u : Setting). SettingFit (c .dimension) (length (c .points)) u) (same _ w (h₇ .2)) (record {
       wide = ap (λ (d : Concrete). d .dimension) (sym q);
       many = ap (λ (d : Concrete). length (d .points)) (sym q);
       inverse = i ∙ ap (λ (d : Concrete). d .dimension) (sym q);
@@ -187,42 +187,42 @@ set-shape c w e =
 
 -- ---- the members of a call
 
-unfoldable pub Shaped : Judged (Concrete × List Member) → Type 0
-Shaped o = (y : Concrete × List Member) → o ≡ passed y → (x : Member) → In x (y .1) → Shape (y .0 .dimension) (length (y .0 .points)) x
+unfoldable pub MembersShaped : Judged (Concrete × List Member) → Type 0
+MembersShaped o = (y : Concrete × List Member) → o ≡ passed y → (x : Member) → In x (y .1) → MemberShape (y .0 .dimension) (length (y .0 .points)) x
 
-search-shape : (c : Concrete) (ms : List Member) → search c ≡ passed ms → (x : Member) → In x ms → Shape (c .dimension) (length (c .points)) x
+search-shape : (c : Concrete) (ms : List Member) → search c ≡ passed ms → (x : Member) → In x ms → MemberShape (c .dimension) (length (c .points)) x
 unfolding search
 search-shape c ms e x h =
     let s = bound-to (setting c) _ ms e in
     member-shape (c .dimension) (length (c .points)) (s .0) (set-shape c (s .0) (s .1)) (flags (s .0 .searched .abs)) x (rw (← same _ ms (s .2)) at h)
 
-pub members-shaped : (b : List ℕ) (words floats : ℕ) → Shaped (membersIn b words floats)
-unfolding membersIn Shaped
+pub members-shaped : (b : List ℕ) (words floats : ℕ) → MembersShaped (membersIn b words floats)
+unfolding membersIn MembersShaped
 members-shaped b words floats y e x m =
     let h₁ = bound-to (preflight b words floats) _ y e in
     let h₂ = bound-to (search (h₁ .0)) _ y (h₁ .2) in
     let p = same _ y (h₂ .2) in
-    subst (λ (z : Concrete × List Member). In x (z .1) → Shape (z .0 .dimension) (length (z .0 .points)) x) p (λ k. search-shape (h₁ .0) (h₂ .0) (h₂ .1) x k) m
+    subst (λ (z : Concrete × List Member). In x (z .1) → MemberShape (z .0 .dimension) (length (z .0 .points)) x) p (λ k. search-shape (h₁ .0) (h₂ .0) (h₂ .1) x k) m
 
-pub rotations-shaped : (b : List ℕ) (words floats : ℕ) → Shaped (rotationsIn b words floats)
-unfolding rotationsIn Shaped
+pub rotations-shaped : (b : List ℕ) (words floats : ℕ) → MembersShaped (rotationsIn b words floats)
+unfolding rotationsIn MembersShaped
 rotations-shaped b words floats y e x m =
     let s = bound-to (membersIn b words floats) _ y e in
     let p = same _ y (s .2) in
-    subst (λ (z : Concrete × List Member). In x (z .1) → Shape (z .0 .dimension) (length (z .0 .points)) x) p
+    subst (λ (z : Concrete × List Member). In x (z .1) → MemberShape (z .0 .dimension) (length (z .0 .points)) x) p
     (λ k. members-shaped b words floats (s .0) (s .1) x (rotation-in (s .0 .1) x k)) m
 
 -- ---- what fits
 
-pub record Holds (m : Room) (d v n : ℕ) : Type 0 where
+pub record RoomHolds (m : Room) (d v n : ℕ) : Type 0 where
   pub matrices : n * (d * d) ≤ m .floats
   pub rows : n * v ≤ m .entries
   pub marks : n ≤ m .marks
 
-pub none-held : (m : Room) (d v : ℕ) → Holds m d v 0
+pub none-held : (m : Room) (d v : ℕ) → RoomHolds m d v 0
 none-held m d v = record { matrices = omega (arith, zero-mul (d * d)); rows = omega (arith, zero-mul v); marks = omega arith }
 
-pub fits-holds : (m : Room) (d v n : ℕ) → haveRoom m d v n ≡ true → Holds m d v n
+pub fits-holds : (m : Room) (d v n : ℕ) → haveRoom m d v n ≡ true → RoomHolds m d v n
 unfolding haveRoom
 fits-holds m d v n e =
     let a = leb (n * (d * d)) (m .floats) in
@@ -231,13 +231,13 @@ fits-holds m d v n e =
     let k = both a b (h .0) in
     record { matrices = le-test _ _ (k .0); rows = le-test _ _ (k .1); marks = le-test _ _ (h .1) }
 
-fitting-holds : (m : Room) (d v n : ℕ) (l : List Member) → Holds m d v n → Holds m d v (n + length (fitting m d v n l))
+fitting-holds : (m : Room) (d v n : ℕ) (l : List Member) → RoomHolds m d v n → RoomHolds m d v (n + length (fitting m d v n l))
 unfolding fitting
 fitting-holds m d v n [] h = let q : n + 0 ≡ n = omega arith in rw q h
 fitting-holds m d v n (x ∷ l) h = go (haveRoom m d v (suc n)) refl (λ k. fitting-holds m d v (suc n) l k)
   where
-    go : (b : Bool) → haveRoom m d v (suc n) ≡ b → (Holds m d v (suc n) → Holds m d v (suc n + length (fitting m d v (suc n) l)))
-        → Holds m d v (n + length {A = Member} (elim b as (λ z. List Member) [ true ↦ x ∷ fitting m d v (suc n) l | false ↦ [] ]))
+    go : (b : Bool) → haveRoom m d v (suc n) ≡ b → (RoomHolds m d v (suc n) → RoomHolds m d v (suc n + length (fitting m d v (suc n) l)))
+        → RoomHolds m d v (n + length {A = Member} (elim b as (λ z. List Member) [ true ↦ x ∷ fitting m d v (suc n) l | false ↦ [] ]))
     go true e f =
         let q : n + suc (length (fitting m d v (suc n) l)) ≡ suc n + length (fitting m d v (suc n) l) = omega arith in
         rw q (f (fits-holds m d v (suc n) e))
@@ -249,7 +249,7 @@ pub record Cells (m : Room) (l : List Member) : Type 0 where
   pub rows : length (join (map (λ x. x .row) l)) ≤ m .entries
   pub marks : length (map (λ x. x .mark) l) ≤ m .marks
 
-cells-of : (m : Room) (d v : ℕ) (l : List Member) → Holds m d v (length l) → ((x : Member) → In x l → Shape d v x) → Cells m l
+cells-of : (m : Room) (d v : ℕ) (l : List Member) → RoomHolds m d v (length l) → ((x : Member) → In x l → MemberShape d v x) → Cells m l
 cells-of m d v l h f = record {
   matrices =
       let e = join-length (d * d) (map (λ x. join (x .matrix)) l) (λ k i. let r = in-map (λ (x : Member). join (x .matrix)) k l i in ap length (r .2) ∙ square-long d (r .0 .matrix) (f (r .0) (r .1) .matrix)) in
@@ -275,8 +275,8 @@ kept-cells m (x ∷ l) kept h = go (ltb (length kept) (length (x ∷ l)))
     go true = h
     go false = h
 
-pub found-cells : (o : Judged (Concrete × List Member)) → Shaped o → (m : Room) → Cells m (outcome o m .members)
-unfolding outcome Shaped
+pub found-cells : (o : Judged (Concrete × List Member)) → MembersShaped o → (m : Room) → Cells m (outcome o m .members)
+unfolding outcome MembersShaped
 found-cells (refused why) s m = no-cells m
 found-cells (passed y) s m =
     let d = y .0 .dimension in

@@ -47,17 +47,17 @@ le-true m n h = is-true (leb m n) (le→leb m n h)
 
 module _ (b : List ℕ) where
   -- ---- the bits of b from i up to j are l
-  unfoldable pub Holds : ℕ → List ℕ → ℕ → Type 0
-  Holds i [] j = i ≡ j
-  Holds i (x ∷ l) j = (i < 8 * length b) × (bit b i ≡ x) × Holds (suc i) l j
+  unfoldable pub BitsAre : ℕ → List ℕ → ℕ → Type 0
+  BitsAre i [] j = i ≡ j
+  BitsAre i (x ∷ l) j = (i < 8 * length b) × (bit b i ≡ x) × BitsAre (suc i) l j
 
-  pub holds-join : (l m : List ℕ) (i j k : ℕ) → Holds i l j → Holds j m k → Holds i (l ++ m) k
-  unfolding Holds
+  pub holds-join : (l m : List ℕ) (i j k : ℕ) → BitsAre i l j → BitsAre j m k → BitsAre i (l ++ m) k
+  unfolding BitsAre
   holds-join [] m i j k e h = rw e h
   holds-join (x ∷ l) m i j k g h = (g .0, g .1, holds-join l m (suc i) j k (g .2) h)
 
-  pub holds-part : (l m : List ℕ) (i k : ℕ) → Holds i (l ++ m) k → (j : ℕ) × Holds i l j × Holds j m k
-  unfolding Holds
+  pub holds-part : (l m : List ℕ) (i k : ℕ) → BitsAre i (l ++ m) k → (j : ℕ) × BitsAre i l j × BitsAre j m k
+  unfolding BitsAre
   holds-part [] m i k h = (i, refl, h)
   holds-part (x ∷ l) m i k h = let r = holds-part l m (suc i) k (h .2) in (r .0, (h .0, h .1, r .1), r .2)
 
@@ -72,8 +72,8 @@ module _ (b : List ℕ) where
   field-small zero i = omega arith
   field-small (suc w) i = let h = field-small w i in omega (arith, bit-small (i + w), pow-suc 2 w)
 
-  field-holds : (w i : ℕ) → i + w ≤ 8 * length b → Holds i (bitsOf w (field b i w)) (i + w)
-  unfolding field bitsOf Holds
+  field-holds : (w i : ℕ) → i + w ≤ 8 * length b → BitsAre i (bitsOf w (field b i w)) (i + w)
+  unfolding field bitsOf BitsAre
   field-holds zero i h = omega arith
   field-holds (suc w) i h =
       let s = bit-small (i + w) in
@@ -81,8 +81,8 @@ module _ (b : List ℕ) where
       let r : (2 * field b i w + bit b (i + w)) % 2 ≡ bit b (i + w) = omega arith in
       rw (q, r) (holds-join (bitsOf w (field b i w)) (bit b (i + w) ∷ []) i (i + w) (i + suc w) (field-holds w i (omega arith)) (omega arith, refl, omega arith))
 
-  pub holds-field : (w n i j : ℕ) → n < 2 ^ w → Holds i (bitsOf w n) j → (field b i w ≡ n) × (i + w ≡ j)
-  unfolding field bitsOf Holds
+  pub holds-field : (w n i j : ℕ) → n < 2 ^ w → BitsAre i (bitsOf w n) j → (field b i w ≡ n) × (i + w ≡ j)
+  unfolding field bitsOf BitsAre
   holds-field zero n i j s h = (omega arith, omega arith)
   holds-field (suc w) n i j s h =
       let g = holds-part (bitsOf w (n / 2)) (n % 2 ∷ []) i j h in
@@ -90,16 +90,16 @@ module _ (b : List ℕ) where
       let e : bit b (i + w) ≡ n % 2 = rw (r .1) (g .2 .1) in
       (omega (arith, r .0), omega (arith, g .2 .2, r .1))
 
-  holds-room : (w n i j : ℕ) → Holds i (bitsOf (suc w) n) j → j ≤ 8 * length b
-  unfolding bitsOf Holds
+  holds-room : (w n i j : ℕ) → BitsAre i (bitsOf (suc w) n) j → j ≤ 8 * length b
+  unfolding bitsOf BitsAre
   holds-room w n i j h = let g = holds-part (bitsOf w (n / 2)) (n % 2 ∷ []) i j h in omega (arith, g .2 .0, g .2 .2)
 
   -- ---- readers
 
   -- The reader m passes the values that are P, over the bits that k says.
   pub record Code {A : Type 0} (m : Reader A) (k : A → List ℕ) (P : A → Type 0) : Type 0 where
-    pub reads : (i : ℕ) (y : A × ℕ) → m i ≡ passed y → P (y .0) × Holds i (k (y .0)) (y .1)
-    pub writes : (i : ℕ) (y : A × ℕ) → P (y .0) → Holds i (k (y .0)) (y .1) → m i ≡ passed y
+    pub reads : (i : ℕ) (y : A × ℕ) → m i ≡ passed y → P (y .0) × BitsAre i (k (y .0)) (y .1)
+    pub writes : (i : ℕ) (y : A × ℕ) → P (y .0) → BitsAre i (k (y .0)) (y .1) → m i ≡ passed y
 
   bits-code : (w : ℕ) → Code (bits b (suc w)) (bitsOf (suc w)) (λ n. n < 2 ^ suc w)
   unfolding bits
@@ -113,9 +113,9 @@ module _ (b : List ℕ) where
     where
       read : (i : ℕ) (y : ℕ × ℕ) (o : Bool) → leb (i + suc w) (8 * length b) ≡ o
           → elim o as (λ z. Judged (ℕ × ℕ)) [ true ↦ passed (field b i (suc w), i + suc w) | false ↦ refused CutSheet ] ≡ passed y
-          → (y .0 < 2 ^ suc w) × Holds i (bitsOf (suc w) (y .0)) (y .1)
+          → (y .0 < 2 ^ suc w) × BitsAre i (bitsOf (suc w) (y .0)) (y .1)
       read i y true q e =
-          subst (λ (z : ℕ × ℕ). (z .0 < 2 ^ suc w) × Holds i (bitsOf (suc w) (z .0)) (z .1)) (same _ y e)
+          subst (λ (z : ℕ × ℕ). (z .0 < 2 ^ suc w) × BitsAre i (bitsOf (suc w) (z .0)) (z .1)) (same _ y e)
           (field-small (suc w) i, field-holds (suc w) i (le-test _ _ q))
       read i y false q e = absurd (never CutSheet y e)
 
@@ -130,7 +130,7 @@ module _ (b : List ℕ) where
         let r = bits-code w .reads i (h .0) (h .1) in
         let j = judge-then why (done (f n)) (h .0 .1) (t n) y (h .2) in
         let q = back n (r .0) (j .0) in
-        subst (λ (z : A × ℕ). ((t (g (z .0)) ≡ true) × (g (z .0) < 2 ^ suc w) × (f (g (z .0)) ≡ z .0)) × Holds i (bitsOf (suc w) (g (z .0))) (z .1)) (same _ y (j .1))
+        subst (λ (z : A × ℕ). ((t (g (z .0)) ≡ true) × (g (z .0) < 2 ^ suc w) × (f (g (z .0)) ≡ z .0)) × BitsAre i (bitsOf (suc w) (g (z .0))) (z .1)) (same _ y (j .1))
         (rw q ((j .0, r .0, refl), r .1));
     writes = λ i y p h.
         bind-on (bits b (suc w)) (λ n. judge why (t n) >> done (f n)) i (g (y .0), y .1) (bits-code w .writes i (g (y .0), y .1) (p .1) h)
@@ -140,22 +140,22 @@ module _ (b : List ℕ) where
 
   -- The same reader goes n times.
   module _ {A : Type 0} (m : Reader A) (k : A → List ℕ) (P : A → Type 0) (c : Code m k P) where
-    Each : ℕ → List A → Type 0
-    Each n l = (length l ≡ n) × ((x : A) → In x l → P x)
+    EachRead : ℕ → List A → Type 0
+    EachRead n l = (length l ≡ n) × ((x : A) → In x l → P x)
 
-    times-reads : (n i : ℕ) (y : List A × ℕ) → times n m i ≡ passed y → Each n (y .0) × Holds i (join (map k (y .0))) (y .1)
-    unfolding times done Holds Each join
-    times-reads zero i y e = subst (λ (z : List A × ℕ). Each 0 (z .0) × Holds i (join (map k (z .0))) (z .1)) (same ([], i) y e) ((refl, λ x h. absurd h), refl)
+    times-reads : (n i : ℕ) (y : List A × ℕ) → times n m i ≡ passed y → EachRead n (y .0) × BitsAre i (join (map k (y .0))) (y .1)
+    unfolding times done BitsAre EachRead join
+    times-reads zero i y e = subst (λ (z : List A × ℕ). EachRead 0 (z .0) × BitsAre i (join (map k (z .0))) (z .1)) (same ([], i) y e) ((refl, λ x h. absurd h), refl)
     times-reads (suc n) i y e =
         let h₁ = bound-by m _ i y e in
         let h₂ = bound-by (times n m) _ _ y (h₁ .2) in
         let r₁ = c .reads i (h₁ .0) (h₁ .1) in
         let r₂ = times-reads n (h₁ .0 .1) (h₂ .0) (h₂ .1) in
-        subst (λ (z : List A × ℕ). Each (suc n) (z .0) × Holds i (join (map k (z .0))) (z .1)) (same _ y (h₂ .2))
+        subst (λ (z : List A × ℕ). EachRead (suc n) (z .0) × BitsAre i (join (map k (z .0))) (z .1)) (same _ y (h₂ .2))
         ((ap suc (r₂ .0 .0), λ x q. one-or P x (h₁ .0 .0) (h₂ .0 .0) q (r₁ .0) (r₂ .0 .1 x)), holds-join (k (h₁ .0 .0)) (join (map k (h₂ .0 .0))) i (h₁ .0 .1) (h₂ .0 .1) (r₁ .1) (r₂ .1))
 
-    times-writes : (n i : ℕ) (l : List A) (j : ℕ) → Each n l → Holds i (join (map k l)) j → times n m i ≡ passed (l, j)
-    unfolding times done Holds Each join
+    times-writes : (n i : ℕ) (l : List A) (j : ℕ) → EachRead n l → BitsAre i (join (map k l)) j → times n m i ≡ passed (l, j)
+    unfolding times done BitsAre EachRead join
     times-writes zero i [] j p h = rw h
     times-writes zero i (x ∷ l) j p h = absurd (omega arith)
     times-writes (suc n) i [] j p h = absurd (omega arith)
@@ -165,7 +165,7 @@ module _ (b : List ℕ) where
         ∙ bind-on (times n m) _ (g .0) (l, j) (times-writes n (g .0) l j (omega arith, λ y q. p .1 y (inr q)) (g .2))
 
     times-code : (n : ℕ) → Code (times n m) (λ l. join (map k l)) (λ l. (length l ≡ n) × ((x : A) → In x l → P x))
-    unfolding Each
+    unfolding EachRead
     times-code n = record { reads = times-reads n; writes = λ i y. times-writes n i (y .0) (y .1) }
 
   -- The same values are said in another way.
@@ -242,19 +242,19 @@ rising-from c [] r h = tt
 rising-from c (x ∷ l) r h = (omega arith, h x (inl refl), above-from c x l r (λ z q. h z (inr q)))
 
 module _ (b : List ℕ) (c : ℕ) (small : c ≤ maxCount) where
-  sub-reads : (n low i : ℕ) (y : List ℕ × ℕ) → subList b c n low i ≡ passed y → Holds b i (join (map (bitsOf 11) (y .0))) (y .1)
-  unfolding subList done Holds join
-  sub-reads zero low i y e = subst (λ (z : List ℕ × ℕ). Holds b i (join (map (bitsOf 11) (z .0))) (z .1)) (same ([], i) y e) refl
+  sub-reads : (n low i : ℕ) (y : List ℕ × ℕ) → subList b c n low i ≡ passed y → BitsAre b i (join (map (bitsOf 11) (y .0))) (y .1)
+  unfolding subList done BitsAre join
+  sub-reads zero low i y e = subst (λ (z : List ℕ × ℕ). BitsAre b i (join (map (bitsOf 11) (z .0))) (z .1)) (same ([], i) y e) refl
   sub-reads (suc n) low i y e =
       let h₁ = bound-by (bits b 11) _ i y e in
       let x = h₁ .0 .0 in
       let h₂ = judge-then BadList _ (h₁ .0 .1) (ltb x c && leb low x) y (h₁ .2) in
       let h₃ = bound-by (subList b c n (suc x)) _ _ y (h₂ .1) in
-      subst (λ (z : List ℕ × ℕ). Holds b i (join (map (bitsOf 11) (z .0))) (z .1)) (same _ y (h₃ .2))
+      subst (λ (z : List ℕ × ℕ). BitsAre b i (join (map (bitsOf 11) (z .0))) (z .1)) (same _ y (h₃ .2))
       (holds-join b (bitsOf 11 x) (join (map (bitsOf 11) (h₃ .0 .0))) i (h₁ .0 .1) (h₃ .0 .1) (bits-code b 10 .reads i (h₁ .0) (h₁ .1) .1) (sub-reads n (suc x) (h₁ .0 .1) (h₃ .0) (h₃ .1)))
 
-  sub-writes : (n low i : ℕ) (l : List ℕ) (j : ℕ) → length l ≡ n → From low c l → Holds b i (join (map (bitsOf 11) l)) j → subList b c n low i ≡ passed (l, j)
-  unfolding subList done Holds join From
+  sub-writes : (n low i : ℕ) (l : List ℕ) (j : ℕ) → length l ≡ n → From low c l → BitsAre b i (join (map (bitsOf 11) l)) j → subList b c n low i ≡ passed (l, j)
+  unfolding subList done BitsAre join From
   sub-writes zero low i [] j q w h = rw h
   sub-writes zero low i (x ∷ l) j q w h = absurd (omega arith)
   sub-writes (suc n) low i [] j q w h = absurd (omega arith)
@@ -291,10 +291,10 @@ module _ (b : List ℕ) (c : ℕ) (small : c ≤ maxCount) where
   AllLists : ℕ → ℕ → List (List ℕ) → Type 0
   AllLists n used ls = (length ls ≡ n) × ((l : List ℕ) → In l ls → AllowedList c l) × (used + sum (map length ls) ≤ maxEntries)
 
-  lists-reads : (n used i : ℕ) (y : List (List ℕ) × ℕ) → used ≤ maxEntries → listsAt b c n used i ≡ passed y → AllLists n used (y .0) × Holds b i (rankBits (y .0)) (y .1)
-  unfolding listsAt done Holds join rankBits AllLists sum
+  lists-reads : (n used i : ℕ) (y : List (List ℕ) × ℕ) → used ≤ maxEntries → listsAt b c n used i ≡ passed y → AllLists n used (y .0) × BitsAre b i (rankBits (y .0)) (y .1)
+  unfolding listsAt done BitsAre join rankBits AllLists sum
   lists-reads zero used i y u e =
-      subst (λ (z : List (List ℕ) × ℕ). AllLists 0 used (z .0) × Holds b i (rankBits (z .0)) (z .1)) (same ([], i) y e) ((refl, λ l q. absurd q, omega arith), refl)
+      subst (λ (z : List (List ℕ) × ℕ). AllLists 0 used (z .0) × BitsAre b i (rankBits (z .0)) (z .1)) (same ([], i) y e) ((refl, λ l q. absurd q, omega arith), refl)
   lists-reads (suc n) used i y u e =
       let h₁ = bound-by (list b c used) _ i y e in
       let l = h₁ .0 .0 in
@@ -302,13 +302,13 @@ module _ (b : List ℕ) (c : ℕ) (small : c ≤ maxCount) where
       let h₂ = bound-by (listsAt b c n (used + length l)) _ _ y (h₁ .2) in
       let ls = h₂ .0 .0 in
       let r₂ = lists-reads n (used + length l) (h₁ .0 .1) (h₂ .0) (r₁ .0 .0) (h₂ .1) in
-      subst (λ (z : List (List ℕ) × ℕ). AllLists (suc n) used (z .0) × Holds b i (rankBits (z .0)) (z .1)) (same _ y (h₂ .2)) (
+      subst (λ (z : List (List ℕ) × ℕ). AllLists (suc n) used (z .0) × BitsAre b i (rankBits (z .0)) (z .1)) (same _ y (h₂ .2)) (
         (ap suc (r₂ .0 .0), λ x q. one-or (AllowedList c) x l ls q (r₁ .0 .1) (r₂ .0 .1 x), omega (arith, r₂ .0 .2)),
         holds-join b (listBits l) (join (map listBits ls)) i (h₁ .0 .1) (h₂ .0 .1) (r₁ .1) (r₂ .1),
       )
 
-  lists-writes : (n used i : ℕ) (ls : List (List ℕ)) (j : ℕ) → AllLists n used ls → Holds b i (rankBits ls) j → listsAt b c n used i ≡ passed (ls, j)
-  unfolding listsAt done Holds join rankBits AllLists sum
+  lists-writes : (n used i : ℕ) (ls : List (List ℕ)) (j : ℕ) → AllLists n used ls → BitsAre b i (rankBits ls) j → listsAt b c n used i ≡ passed (ls, j)
+  unfolding listsAt done BitsAre join rankBits AllLists sum
   lists-writes zero used i [] j p h = rw h
   lists-writes zero used i (l ∷ ls) j p h = absurd (omega arith)
   lists-writes (suc n) used i [] j p h = absurd (omega arith)
@@ -327,23 +327,23 @@ module _ (b : List ℕ) (c : ℕ) (small : c ≤ maxCount) where
 -- ---- the lists of all ranks
 
 -- The lists go by the counts of ranks 1 to R - 1.
-Listed : List ℕ → List (List (List ℕ)) → Type 0
-Listed counts more = (length more ≡ length counts - 1) × ((r : ℕ) → suc r < length counts → AllowedRank (getD counts r 0) (getD counts (suc r) 0) (getD more r []))
+ListsCounted : List ℕ → List (List (List ℕ)) → Type 0
+ListsCounted counts more = (length more ≡ length counts - 1) × ((r : ℕ) → suc r < length counts → AllowedRank (getD counts r 0) (getD counts (suc r) 0) (getD more r []))
 
 module _ (b : List ℕ) where
   rank-lists-reads : (counts : List ℕ) (i : ℕ) (y : List (List (List ℕ)) × ℕ) → ((n : ℕ) → In n counts → n ≤ maxCount) → lists b counts i ≡ passed y
-      → Listed counts (y .0) × Holds b i (join (map rankBits (y .0))) (y .1)
-  unfolding lists done Holds join Listed
+      → ListsCounted counts (y .0) × BitsAre b i (join (map rankBits (y .0))) (y .1)
+  unfolding lists done BitsAre join ListsCounted
   rank-lists-reads [] i y s e =
-      subst (λ (z : List (List (List ℕ)) × ℕ). Listed [] (z .0) × Holds b i (join (map rankBits (z .0))) (z .1)) (same ([], i) y e) ((refl, λ r h. absurd (omega arith)), refl)
+      subst (λ (z : List (List (List ℕ)) × ℕ). ListsCounted [] (z .0) × BitsAre b i (join (map rankBits (z .0))) (z .1)) (same ([], i) y e) ((refl, λ r h. absurd (omega arith)), refl)
   rank-lists-reads (c ∷ []) i y s e =
-      subst (λ (z : List (List (List ℕ)) × ℕ). Listed (c ∷ []) (z .0) × Holds b i (join (map rankBits (z .0))) (z .1)) (same ([], i) y e) ((refl, λ r h. absurd (omega arith)), refl)
+      subst (λ (z : List (List (List ℕ)) × ℕ). ListsCounted (c ∷ []) (z .0) × BitsAre b i (join (map rankBits (z .0))) (z .1)) (same ([], i) y e) ((refl, λ r h. absurd (omega arith)), refl)
   rank-lists-reads (c ∷ d ∷ counts) i y s e =
       let h₁ = bound-by (listsAt b c d 0) _ i y e in
       let r₁ = lists-code b c (s c (inl refl)) d .reads i (h₁ .0) (h₁ .1) in
       let h₂ = bound-by (lists b (d ∷ counts)) _ _ y (h₁ .2) in
       let r₂ = rank-lists-reads (d ∷ counts) (h₁ .0 .1) (h₂ .0) (λ n q. s n (inr q)) (h₂ .1) in
-      subst (λ (z : List (List (List ℕ)) × ℕ). Listed (c ∷ d ∷ counts) (z .0) × Holds b i (join (map rankBits (z .0))) (z .1)) (same _ y (h₂ .2)) (
+      subst (λ (z : List (List (List ℕ)) × ℕ). ListsCounted (c ∷ d ∷ counts) (z .0) × BitsAre b i (join (map rankBits (z .0))) (z .1)) (same _ y (h₂ .2)) (
         (omega (arith, r₂ .0 .0), each (h₁ .0 .0) (h₂ .0 .0) (r₁ .0) (r₂ .0 .1)),
         holds-join b (rankBits (h₁ .0 .0)) (join (map rankBits (h₂ .0 .0))) i (h₁ .0 .1) (h₂ .0 .1) (r₁ .1) (r₂ .1),
       )
@@ -355,8 +355,8 @@ module _ (b : List ℕ) where
       each ls more a f (suc r) h = f r (omega arith)
 
   rank-lists-writes : (counts : List ℕ) (i : ℕ) (more : List (List (List ℕ))) (j : ℕ) → ((n : ℕ) → In n counts → n ≤ maxCount)
-      → Listed counts more → Holds b i (join (map rankBits more)) j → lists b counts i ≡ passed (more, j)
-  unfolding lists done Holds join Listed
+      → ListsCounted counts more → BitsAre b i (join (map rankBits more)) j → lists b counts i ≡ passed (more, j)
+  unfolding lists done BitsAre join ListsCounted
   rank-lists-writes [] i [] j s p h = rw h
   rank-lists-writes [] i (ls ∷ more) j s p h = absurd (omega (arith, p .0))
   rank-lists-writes (c ∷ []) i [] j s p h = rw h
@@ -384,28 +384,28 @@ module _ (b : List ℕ) where
   counts-code n = times-code b (count b) (bitsOf 12) (λ c. (0 < c) × (c ≤ maxCount)) (count-code b) n
 
   -- Fewer than eight bits are left, and they are 0.
-  pub record Ended (j : ℕ) : Type 0 where
+  pub record BitsEnded (j : ℕ) : Type 0 where
     pub short : 8 * length b - j < 8
     pub zeros : field b j (8 * length b - j) ≡ 0
 
   end-test : ℕ → Bool
   end-test i = ltb (8 * length b - i) 8 && eqb (field b i (8 * length b - i)) 0
 
-  end-reads : {A : Type 0} (k : Reader A) (i : ℕ) (y : A × ℕ) → (end b >> k) i ≡ passed y → Ended i × (k i ≡ passed y)
+  end-reads : {A : Type 0} (k : Reader A) (i : ℕ) (y : A × ℕ) → (end b >> k) i ≡ passed y → BitsEnded i × (k i ≡ passed y)
   unfolding end end-test _>>_
   end-reads k i y e =
       let h = judge-then CutSheet k i (end-test i) y e in
       let t = both (ltb (8 * length b - i) 8) (eqb (field b i (8 * length b - i)) 0) (h .0) in
       (record { short = lt-test (8 * length b - i) 8 (t .0); zeros = eqb→eq (field b i (8 * length b - i)) 0 (subst T (sym (t .1)) tt) }, h .1)
 
-  end-writes : {A : Type 0} (k : Reader A) (i : ℕ) → Ended i → (end b >> k) i ≡ k i
+  end-writes : {A : Type 0} (k : Reader A) (i : ℕ) → BitsEnded i → (end b >> k) i ≡ k i
   unfolding end end-test _>>_
   end-writes k i w =
       judge-on CutSheet k i (end-test i)
       (and-true (ltb (8 * length b - i) 8) (eqb (field b i (8 * length b - i)) 0) (le-true (suc (8 * length b - i)) 8 (w .short)) (rw (w .zeros)))
 
-  pub sheet-reads : (y : Parsed × ℕ) → sheet b 0 ≡ passed y → Allowed (y .0) × Holds b 0 (packBits (y .0)) (y .1) × Ended (y .1)
-  unfolding sheet done packBits Listed
+  pub sheet-reads : (y : Parsed × ℕ) → sheet b 0 ≡ passed y → Allowed (y .0) × BitsAre b 0 (packBits (y .0)) (y .1) × BitsEnded (y .1)
+  unfolding sheet done packBits ListsCounted
   sheet-reads y e =
       let h₁ = bound-by (rank b) _ 0 y e in
       let R = h₁ .0 .0 in
@@ -423,7 +423,7 @@ module _ (b : List ℕ) where
       let more = h₅ .0 .0 in
       let r₅ = rank-lists-reads counts (h₄ .0 .1) (h₅ .0) (λ n q. r₃ .0 .1 n q .1) (h₅ .1) in
       let h₆ = end-reads _ (h₅ .0 .1) y (h₅ .2) in
-      subst (λ (z : Parsed × ℕ). Allowed (z .0) × Holds b 0 (packBits (z .0)) (z .1) × Ended (z .1)) (same _ y (h₆ .1)) (
+      subst (λ (z : Parsed × ℕ). Allowed (z .0) × BitsAre b 0 (packBits (z .0)) (z .1) × BitsEnded (z .1)) (same _ y (h₆ .1)) (
         record { tall = r₁ .0; wide = r₂ .0; counted = r₃ .0 .0; counts = r₃ .0 .1; pointed = r₄ .0 .0; points = r₄ .0 .1; listed = r₅ .0 .0; lists = r₅ .0 .1 },
         holds-join b (bitsOf 3 R) (bitsOf 3 D ++ (join (map (bitsOf 12) counts) ++ (join (map pointBits points) ++ join (map rankBits more)))) 0 (h₁ .0 .1) (h₅ .0 .1) (r₁ .1)
             (holds-join b (bitsOf 3 D) (join (map (bitsOf 12) counts) ++ (join (map pointBits points) ++ join (map rankBits more))) (h₁ .0 .1) (h₂ .0 .1) (h₅ .0 .1) (r₂ .1)
@@ -432,8 +432,8 @@ module _ (b : List ℕ) where
         h₆ .0,
       )
 
-  pub sheet-writes : (p : Parsed) (j : ℕ) → Allowed p → Holds b 0 (packBits p) j → Ended j → sheet b 0 ≡ passed (p, j)
-  unfolding sheet done packBits Listed
+  pub sheet-writes : (p : Parsed) (j : ℕ) → Allowed p → BitsAre b 0 (packBits p) j → BitsEnded j → sheet b 0 ≡ passed (p, j)
+  unfolding sheet done packBits ListsCounted
   sheet-writes p j w h z =
       let R = p .rank in
       let D = p .dimension in

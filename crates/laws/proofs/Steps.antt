@@ -66,8 +66,8 @@ module _ (s : Solid) (cls : Classes) where
     pub fixed : (r : ℕ) → ¬ Proper s r → typesAt S r ≡ typesAt (start s cls) r
 
 -- The state S parts no more than T.
-abbrev pub Below : State → State → Type 0
-Below S T = (r : ℕ) → Coarser 0 0 (typesAt S r) (typesAt T r)
+abbrev pub PartsNoMore : State → State → Type 0
+PartsNoMore S T = (r : ℕ) → Coarser 0 0 (typesAt S r) (typesAt T r)
 
 -- ---- the start
 
@@ -170,7 +170,7 @@ module _ (s : Solid) (cls : Classes) (S : State) (g : Good s cls S) (x : Step) (
       (renumber-coarse eqList lists [] (keys s S x) e f (rw keys-length he) (rw keys-length hf) (key-at e he ∙ q ∙ sym (key-at f hf)))
 
   -- A step only parts.
-  pub step-parts : Below S (step s S x)
+  pub step-parts : PartsNoMore S (step s S x)
   step-parts r = go (ℕ-discrete r (at x))
     where
       go : Dec (r ≡ at x) → Coarser 0 0 (typesAt S r) (typesAt (step s S x) r)

@@ -26,7 +26,7 @@ pub record Before (F G : Flag) : Type 0 where
   pub above : (q : ℕ) → rank < q → elementAt F q ≡ elementAt G q
 
 -- `flags` lists the maximal chains, each once, in the order of `Before`.
-pub record Listed (s : Solid) : Type 0 where
+pub record FlagsListed (s : Solid) : Type 0 where
   pub exact : (F : Flag) → In F (flags s) ↔ IsFlag s F
   pub once : (i j : ℕ) → i < length (flags s) → j < length (flags s) → getD (flags s) i [] ≡ getD (flags s) j [] → i ≡ j
   pub order : (i j : ℕ) → i < j → j < length (flags s) → Before (getD (flags s) i []) (getD (flags s) j [])
@@ -43,7 +43,7 @@ pub record Changed (s : Solid) (r : ℕ) (F : Flag) : Type 0 where
   pub twice : change s r (change s r F) ≡ F
 
 abbrev pub EveryFlagOnce : Type 0
-EveryFlagOnce = (s : Solid) → Sound s → Listed s
+EveryFlagOnce = (s : Solid) → Sound s → FlagsListed s
 
 -- Where every element but the least has a sub, the first flag is a flag, and it is the first that is listed.
 abbrev pub EveryFirst : Type 0
@@ -57,7 +57,7 @@ EveryChange = (s : Solid) → Sound s → diamond s ≡ true → (r : ℕ) → P
 -- This is what section 5 says of a solid's flags.
 pub record FlagsOf (s : Solid) : Type 0 where
   -- The iterator "gives every flag once, the sub at rank 1 moving fastest".
-  pub listed : Listed s
+  pub listed : FlagsListed s
   -- `first_flag` is a flag, and it is the first that the iterator gives.
   pub first : IsFlag s (firstFlag s)
   pub starts : getD (flags s) 0 [] ≡ firstFlag s

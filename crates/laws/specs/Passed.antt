@@ -41,7 +41,7 @@ abbrev pub EveryPassed : Type 0
 EveryPassed = (b : List ℕ) (words floats : ℕ) (c : Concrete) → preflight b words floats ≡ passed c → Passed b c
 
 -- The exchange of facets keeps what section 2 and the diamond ask, every rank's size, and the verdict of the test behind refusal 5.
-pub record Kept (s t : Solid) : Type 0 where
+pub record ExchangeKept (s t : Solid) : Type 0 where
   pub sound : Sound t
   pub diamonds : diamond t ≡ true
   pub rank : top t ≡ top s
@@ -52,4 +52,4 @@ pub record Kept (s t : Solid) : Type 0 where
 abbrev pub EveryExchange : Type 0
 EveryExchange =
     (s : Solid) → Sound s → diamond s ≡ true → ((r e : ℕ) → e < size s (suc r) → 0 < length (subs s (suc r) e))
-    → 2 ≤ top s → (f : ℕ) → f < size s (top s - 1) → Kept s (exchangedIn s f)
+    → 2 ≤ top s → (f : ℕ) → f < size s (top s - 1) → ExchangeKept s (exchangedIn s f)

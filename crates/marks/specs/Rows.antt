@@ -4,7 +4,7 @@ use mathlib.Core.Path.{_≡_}
 use Prim.Native.Nat.{ℕ, _+_, _-_, _≤_, _<_}
 use mathlib.Core.Bool.{Bool, true, _&&_}
 use mathlib.Core.List.{List}
-use lib.ListN.{length, getD, take, drop}
+use lib.ListN.{length, getD}
 use lib.Dec.{eqb, ltb}
 use lib.Ieee.{Float, nan}
 use Rattle.spec.specs.Lists.{range, every, noRepeats}
@@ -15,7 +15,7 @@ use Rattle.spec.specs.Classes.{distances, classTable, byTable}
 use Rattle.spec.specs.Search.{markOf}
 use Rattle.ranked.specs.declared.Shape.{Shape}
 use Rattle.ranked.specs.Words.{firstAt, sizeAt, total, absIn, Held}
-use Rattle.ranked.specs.Layout.{proper, classesAt, solidOn}
+use Rattle.ranked.specs.Layout.{proper, classesAt, solidOn, classesIn}
 use Rattle.geometry.specs.Classes.{sameClass}
 
 -- Tells whether the row's entries are all vertices, of which there are as many as entries, and none is there twice.
@@ -37,7 +37,7 @@ markOn sh w fs = markOf (absIn sh w) (classesOn sh w fs)
 -- The class of each proper element stands in the floats, behind the coordinates and the list of distances.
 pub record ClassesIn (sh : Shape) (w : List ℕ) (fs : List Float) : Type 0 where
   pub room : classesAt sh + proper sh ≤ length fs
-  pub cells : take (proper sh) (drop (classesAt sh) fs) ≡ classes (distances (solidOn sh w fs))
+  pub cells : classesIn sh fs ≡ classes (distances (solidOn sh w fs))
 
 -- The cells hold the classes of the n elements of rank r: two of these share a class exactly when their cells are one class.
 abbrev pub ClassesOf : Classes → ℕ → ℕ → List Float → Type 0

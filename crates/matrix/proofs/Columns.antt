@@ -63,7 +63,7 @@ abbrev pub begin : Matrix → Work
 begin a = record { rows = a; pivots = []; swaps = 0 }
 
 -- The matrix a is what the columns before c made of a₀, t is the product of their pivots, and odd says whether their swaps are odd in number.
-pub record Run (d : ℕ) (a₀ a : Matrix) (t : Float) (odd : Bool) (c : ℕ) : Type 0 where
+pub record ColumnsDone (d : ℕ) (a₀ a : Matrix) (t : Float) (odd : Bool) (c : ℕ) : Type 0 where
   pub pivots : List Float
   pub swaps : ℕ
   pub count : length pivots ≡ c
@@ -71,7 +71,7 @@ pub record Run (d : ℕ) (a₀ a : Matrix) (t : Float) (odd : Bool) (c : ℕ) : 
   pub parity-is : odd ≡ eqb (swaps % 2) 1
   pub left : eliminate (range c (d - c)) (record { rows = a; pivots = pivots; swaps = swaps }) ≡ eliminate (range 0 d) (begin a₀)
 
-pub first : (d : ℕ) (a : Matrix) → Run d a a oneF false 0
+pub first : (d : ℕ) (a : Matrix) → ColumnsDone d a a oneF false 0
 unfolding product
 first d a = record { pivots = []; swaps = 0; count = refl; product-is = refl; parity-is = refl; left = rw sub-zero }
 
@@ -84,7 +84,7 @@ parity-next : (b odd : Bool) (k : ℕ) → odd ≡ eqb (k % 2) 1 → elim b as (
 parity-next true odd k e = e
 parity-next false odd k e = ap not e ∙ flip k
 
-module _ {d : ℕ} {a₀ a : Matrix} {t : Float} {odd : Bool} {c : ℕ} (r : Run d a₀ a t odd c) where
+module _ {d : ℕ} {a₀ a : Matrix} {t : Float} {odd : Bool} {c : ℕ} (r : ColumnsDone d a₀ a t odd c) where
   abbrev work : Work
   work = record { rows = a; pivots = r .pivots; swaps = r .swaps }
 
@@ -97,7 +97,7 @@ module _ {d : ℕ} {a₀ a : Matrix} {t : Float} {odd : Bool} {c : ℕ} (r : Run
     stop e = sym (turn h) ∙ eliminate-none c _ work (column-none c work p x ep ex e)
 
     pub next : (b : Matrix) (u : Float) (o : Bool) → eq x zeroF ≡ false → b ≡ nextRows a p x c →
-        u ≡ elim (eqb c 0) as (λ _. Float) [ true ↦ x | false ↦ times t x ] → o ≡ elim (eqb p c) as (λ _. Bool) [ true ↦ odd | false ↦ not odd ] → Run d a₀ b u o (c + 1)
+        u ≡ elim (eqb c 0) as (λ _. Float) [ true ↦ x | false ↦ times t x ] → o ≡ elim (eqb p c) as (λ _. Bool) [ true ↦ odd | false ↦ not odd ] → ColumnsDone d a₀ b u o (c + 1)
     next b u o e eb eu eo = record {
       pivots = r .pivots ++ x ∷ [];
       swaps = elim (eqb p c) [ true ↦ r .swaps | false ↦ suc (r .swaps) ];
@@ -129,7 +129,7 @@ module _ (d : ℕ) (m : List (List Float)) (h : d ≤ length m) (a₀ : Matrix) 
   unfolding determinant
   determinant-none e = rw (begins ∙ e, determinant)
 
-  module _ {a : Matrix} {t : Float} {odd : Bool} {c : ℕ} (k : d ≤ c) (r : Run d a₀ a t odd c) where
+  module _ {a : Matrix} {t : Float} {odd : Bool} {c : ℕ} (k : d ≤ c) (r : ColumnsDone d a₀ a t odd c) where
     pub inverse-end : some (map (drop d) a) ≡ inverse (corner d m)
     unfolding inverse
     inverse-end = rw (begins ∙ end r k, inverse, length-corner d m h)

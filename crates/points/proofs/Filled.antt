@@ -16,7 +16,7 @@ use Rattle.spec.specs.Matrix.{Vector, Matrix, mulVec}
 use Rattle.spec.specs.Points.{find, found, rowOf}
 use Rattle.laws.proofs.Lists.{getD-map}
 use Rattle.laws.proofs.CopyLaws.{found-near, not-found}
-use Rattle.points.specs.Cells.{Closed, Opened, Tabled}
+use Rattle.points.specs.Cells.{Complete, Opened, Tabled}
 
 -- ---- a number in a list
 
@@ -50,7 +50,7 @@ module _ (x : ℕ) where
 
 -- ---- the loop's invariant: k cells are written, and none is x
 
-pub record Filled (x : ℕ) (new before buffer : List ℕ) (k : ℕ) : Type 0 where
+pub record CellsFilled (x : ℕ) (new before buffer : List ℕ) (k : ℕ) : Type 0 where
   pub within : k ≤ length new
   pub is : buffer ≡ take k new ++ drop k before
   pub none : holds eqb x (take k new) ≡ false
@@ -61,11 +61,11 @@ pub record Piece (new : List ℕ) (k w : ℕ) (piece : List ℕ) : Type 0 where
   pub is : piece ≡ take w (drop k new)
 
 module _ {x : ℕ} {new before : List ℕ} where
-  pub filled-none : Filled x new before before 0
+  pub filled-none : CellsFilled x new before before 0
   unfolding holds
   filled-none = record { within = omega arith; is = refl; none = refl }
 
-  module _ {buffer : List ℕ} {k : ℕ} (f : Filled x new before buffer k) where
+  module _ {buffer : List ℕ} {k : ℕ} (f : CellsFilled x new before buffer k) where
     start : take k buffer ≡ take k new
     start = ap (take k) (f .is) ∙ take-at (take k new) (drop k before) k (length-take-le k new (f .within))
 
@@ -79,7 +79,7 @@ module _ {x : ℕ} {new before : List ℕ} where
         rw e (sym (drop-drop (n - k) k buffer) ∙ ap (drop (n - k)) rest ∙ drop-drop (n - k) k before)
 
     module _ {w : ℕ} {piece : List ℕ} (p : Piece new k w piece) where
-      pub filled-next : {after : List ℕ} → holds eqb x piece ≡ false → after ≡ take k buffer ++ (piece ++ drop w (drop k buffer)) → Filled x new before after (k + w)
+      pub filled-next : {after : List ℕ} → holds eqb x piece ≡ false → after ≡ take k buffer ++ (piece ++ drop w (drop k buffer)) → CellsFilled x new before after (k + w)
       filled-next o e =
           let more : take (k + w) new ≡ take k new ++ piece = take-add k w new ∙ ap (λ (y : List ℕ). take k new ++ y) (sym (p .is)) in
           record {
@@ -111,7 +111,7 @@ module _ {x : ℕ} {new before : List ℕ} where
                 ∙ beyond n (f .within);
           }
 
-  pub filled-end : {buffer : List ℕ} {k : ℕ} → length new ≤ k → Filled x new before buffer k → Closed x new before buffer
+  pub filled-end : {buffer : List ℕ} {k : ℕ} → length new ≤ k → CellsFilled x new before buffer k → Complete x new before buffer
   unfolding written
   filled-end {buffer} {k} h f =
       let e : k ≡ length new = omega (arith, f .within) in
@@ -167,7 +167,7 @@ module _ (cs : List Vector) (m : Matrix) where
   all-found n e before after true t = sym (every-below n (rowOf cs m) (rw e at below) ∙ ap not (t .none))
   all-found n e before after false t = sym (every-below n (rowOf cs m) (rw e at below) ∙ ap not (t .some))
 
-  -- The row, in the cells.
-  pub row-read : (n : ℕ) → length cs ≡ n → {before after : List ℕ} → Closed n (rowOf cs m) before after → take n after ≡ rowOf cs m
+  -- The first cells hold the row.
+  pub row-read : (n : ℕ) → length cs ≡ n → {before after : List ℕ} → Complete n (rowOf cs m) before after → take n after ≡ rowOf cs m
   unfolding written
   row-read n e t = ap (take n) (t .is) ∙ take-at (rowOf cs m) _ n (length-row cs m ∙ e)

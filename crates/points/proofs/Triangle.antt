@@ -124,7 +124,7 @@ sign (inf s) = s
 sign (fin s m e) = s
 
 -- The numbers x and y are finite, and at most a / b apart.
-pub record AtMost (a b : ℕ) (x y : Float) : Type 0 where
+pub record ApartAtMost (a b : ℕ) (x y : Float) : Type 0 where
   pub first : T (finite x)
   pub second : T (finite y)
   pub most : gap (sign x) (num x * den y) (sign y) (num y * den x) * b ≤ a * (den x * den y)
@@ -157,7 +157,7 @@ add-fractions s t u x y z p q r a b c Q h k =
     le-of-mul-le-mul-right (bound (gap s (x * r) u (z * p)) (gap s (x * q) t (y * p)) (gap u (z * q) t (y * r)) a b c p q r all h k) Q
 
 -- Two numbers near a third are at most as far apart as both are from it together.
-pub apart-add : {a b c : ℕ} {x y z : Float} → AtMost a b x y → AtMost c b z y → AtMost (a + c) b x z
+pub apart-add : {a b c : ℕ} {x y z : Float} → ApartAtMost a b x y → ApartAtMost c b z y → ApartAtMost (a + c) b x z
 apart-add {a} {b} {c} {x} {y} {z} h k = record {
   first = h .first;
   second = k .first;
@@ -206,14 +206,14 @@ finite-below (fin s m e) w W h = tt
 
 -- Numbers whose difference rounds to w at most are at most any a / b apart that rounds to more than w.
 pub close-apart : (w : Float) (a b : ℕ) → 0 < b → T (positive w) → T (positive (round binary64 false a b)) → le (round binary64 false a b) w ≡ false →
-    (x y : Float) → closeTo w x y ≡ true → AtMost a b x y
+    (x y : Float) → closeTo w x y ≡ true → ApartAtMost a b x y
 unfolding closeTo
 close-apart w a b B W P more x y h =
     let close : T (le (absF (minus x y)) w) = of-true (le (absF (minus x y)) w) h in
     let both = sub-finite binary64 x y (finite-below (minus x y) w W close) in
     go x y (both .0) (both .1) close
   where
-    go : (x y : Float) → T (finite x) → T (finite y) → T (le (absF (minus x y)) w) → AtMost a b x y
+    go : (x y : Float) → T (finite x) → T (finite y) → T (le (absF (minus x y)) w) → ApartAtMost a b x y
     go nan y X Y k = absurd X
     go (inf s) y X Y k = absurd X
     go (fin s m e) nan X Y k = absurd Y
@@ -226,7 +226,7 @@ close-apart w a b B W P more x y h =
     }
 
 -- Numbers that are at most a / b apart have a difference that rounds to at most what a / b rounds to.
-pub apart-close : (a b : ℕ) → 0 < b → (x y : Float) → AtMost a b x y → closeTo (round binary64 false a b) x y ≡ true
+pub apart-close : (a b : ℕ) → 0 < b → (x y : Float) → ApartAtMost a b x y → closeTo (round binary64 false a b) x y ≡ true
 unfolding closeTo
 apart-close a b B nan y h = absurd (h .first)
 apart-close a b B (inf s) y h = absurd (h .first)
@@ -239,12 +239,12 @@ apart-close a b B (fin s m e) (fin t n d) h =
 -- ---- EPS
 
 -- Numbers within EPS are at most 2 ^ -23 apart.
-pub eps-apart : (x y : Float) → closeTo eps x y ≡ true → AtMost 1 (2 ^ 23) x y
+pub eps-apart : (x y : Float) → closeTo eps x y ≡ true → ApartAtMost 1 (2 ^ 23) x y
 unfolding eps ofBits round le
 eps-apart x y h = close-apart eps 1 (2 ^ 23) (pow-pos 23) tt tt refl x y h
 
 -- Numbers that are at most twice as far apart are within 2 ^ -22.
-pub apart-wide : (x y : Float) → AtMost 2 (2 ^ 23) x y → closeTo wideF x y ≡ true
+pub apart-wide : (x y : Float) → ApartAtMost 2 (2 ^ 23) x y → closeTo wideF x y ≡ true
 unfolding wideF ofBits round
 apart-wide x y h = apart-close 2 (2 ^ 23) (pow-pos 23) x y h
 

@@ -10,7 +10,7 @@ use lib.Dec.{eqb}
 use Rattle.spec.specs.Lists.{holds, written}
 
 -- The numbers `new` are a buffer's first cells, and none of them is x.
-pub record Closed (x : ℕ) (new before after : List ℕ) : Type 0 where
+pub record Complete (x : ℕ) (new before after : List ℕ) : Type 0 where
   pub none : holds eqb x new ≡ false
   pub is : after ≡ written new before
 
@@ -21,5 +21,5 @@ pub record Opened (x : ℕ) (new before after : List ℕ) : Type 0 where
 
 -- Says what a table holds by the answer, where `new` are its cells.
 abbrev pub Tabled : (x : ℕ) (new before after : List ℕ) → Bool → Type 0
-Tabled x new before after true = Closed x new before after
+Tabled x new before after true = Complete x new before after
 Tabled x new before after false = Opened x new before after

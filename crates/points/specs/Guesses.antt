@@ -45,8 +45,8 @@ abbrev pub free : ℕ
 free = 65535
 
 -- One place at most has changed, and it has the number k.
-abbrev pub Stored : ℕ → List ℕ → List ℕ → Type 0
-Stored k before after = (after ≡ before) ⊎ ((p : ℕ) × (after ≡ set before p k))
+abbrev pub PlaceFilled : ℕ → List ℕ → List ℕ → Type 0
+PlaceFilled k before after = (after ≡ before) ⊎ ((p : ℕ) × (after ≡ set before p k))
 
 -- Where a place of the table has the number of a point, the points are lone.
 pub record Guesses (ps : List Vector) (table : List ℕ) : Type 0 where

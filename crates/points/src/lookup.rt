@@ -12,7 +12,7 @@ ghost use Rattle.spec.specs.Points.{find, rowOf};
 ghost use Rattle.spec.specs.Lists.{parts};
 ghost use Rattle.matrix.specs.Reading.{corner};
 ghost use Rattle.points.specs.Finding.{foundAt};
-ghost use Rattle.points.specs.Guesses.{places, free, wideF, within, Lone, Clear, Stored, Guesses, Guessed};
+ghost use Rattle.points.specs.Guesses.{places, free, wideF, within, Lone, Clear, PlaceFilled, Guesses, Guessed};
 ghost use Rattle.points.specs.Cells.{Tabled};
 use crate::Found;
 use crate::find;
@@ -58,7 +58,7 @@ fn place(q: [f64; DIMENSION], d: usize) -> usize
 // on and past the last one from the first on. No other place changes.
 pub fn store(table: &mut [u16], from: usize, tries: usize, k: usize)
     requires { ⌜ (from < length (now table)) × (tries ≤ places) × (k < free) ⌝ }
-    ensures { λ _. ⌜ Stored k (now (table .entry)) (now (table .exit)) ⌝ }
+    ensures { λ _. ⌜ PlaceFilled k (now (table .entry)) (now (table .exit)) ⌝ }
 {
     let size = table.len();
     let mut i: usize = 0;

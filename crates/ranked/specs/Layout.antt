@@ -6,7 +6,7 @@ use Prim.Native.Nat.{ℕ, zero, suc, _+_, _-_, _*_, _/_}
 use Rattle.ranked.specs.declared.Shape.{Shape}
 use Rattle.ranked.specs.Words.{firstAt, sizeAt, total, listsOf, absIn}
 use mathlib.Core.List.{List}
-use lib.ListN.{take}
+use lib.ListN.{take, drop}
 use lib.Ieee.{Float}
 use Rattle.spec.specs.Lists.{parts}
 use Rattle.spec.specs.Solid.{Concrete}
@@ -71,6 +71,10 @@ classesAt sh = coordinates sh + proper sh
 -- Gives the float that holds the class of element e of rank r.
 abbrev pub classAt : Shape → ℕ → ℕ → ℕ
 classAt sh r e = classesAt sh + (before sh r + e)
+
+-- Gives the classes of the proper elements, by rising rank and number.
+abbrev pub classesIn : Shape → List Float → List Float
+classesIn sh fs = take (proper sh) (drop (classesAt sh) fs)
 
 -- ---- the solid
 

@@ -30,17 +30,17 @@ const ROWS: usize = 32768;
 
 const MARKS: usize = 2048;
 
-// This is the number of the last of the four calls.
-const CALLS: usize = 3;
+// The four calls have the numbers from 0 to this.
+const LAST_CALL: usize = 3;
 
 // These are the outputs of a search: floats, cells and bytes.
-enum Output {
+enum SearchOutput {
     Matrices,
     Rows,
     Marks,
 }
 
-// Writes a number of at most five decimal digits: no number here is larger.
+// Writes a number, none of which is 100,000 or more, as five decimal digits.
 fn write_number(run: Run, n: u64) -> Run {
     let b = [
         writing::digit(n / 10000 % 10),
@@ -61,31 +61,31 @@ fn write_gap(run: Run, last: bool) -> Run {
 }
 
 // Returns how many entries the output has.
-fn length_of(output: Output, matrices: &[f64], rows: &[u16], marks: &[u8]) -> usize
+fn length_of(output: SearchOutput, matrices: &[f64], rows: &[u16], marks: &[u8]) -> usize
     ensures { λ r. ⌜ r ≡ lengthOf output (now (matrices .entry)) (now (rows .entry)) (now (marks .entry)) ⌝ }
 {
     match output {
-        Output::Matrices => matrices.len(),
-        Output::Rows => rows.len(),
-        Output::Marks => marks.len(),
+        SearchOutput::Matrices => matrices.len(),
+        SearchOutput::Rows => rows.len(),
+        SearchOutput::Marks => marks.len(),
     }
 }
 
 // Returns an entry of the output as a number. That of a float is its bit pattern.
-fn entry(output: Output, i: usize, matrices: &[f64], rows: &[u16], marks: &[u8]) -> u64
+fn entry(output: SearchOutput, i: usize, matrices: &[f64], rows: &[u16], marks: &[u8]) -> u64
     requires { ⌜ i < lengthOf output (now matrices) (now rows) (now marks) ⌝ }
 {
     match output {
-        Output::Matrices => bits::pattern(matrices[i]),
-        Output::Rows => wire::cell_number(rows[i]),
-        Output::Marks => wire::byte_number(marks[i]),
+        SearchOutput::Matrices => bits::pattern(matrices[i]),
+        SearchOutput::Rows => wire::cell_number(rows[i]),
+        SearchOutput::Marks => wire::byte_number(marks[i]),
     }
 }
 
 // Writes the number of an entry: in hexadecimal digits where it is a pattern, and else in decimal ones.
-fn write_entry(run: Run, output: Output, n: u64) -> Run {
+fn write_entry(run: Run, output: SearchOutput, n: u64) -> Run {
     match output {
-        Output::Matrices => writing::pattern(run, n),
+        SearchOutput::Matrices => writing::pattern(run, n),
         _ => write_number(run, n),
     }
 }
@@ -93,7 +93,7 @@ fn write_entry(run: Run, output: Output, n: u64) -> Run {
 // Writes an output, with `line` entries on each line.
 fn write_output(
     run: Run,
-    output: Output,
+    output: SearchOutput,
     line: usize,
     matrices: &[f64],
     rows: &[u16],
@@ -114,17 +114,17 @@ fn write_output(
 }
 
 // Returns the digest after the number of one more entry.
-fn digested(state: u64, output: Output, n: u64) -> u64
+fn digested(state: u64, output: SearchOutput, n: u64) -> u64
     requires { ⌜ state < 2 ^ 44 ⌝ }
     ensures { λ r. ⌜ r < 2 ^ 44 ⌝ }
 {
     match output {
-        Output::Matrices => digests::pattern(state, n),
+        SearchOutput::Matrices => digests::pattern(state, n),
         _ => digests::piece(state, n),
     }
 }
 
-fn digest(output: Output, matrices: &[f64], rows: &[u16], marks: &[u8]) -> u64 {
+fn digest(output: SearchOutput, matrices: &[f64], rows: &[u16], marks: &[u8]) -> u64 {
     let n = length_of(output, matrices, rows, marks);
     let mut state = digests::FIRST;
     let mut i: usize = 0;
@@ -154,15 +154,22 @@ fn write_outputs(run: Run, matrices: &[f64], rows: &[u16], marks: &[u8]) -> Run 
     let n = marks.len();
     let m = to_a_line(matrices.len(), n);
     let r = to_a_line(rows.len(), n);
-    let a = write_output(run, Output::Matrices, m, matrices, rows, marks);
-    let b = write_output(a, Output::Rows, r, matrices, rows, marks);
-    write_output(b, Output::Marks, to_a_line(n, 1), matrices, rows, marks)
+    let a = write_output(run, SearchOutput::Matrices, m, matrices, rows, marks);
+    let b = write_output(a, SearchOutput::Rows, r, matrices, rows, marks);
+    write_output(
+        b,
+        SearchOutput::Marks,
+        to_a_line(n, 1),
+        matrices,
+        rows,
+        marks,
+    )
 }
 
 fn write_digests(run: Run, matrices: &[f64], rows: &[u16], marks: &[u8]) -> Run {
-    let m = digest(Output::Matrices, matrices, rows, marks);
-    let r = digest(Output::Rows, matrices, rows, marks);
-    let k = digest(Output::Marks, matrices, rows, marks);
+    let m = digest(SearchOutput::Matrices, matrices, rows, marks);
+    let r = digest(SearchOutput::Rows, matrices, rows, marks);
+    let k = digest(SearchOutput::Marks, matrices, rows, marks);
     let a = write_gap(writing::pattern(run, m), false);
     let b = write_gap(writing::pattern(a, r), false);
     write_gap(writing::pattern(b, k), true)
@@ -226,8 +233,8 @@ fn call(
 
 // Reads one record and answers it.
 pub fn replay_one(run: Run) -> Run {
-    let kind = reading::number(run.from, CALLS);
-    if kind > CALLS {
+    let kind = reading::number(run.from, LAST_CALL);
+    if kind > LAST_CALL {
         return writing::finished(run);
     }
     let s = reading::number(run.from, BYTES);

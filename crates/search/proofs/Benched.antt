@@ -15,7 +15,7 @@ use Rattle.laws.proofs.Lists.{map-same, of-range}
 use Rattle.laws.proofs.Exchange.{exchange-twice, exchange-none}
 use Rattle.ranked.specs.declared.Shape.{Shape}
 use Rattle.ranked.specs.Words.{sizeAt, listsOf, absIn}
-use Rattle.ranked.specs.Layout.{proper, typesAt, scratchAt, fingerprintsAt, coordinates, classesAt, solidIn}
+use Rattle.ranked.specs.Layout.{typesAt, scratchAt, fingerprintsAt, coordinates, solidIn, classesIn}
 use Rattle.preflight.specs.Bench.{Bench, Laid}
 use Rattle.ranked.proofs.Solids.{in-order, coordinates-are}
 use Rattle.preflight.proofs.Benches.{points-in, rows-in, bench-kept}
@@ -52,7 +52,7 @@ coordinates-in {sh} {ws} b = rw (coordinates-are sh (listsOf sh ws) (b .held)) a
 
 -- The classes that were worked out of the solid stand in the floats while its lists and its coordinates stay.
 pub classes-in : {sh : Shape} {vs : List ℕ} {gs : List Float} → Bench sh vs gs → (ws : List ℕ) (fs : List Float) → listsOf sh vs ≡ listsOf sh ws
-    → take (coordinates sh) gs ≡ take (coordinates sh) fs → take (proper sh) (drop (classesAt sh) gs) ≡ classes (distances (solidIn sh ws fs))
+    → take (coordinates sh) gs ≡ take (coordinates sh) fs → classesIn sh gs ≡ classes (distances (solidIn sh ws fs))
     → ClassesIn sh (listsOf sh vs) gs
 classes-in {sh} {vs} {gs} b ws fs e p c = record {
   room = roomy-floats sh (listsOf sh vs) (b .held) (length gs) (b .floats);

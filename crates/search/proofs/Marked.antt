@@ -20,7 +20,7 @@ use Rattle.spec.specs.Search.{Member, Setting, candidate, sameTypes, examplesGo
 use Rattle.spec.specs.Calls.{Room, haveRoom, fitting}
 use Rattle.laws.proofs.Lists.{map-map, map-same, in-map}
 use Rattle.laws.proofs.Listed.{Marked, member-mark, rotation-in, fitting-in}
-use Rattle.laws.proofs.Shapes.{Holds, none-held, fits-holds}
+use Rattle.laws.proofs.Shapes.{RoomHolds, none-held, fits-holds}
 use Rattle.points.proofs.Parts.{length-parts}
 use Rattle.symmetry.specs.Tails.{wantedOf}
 use Rattle.symmetry.specs.Listing.{membersGiven, rowCells, keptIn}
@@ -69,13 +69,13 @@ member-from w (F ∷ l) x h = go (sameTypes w F) (tested w (candidate w F)) refl
     go true (some m) e (inr k) f = f k
 
 -- Those that fit have room.
-fitting-room : (m : Room) (d v n : ℕ) (l : List Member) → Holds m d v n → Holds m d v (length (fitting m d v n l) + n)
+fitting-room : (m : Room) (d v n : ℕ) (l : List Member) → RoomHolds m d v n → RoomHolds m d v (length (fitting m d v n l) + n)
 unfolding fitting
 fitting-room m d v n [] h = let q : 0 + n ≡ n = omega arith in rw q h
 fitting-room m d v n (x ∷ l) h = go (haveRoom m d v (suc n)) refl (λ k. fitting-room m d v (suc n) l k)
   where
-    go : (b : Bool) → haveRoom m d v (suc n) ≡ b → (Holds m d v (suc n) → Holds m d v (length (fitting m d v (suc n) l) + suc n))
-        → Holds m d v (length {A = Member} (elim b as (λ z. List Member) [ true ↦ x ∷ fitting m d v (suc n) l | false ↦ [] ]) + n)
+    go : (b : Bool) → haveRoom m d v (suc n) ≡ b → (RoomHolds m d v (suc n) → RoomHolds m d v (length (fitting m d v (suc n) l) + suc n))
+        → RoomHolds m d v (length {A = Member} (elim b as (λ z. List Member) [ true ↦ x ∷ fitting m d v (suc n) l | false ↦ [] ]) + n)
     go true e f =
         let q : suc (length (fitting m d v (suc n) l)) + n ≡ length (fitting m d v (suc n) l) + suc n = omega arith in
         rw q (f (fits-holds m d v (suc n) e))
@@ -110,7 +110,7 @@ module _ (w : Setting) (rot : Bool) (m : Room) (Fs : List Flag) where
   unfolding keptIn membersGiven
   kept-in x i = wanted-in rot (membersOf w Fs) x (fitting-in m d v 0 (membersGiven w rot Fs) x i)
 
-  pub kept-room : Holds m d v (length kept)
+  pub kept-room : RoomHolds m d v (length kept)
   unfolding keptIn
   kept-room =
       let l = membersGiven w rot Fs in

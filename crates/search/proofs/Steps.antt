@@ -24,7 +24,7 @@ use Rattle.spec.specs.Flags.{firstFlag, flags}
 use Rattle.spec.specs.Classes.{typesOf}
 use Rattle.spec.specs.Search.{Member, Setting, firstFar, exchangedIn, exchanged, flagColumns, allFinite, full, setting}
 use Rattle.spec.specs.Calls.{SearchOut, roomOf}
-use Rattle.laws.proofs.Shapes.{Holds}
+use Rattle.laws.proofs.Shapes.{RoomHolds}
 use Rattle.laws.proofs.Marked.{both}
 use Rattle.matrix.specs.Reading.{ifRegular}
 use Rattle.points.proofs.Parts.{parts-take}
@@ -235,7 +235,7 @@ module _ (d : Concrete) (f : ℕ) (z : State) (i : Matrix) (rot : Bool) (old : S
   -- The rows have v entries each.
   module _ (v : ℕ) (m : length (d .points) ≡ v) where
     -- There is room for the rows and the marks.
-    pub marks-in : Holds (roomOf old) (d .dimension) v (r .count)
+    pub marks-in : RoomHolds (roomOf old) (d .dimension) v (r .count)
     unfolding settingOf
     marks-in = rw (← m, l .count) (kept-room set rot (roomOf old) (flags (d .abs)))
 

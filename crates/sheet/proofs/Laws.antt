@@ -9,7 +9,7 @@ use mathlib.Core.List.{List, [], _∷_, _++_, map}
 use lib.ListN.{length, getD, drop, replicate, length-append, length-replicate}
 use lib.Dec.{lit≤}
 use Rattle.spec.specs.declared.Refusal.{Refusal}
-use Rattle.spec.specs.Limits.{maxRank, maxDimension, maxCount, maxEntries}
+use Rattle.spec.specs.Limits.{maxRank, maxDimension, maxCount, maxEntries, maxProper, maxStored}
 use Rattle.spec.specs.Bits.{field}
 use Rattle.spec.specs.Lists.{In, range, sum}
 use Rattle.spec.specs.Judged.{Judged, refused, passed}
@@ -74,25 +74,25 @@ rank-count b c (suc n) used i y e =
     ap (λ z. length (z .0)) (sym (same _ y (h₂ .2))) ∙ ap suc (rank-count b c n (used + length (h₁ .0 .0)) _ (h₂ .0) (h₂ .1))
 
 -- Each rank has as many lists as its count says, and few enough entries.
-record Ranks (l : List ℕ) (ls : List (List (List ℕ))) : Type 0 where
+record RanksCounted (l : List ℕ) (ls : List (List (List ℕ))) : Type 0 where
   sizes : map length ls ≡ drop 1 l
-  small : allEntries ls ≤ maxEntries * length l
+  small : allEntries ls ≤ maxEntries * (length l - 1)
 
-ranks-read : (b l : List ℕ) (i : ℕ) (y : List (List (List ℕ)) × ℕ) → lists b l i ≡ passed y → Ranks l (y .0)
+ranks-read : (b l : List ℕ) (i : ℕ) (y : List (List (List ℕ)) × ℕ) → lists b l i ≡ passed y → RanksCounted l (y .0)
 unfolding lists done allEntries sum
-ranks-read b [] i y e = subst (λ (z : List (List (List ℕ)) × ℕ). Ranks [] (z .0)) (same ([], i) y e) (record { sizes = refl; small = omega arith })
-ranks-read b (c ∷ []) i y e = subst (λ (z : List (List (List ℕ)) × ℕ). Ranks (c ∷ []) (z .0)) (same ([], i) y e) (record { sizes = refl; small = omega arith })
+ranks-read b [] i y e = subst (λ (z : List (List (List ℕ)) × ℕ). RanksCounted [] (z .0)) (same ([], i) y e) (record { sizes = refl; small = omega arith })
+ranks-read b (c ∷ []) i y e = subst (λ (z : List (List (List ℕ)) × ℕ). RanksCounted (c ∷ []) (z .0)) (same ([], i) y e) (record { sizes = refl; small = omega arith })
 ranks-read b (c ∷ d ∷ l) i y e =
     let h₁ = bound-by (listsAt b c d 0) _ i y e in
     let h₂ = bound-by (lists b (d ∷ l)) _ _ y (h₁ .2) in
     let r = ranks-read b (d ∷ l) _ (h₂ .0) (h₂ .1) in
     let s = rank-size b c d 0 i (h₁ .0) (lit≤ tt) (h₁ .1) .0 in
-    subst (λ (z : List (List (List ℕ)) × ℕ). Ranks (c ∷ d ∷ l) (z .0)) (same _ y (h₂ .2)) (record {
+    subst (λ (z : List (List (List ℕ)) × ℕ). RanksCounted (c ∷ d ∷ l) (z .0)) (same _ y (h₂ .2)) (record {
       sizes = ap (λ k. k ∷ map length (h₂ .0 .0)) (rank-count b c d 0 i (h₁ .0) (h₁ .1)) ∙ ap (λ z. d ∷ z) (r .sizes);
       small = more (rankEntries (h₁ .0 .0)) (allEntries (h₂ .0 .0)) (length l) s (r .small);
     })
   where
-    more : (a u n : ℕ) → 0 + a ≤ maxEntries → u ≤ maxEntries * suc n → a + u ≤ maxEntries * suc (suc n)
+    more : (a u n : ℕ) → 0 + a ≤ maxEntries → u ≤ maxEntries * (suc n - 1) → a + u ≤ maxEntries * (suc (suc n) - 1)
     more a u n h g = omega arith
 
 -- A sheet that passes has these numbers and lists.
@@ -101,7 +101,7 @@ record Said (p : Parsed) : Type 0 where
   flat : p .dimension ≤ maxDimension
   few : length (p .counts) ≡ p .rank - 1
   each : (n : ℕ) → In n (p .counts) → n ≤ maxCount
-  ranks : Ranks (p .counts) (p .lists)
+  ranks : RanksCounted (p .counts) (p .lists)
 
 said : (b : List ℕ) (p : Parsed) → readSheet b ≡ passed p → Said p
 said b p e =
@@ -157,8 +157,8 @@ pub record Small (h : Header) : Type 0 where
   pub rank : h .rank ≤ maxRank
   pub dimension : h .dimension ≤ maxDimension
   pub counts : (k : ℕ) → getD (h .counts) k 0 ≤ maxCount
-  pub elements : h .elements ≤ maxCount * proper
-  pub entries : h .entries ≤ maxEntries * proper
+  pub elements : h .elements ≤ maxProper
+  pub entries : h .entries ≤ maxStored
 
 module _ (b : List ℕ) (p : Parsed) (e : readSheet b ≡ passed p) where
   -- The header's E and I are the solid's.
@@ -175,12 +175,13 @@ module _ (b : List ℕ) (p : Parsed) (e : readSheet b ≡ passed p) where
   header-small =
       let s = said b p e in
       let n : length (p .counts) ≤ proper = omega (arith, s .few, s .low) in
+      let ranks : length (p .counts) - 1 ≤ maxRank - 2 = omega (arith, n) in
       record {
         rank = s .low;
         dimension = s .flat;
         counts = padded-small maxCount (proper - length (p .counts)) (p .counts) (s .each);
         elements = le-trans (sum-small maxCount (p .counts) (s .each)) (mul-le-mul-left maxCount n);
-        entries = le-trans (s .ranks .small) (mul-le-mul-left maxEntries n);
+        entries = le-trans (s .ranks .small) (mul-le-mul-left maxEntries ranks);
       }
 
 -- ---- what a judgement says of the sheet

@@ -42,13 +42,13 @@ pub uncounted : (why : Refusal) (o : Judged (List ℕ × ℕ)) (r : CountsRead) 
 uncounted why o r e f = place-refused why o (sym f ∙ ap (λ (z : CountsRead). z .place) e ∙ place-of o)
 
 -- The counts that were read are a list, and the array and the sum are told by it.
-pub record Counts (b : List ℕ) (n i p : ℕ) (r : CountsRead) : Type 0 where
+pub record CountsKnown (b : List ℕ) (n i p : ℕ) (r : CountsRead) : Type 0 where
   pub list : List ℕ
   pub read : times n (count b) i ≡ passed (list, p)
   pub array : r .counts ≡ padded list
   pub total : r .elements ≡ sum list
 
-pub counted : (b : List ℕ) (n i p : ℕ) (r : CountsRead) → r ≡ countedOf (times n (count b) i) → r .place ≡ place.At p → Counts b n i p r
+pub counted : (b : List ℕ) (n i p : ℕ) (r : CountsRead) → r ≡ countedOf (times n (count b) i) → r .place ≡ place.At p → CountsKnown b n i p r
 unfolding countedOf
 counted b n i p r e f =
     let o = times n (count b) i in
@@ -73,7 +73,7 @@ unfolding vertexCount
 vertices-small R [] g h = omega arith
 vertices-small R (x ∷ l) g h = h x (inl refl)
 
-module _ (b : List ℕ) (R i p : ℕ) (r : CountsRead) (x : Counts b (R - 1) i p r) (tall : R ≤ maxRank) where
+module _ (b : List ℕ) (R i p : ℕ) (r : CountsRead) (x : CountsKnown b (R - 1) i p r) (tall : R ≤ maxRank) where
   few : length (x .list) ≡ R - 1
   few = times-read (R - 1) (count b) i (x .list, p) (x .read)
 
@@ -157,7 +157,7 @@ module _ (b : List ℕ) (R D i : ℕ) where
   rest-made {l} {p} e = body-made b R D l p ∙ sym (ap judgementAt (on (times (R - 1) (count b)) i after-counts e))
 
 -- The same holds by the array and the sum.
-pub rest-told : (b : List ℕ) (R D i p : ℕ) (r : CountsRead) (x : Counts b (R - 1) i p r) → R ≤ maxRank → (u : ListsRead)
+pub rest-told : (b : List ℕ) (R D i p : ℕ) (r : CountsRead) (x : CountsKnown b (R - 1) i p r) → R ≤ maxRank → (u : ListsRead)
     → u ≡ listedOf allEntries 0 (bodyAt b (vertexCount R (take (R - 1) (r .counts))) D (take (R - 1) (r .counts)) p)
     → judgedWith R D (r .counts) (r .elements) u ≡ judgementAt (restAt b R D i)
 rest-told b R D i p r x tall u e =

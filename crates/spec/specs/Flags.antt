@@ -1,4 +1,4 @@
--- Section 5: flags.
+-- This file has section 5: flags and their changes.
 -- Assumes nothing.
 use mathlib.Core.Path.{_≡_}
 use Prim.Native.Nat.{ℕ, zero, suc, pred, _<_}

@@ -1,4 +1,4 @@
--- The numbers of section 2, "Limits", stand here: each stands here once for the definitions, and once in src/lib.rt for the programs.
+-- The numbers of section 2, "Limits", stand here once for the definitions, and in src/lib.rt once for the programs.
 -- Assumes nothing.
 use Prim.Native.Nat.{ℕ, _+_, _-_, _*_}
 use lib.Ieee.{Float, binary64, ofBits}

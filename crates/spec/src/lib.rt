@@ -1,5 +1,5 @@
-// This crate has what a public call answers, which is document 01's table of preflight answers as an enum. The rest of this crate consists of
-// definitions and of examples that evaluate them (specs/). The theorems about them are in crate `laws`.
+// This crate has section 2's limits for the programs, and what a public call answers, which is document 01's table of preflight answers as an enum.
+// The rest of this crate consists of definitions and of examples that evaluate them (specs/). The theorems about them are in crate `laws`.
 ghost use mathlib.Core.Path.{_≡_};
 ghost use Rattle.spec.specs.Refusal.{number};
 
@@ -12,6 +12,11 @@ pub const MAX_COUNT: usize = 2048;
 
 pub const MAX_ENTRIES: usize = 8192;
 
+pub const MAX_MAGNITUDE: f64 = 1048576.0;
+
+// This is the pattern of that magnitude, for a test of patterns that may be those of a NaN.
+pub const MAX_MAGNITUDE_PATTERN: u64 = 0x4130_0000_0000_0000;
+
 // These are the greatest numbers of proper elements and of stored list entries that a solid can have.
 pub const MAX_PROPER: usize = (MAX_RANK - 1) * MAX_COUNT;
 
@@ -21,11 +26,6 @@ pub const MAX_STORED: usize = (MAX_RANK - 2) * MAX_ENTRIES;
 pub const MAX_WORDS: usize = 16 * (MAX_PROPER + MAX_STORED + 4);
 
 pub const MAX_FLOATS: usize = 8 * (MAX_PROPER + 8);
-
-pub const MAX_MAGNITUDE: f64 = 1048576.0;
-
-// This is the pattern of that magnitude, for a test of patterns that may be those of a NaN.
-pub const MAX_MAGNITUDE_PATTERN: u64 = 0x4130_0000_0000_0000;
 
 // A refusal is named by its word in the table.
 pub enum Refusal {

@@ -13,12 +13,12 @@ use Rattle.spec.specs.Lists.{written}
 use Rattle.spec.specs.Flags.{Flag}
 use Rattle.spec.specs.Search.{Member, Setting}
 use Rattle.spec.specs.Calls.{Room, fitting}
-use Rattle.laws.proofs.Shapes.{Fit}
+use Rattle.laws.proofs.Shapes.{SettingFit}
 use Rattle.symmetry.specs.Listing.{membersGiven, matrixCells, rowCells, keptIn, MembersListed}
 use Rattle.symmetry.proofs.Running.{running-end}
 use Rattle.symmetry.proofs.Going.{Going}
 
-module _ (w : Setting) (rot : Bool) (m : Room) (d v : ℕ) (shape : Fit d v w) (Fs : List Flag) (ms ms′ : List Float) (rs rs′ : List ℕ) (n : ℕ) where
+module _ (w : Setting) (rot : Bool) (m : Room) (d v : ℕ) (shape : SettingFit d v w) (Fs : List Flag) (ms ms′ : List Float) (rs rs′ : List ℕ) (n : ℕ) where
   -- The members `done` are those that fit.
   ended : (done : List Member) → fitting m d v 0 (membersGiven w rot Fs) ≡ done → n ≡ length done → (b : Bool) → b ≡ ltb n (length (membersGiven w rot Fs))
       → ms′ ≡ written (matrixCells done) ms → rs′ ≡ written (rowCells done) rs → MembersListed w rot m Fs (record { count = n; short = b }) ms ms′ rs rs′

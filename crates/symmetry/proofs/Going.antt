@@ -20,7 +20,7 @@ use Rattle.spec.specs.Calls.{Room, haveRoom, fitting}
 use Rattle.laws.proofs.CopyLaws.{written-length}
 use Rattle.points.proofs.Tails.{tail-is}
 use Rattle.points.proofs.Tails.{part-written}
-use Rattle.laws.proofs.Shapes.{Fit, Shape, square-long, Holds, none-held, fits-holds, candidate-shape, tested-shape}
+use Rattle.laws.proofs.Shapes.{SettingFit, MemberShape, square-long, RoomHolds, none-held, fits-holds, candidate-shape, tested-shape}
 use Rattle.symmetry.specs.Listing.{listedIf, gives, membersGiven, matrixCells, rowCells, Running, tried, fits}
 use Rattle.symmetry.specs.declared.listing.Tried.{Tried}
 use Rattle.symmetry.specs.declared.listing.Tried.the-variants.{Skipped, Added, Short}
@@ -35,14 +35,14 @@ pub record Going (w : Setting) (rot : Bool) (m : Room) (d v : ℕ) (Fs left : Li
   pub count : n ≡ length done
   pub matrices : ms′ ≡ written (matrixCells done) ms
   pub rows : rs′ ≡ written (rowCells done) rs
-  pub room : Holds m d v n
+  pub room : RoomHolds m d v n
 
 pub going-first : (w : Setting) (rot : Bool) (m : Room) (d v : ℕ) (Fs : List Flag) (ms : List Float) (rs : List ℕ) → Going w rot m d v Fs Fs ms ms rs rs 0
 unfolding written matrixCells rowCells join
 going-first w rot m d v Fs ms rs = record { done = []; running = running-first w rot m d v Fs; count = refl; matrices = refl; rows = refl; room = none-held m d v }
 
 -- What is left of the outputs has room for one more exactly when the whole has room for n + 1.
-room-left : (m : Room) (d v n : ℕ) → Holds m d v n → fits d v (m .floats - n * (d * d)) (m .entries - n * v) (m .marks - n) ≡ haveRoom m d v (suc n)
+room-left : (m : Room) (d v n : ℕ) → RoomHolds m d v n → fits d v (m .floats - n * (d * d)) (m .entries - n * v) (m .marks - n) ≡ haveRoom m d v (suc n)
 unfolding fits haveRoom
 room-left m d v n h =
     ap₂ _&&_
@@ -59,7 +59,7 @@ room-left m d v n h =
         go true q = let z = leb-true c b q in le-leb k (b - a) (omega (arith, z, e))
         go false q = let z = leb-false c b q in lt-leb k (b - a) (omega (arith, z, e))
 
-module _ (w : Setting) (rot : Bool) (m : Room) (d v : ℕ) (shape : Fit d v w) (Fs : List Flag) (F : Flag) (left : List Flag)
+module _ (w : Setting) (rot : Bool) (m : Room) (d v : ℕ) (shape : SettingFit d v w) (Fs : List Flag) (F : Flag) (left : List Flag)
     (ms ms′ : List Float) (rs rs′ : List ℕ) (n : ℕ) (es : m .floats ≡ length ms) (er : m .entries ≡ length rs)
     (g : Going w rot m d v Fs (F ∷ left) ms ms′ rs rs′ n) where
   -- These are the parts after the finished members.
@@ -110,19 +110,19 @@ module _ (w : Setting) (rot : Bool) (m : Room) (d v : ℕ) (shape : Fit d v w) (
     same-rows : q ≡ rowPart → rowsThen ≡ rs′
     same-rows k = rw k (put-same (n * v) (length rs′ - n * v) rs′)
 
-    member-shape : (x : Member) → gives w rot F ≡ some x → Shape d v x
+    member-shape : (x : Member) → gives w rot F ≡ some x → MemberShape d v x
     unfolding gives listedIf
     member-shape x = go (sameTypes w F)
       where
-        listed : (b : Bool) (y : Member) → tested w (candidate w F) ≡ some y → elim b as (λ z. Option Member) [ true ↦ some y | false ↦ none ] ≡ some x → Shape d v x
+        listed : (b : Bool) (y : Member) → tested w (candidate w F) ≡ some y → elim b as (λ z. Option Member) [ true ↦ some y | false ↦ none ] ≡ some x → MemberShape d v x
         listed true y k h = tested-shape d v w shape (candidate w F) (candidate-shape d v w shape F) x (k ∙ h)
         listed false y k h = absurd (Option·none-ne-some x h)
 
-        passing : (o : Option Member) → tested w (candidate w F) ≡ o → listedIf rot o ≡ some x → Shape d v x
+        passing : (o : Option Member) → tested w (candidate w F) ≡ o → listedIf rot o ≡ some x → MemberShape d v x
         passing none k h = absurd (Option·none-ne-some x h)
         passing (some y) k h = listed (not rot || isRotation y) y k h
 
-        go : (b : Bool) → elim b as (λ z. Option Member) [ true ↦ listedIf rot (tested w (candidate w F)) | false ↦ none ] ≡ some x → Shape d v x
+        go : (b : Bool) → elim b as (λ z. Option Member) [ true ↦ listedIf rot (tested w (candidate w F)) | false ↦ none ] ≡ some x → MemberShape d v x
         go true h = passing (tested w (candidate w F)) refl h
         go false h = absurd (Option·none-ne-some x h)
 

@@ -10,7 +10,7 @@ use lib.Ieee.{Float}
 use borrow.Rule.Slice.PartMut.{midOf, putMid}
 use Rattle.spec.specs.Solid.{Concrete}
 use Rattle.spec.specs.Flags.{Flag, flags}
-use Rattle.laws.proofs.Shapes.{Fit}
+use Rattle.laws.proofs.Shapes.{SettingFit}
 use Rattle.matrix.proofs.Corner.{length-corner}
 use Rattle.ranked.specs.declared.Shape.{Shape}
 use Rattle.ranked.specs.Words.{sizeAt, listsOf, absIn}
@@ -31,7 +31,7 @@ Tally sh ws fs inverse rot room v ms ms′ rs rs′ n Fs =
 
 module _ (sh : Shape) (ws : List ℕ) (fs : List Float) (inverse : List (List Float)) (tall : sh .dimension ≤ length inverse) (rot : Bool) (room : ℕ)
     (v : ℕ) (many : v ≡ sizeAt sh 1) (ms : List Float) (rs : List ℕ) where
-  shape : (c : Concrete) → Fit (sh .dimension) v (settingIn sh ws fs inverse c)
+  shape : (c : Concrete) → SettingFit (sh .dimension) v (settingIn sh ws fs inverse c)
   unfolding settingOf
   shape c = record { wide = refl; many = points-many sh ws fs ∙ sym many; inverse = length-corner (sh .dimension) inverse tall }
 

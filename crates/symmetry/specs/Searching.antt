@@ -17,9 +17,9 @@ use Rattle.spec.specs.Search.{Setting, examplesGo, tested}
 use Rattle.spec.specs.Calls.{Room}
 use Rattle.matrix.specs.Reading.{corner}
 use Rattle.ranked.specs.declared.Shape.{Shape}
-use Rattle.ranked.specs.Words.{sizeAt, listsOf, absIn}
+use Rattle.ranked.specs.Words.{sizeAt}
 use Rattle.preflight.specs.Bench.{Bench}
-use Rattle.ranked.specs.Layout.{solidIn}
+use Rattle.ranked.specs.Layout.{solidIn, abstractIn}
 use Rattle.element_types.specs.State.{stateIn, Countable}
 use Rattle.flag.specs.Reading.{flagIn}
 use Rattle.symmetry.specs.Fingerprints.{Fingerprinted}
@@ -74,4 +74,4 @@ FlagTried x words floats inverse t ms ms′ rs rs′ =
 -- The members that the flags of the solid in the workspace give are listed, where there are so many marks.
 abbrev pub SolidListed : Shape → List ℕ → List Float → List (List Float) → Bool → ℕ → Members → List Float → List Float → List ℕ → List ℕ → Type 0
 SolidListed sh words floats inverse rotations marks r ms ms′ rs rs′ =
-    (c : Concrete) → MembersListed (settingIn sh words floats inverse c) rotations (roomFor ms rs marks) (flags (absIn sh (listsOf sh words))) r ms ms′ rs rs′
+    (c : Concrete) → MembersListed (settingIn sh words floats inverse c) rotations (roomFor ms rs marks) (flags (abstractIn sh words)) r ms ms′ rs rs′

@@ -15,7 +15,7 @@ use Rattle.spec.specs.Lists.{join, holds, written}
 use Rattle.spec.specs.Float.{zeroF}
 use Rattle.spec.specs.Judged.{Judged, refused, passed}
 use Rattle.spec.specs.Matrix.{Vector, Matrix}
-use Rattle.spec.specs.Copying.{copies, points, matrices, copyTable, judgeCopy, copyOut, copyCall}
+use Rattle.spec.specs.Copying.{copies, points, matrices, copyTable, judgeCopy, copyOut, copyCall, noImage}
 
 abbrev Out : Type 0
 Out = Answer × List Float × List ℕ
@@ -35,7 +35,7 @@ out-answer n ms cs o t = go (leb (length cs) n && leb (length ms * length cs) (l
         (elim b as (λ _. Out) [
           | false ↦ (Refused ShortSheet (length (take n cs)), written (join (take n cs)) o, t)
           | true ↦ elim c as (λ _. Out) [
-            | true ↦ (Refused Open (length (take n cs)), written (join (take n cs)) o, written (replicate (length ms * length cs) 65535) t)
+            | true ↦ (Refused Open (length (take n cs)), written (join (take n cs)) o, written (replicate (length ms * length cs) noImage) t)
             | false ↦ (Done (length cs), written (join (take n cs)) o, written (copyTable ms cs) t)
           ]
         ]) .0

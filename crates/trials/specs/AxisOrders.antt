@@ -14,7 +14,7 @@ use Rattle.spec.specs.declared.Answer.the-variants.{Done, Refused}
 use Rattle.spec.specs.Lists.{join, range, place, eqList, every, holds, written, noRepeats}
 use Rattle.spec.specs.Float.{zeroF, oneF, zip, dot}
 use Rattle.spec.specs.Matrix.{Vector, Matrix, columns, mulVec, mulMat}
-use Rattle.spec.specs.Copying.{orders, signed, axisOrder, axisOrders, copyCall, copyTable, copyOut}
+use Rattle.spec.specs.Copying.{orders, signed, axisOrder, axisOrders, copyCall, copyTable, copyOut, noImage}
 use Rattle.spec.specs.Points.{find, rowOf}
 use Rattle.spec.specs.NumberExamples.{most, all}
 
@@ -125,7 +125,7 @@ before = refl
 
 -- This is what the call gives out, from the table's rows.
 abbrev out : List (List ℕ) → Answer × List Float × List ℕ
-out t = elim (holds eqb 48 (join t)) [ true ↦ (Refused Open 48, join cs, replicate 2304 65535) | false ↦ (Done 48, join cs, join t) ]
+out t = elim (holds eqb 48 (join t)) [ true ↦ (Refused Open 48, join cs, replicate 2304 noImage) | false ↦ (Done 48, join cs, join t) ]
 
 pub after : copyOut 48 axisOrders cs (replicate 144 zeroF) (replicate 2304 0) ≡ (Done 48, join cs, join products)
 unfolding copyOut copyTable rowOf written cs zip orders range join signed axisOrder axisOrders rowNumbers zeroF oneF neg products place eqList ofBits holds

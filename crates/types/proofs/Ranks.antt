@@ -24,7 +24,7 @@ use Rattle.ranked.proofs.Solids.{top-is, size-is, in-order}
 use Rattle.ranked.proofs.Counted.{proper-is}
 use Rattle.element_types.specs.State.{typesIn, stateIn, Countable}
 use Rattle.element_types.proofs.Scanned.{table-snoc}
-use Rattle.element_types.proofs.Tallied.{counts-all, Tally, tally-first, run-in, run-numbered, tally-next, tally-end}
+use Rattle.element_types.proofs.Tallied.{counts-all, TypesTally, tally-first, run-in, run-numbered, tally-next, tally-end}
 use Rattle.types.specs.Cells.{cellsOf, Listable}
 use Rattle.types.proofs.Sets.{join-append, sets-append, sets-written}
 use Rattle.types.proofs.Rows.{order-low, cellsIn, cells-append}
@@ -53,13 +53,13 @@ module _ (sh : Shape) (w : List ℕ) where
   cellsBelow r = join (map cellsAt (range 1 (r - 1)))
 
   -- The m types of the ranks below r are written.
-  pub record Tabled (old table : List ℕ) (m r : ℕ) : Type 0 where
-    pub tally : Tally sh w m r
+  pub record RanksTabled (old table : List ℕ) (m r : ℕ) : Type 0 where
+    pub tally : TypesTally sh w m r
     pub bound : r - 1 ≤ sh .rank - 1
     pub many : length (cellsBelow r) ≡ 4 * m
     pub cells : table ≡ sets old 0 (cellsBelow r)
 
-  pub tabled-first : (old : List ℕ) → Tabled old old 0 1
+  pub tabled-first : (old : List ℕ) → RanksTabled old old 0 1
   unfolding cellsBelow range join
   tabled-first old = record { tally = tally-first sh w; bound = omega arith; many = refl; cells = refl }
 
@@ -197,10 +197,10 @@ module _ (sh : Shape) (w : List ℕ) (a : Countable sh w) where
       (λ r m. ap (cellsOf r) (types-at r (omega (arith, of-range 1 (sh .rank - 1) r m)))))))
 
   module _ (old : List ℕ) (room : 4 * typeCount s z ≤ length old) where
-    pub tabled-long : (table : List ℕ) (m r : ℕ) → Tabled sh w old table m r → length table ≡ length old
+    pub tabled-long : (table : List ℕ) (m r : ℕ) → RanksTabled sh w old table m r → length table ≡ length old
     tabled-long table m r i = ap length (i .cells) ∙ length-sets old 0 (cellsBelow sh w r)
 
-    pub tabled-end : (table : List ℕ) (m r : ℕ) → Tabled sh w old table m r → sh .rank ≤ r → table ≡ written (cellsIn (elementTypes s z)) old
+    pub tabled-end : (table : List ℕ) (m r : ℕ) → RanksTabled sh w old table m r → sh .rank ≤ r → table ≡ written (cellsIn (elementTypes s z)) old
     unfolding cellsBelow
     tabled-end table m r i h =
         let e : r - 1 ≡ sh .rank - 1 = omega (arith, i .bound) in
@@ -209,7 +209,7 @@ module _ (sh : Shape) (w : List ℕ) (a : Countable sh w) where
         i .cells ∙ ap (sets old 0) c ∙ sets-written old (cellsIn (elementTypes s z)) (omega (arith, ap length c, i .many, tally-end sh w a m r (i .tally) h))
 
     -- In the code's terms, the types of the rank's n elements stand from word `from` on.
-    module _ (table : List ℕ) (m r : ℕ) (i : Tabled sh w old table m r) (h : r < sh .rank) (from n : ℕ) (f : from ≡ layout.typesAt sh r) (e : n ≡ sizeAt sh r) where
+    module _ (table : List ℕ) (m r : ℕ) (i : RanksTabled sh w old table m r) (h : r < sh .rank) (from n : ℕ) (f : from ≡ layout.typesAt sh r) (e : n ≡ sizeAt sh r) where
       abbrev l : List ℕ
       l = take n (drop from w)
 
@@ -239,7 +239,7 @@ module _ (sh : Shape) (w : List ℕ) (a : Countable sh w) where
         pub types-fit : 4 * (m + k) ≤ length old
         types-fit = omega (arith, tally-next sh w a m r (i .tally) h from n f e k c .rest, counts-all sh w)
 
-        pub tabled-next : Tabled sh w old (sets table (4 * m) (cellsOf r l)) (m + k) (r + 1)
+        pub tabled-next : RanksTabled sh w old (sets table (4 * m) (cellsOf r l)) (m + k) (r + 1)
         tabled-next = record {
           tally = tally-next sh w a m r (i .tally) h from n f e k c;
           bound = omega arith;

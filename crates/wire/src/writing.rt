@@ -4,7 +4,7 @@ ghost use mathlib.Core.Path.{_≡_};
 ghost use mathlib.Core.Bool.{true, false};
 ghost use Prim.Native.Nat.{_*_, _≤_};
 ghost use lib.ListN.{length};
-ghost use Rattle.wire.specs.Grown.{Grown};
+ghost use Rattle.wire.specs.Grown.{RunGrown};
 use crate::Run;
 use float::bits;
 use spec::Verdict;
@@ -47,7 +47,7 @@ pub fn failed(mut run: Run) -> Run
 
 // Writes the bytes of one piece. A longer text, or one past the longest file of answers, fails.
 pub fn bytes(mut run: Run, text: &[u8]) -> Run
-    ensures { λ r. ⌜ Grown run r (length (now (text .entry))) ⌝ }
+    ensures { λ r. ⌜ RunGrown run r (length (now (text .entry))) ⌝ }
 {
     let n = text.len();
     let count = run.count;
@@ -64,7 +64,7 @@ pub fn bytes(mut run: Run, text: &[u8]) -> Run
 
 // Writes a number as eight bytes.
 pub fn number(run: Run, n: u64) -> Run
-    ensures { λ r. ⌜ Grown run r 8 ⌝ }
+    ensures { λ r. ⌜ RunGrown run r 8 ⌝ }
 {
     let b = [
         (n / 0x100_0000_0000_0000 % 256) as u8,
@@ -81,7 +81,7 @@ pub fn number(run: Run, n: u64) -> Run
 
 // Writes a cell as two bytes.
 pub fn cell(run: Run, n: u16) -> Run
-    ensures { λ r. ⌜ Grown run r 2 ⌝ }
+    ensures { λ r. ⌜ RunGrown run r 2 ⌝ }
 {
     let b = [(n / 256 % 256) as u8, (n % 256) as u8];
     bytes(run, &b)
@@ -89,7 +89,7 @@ pub fn cell(run: Run, n: u16) -> Run
 
 // Writes each float as the eight bytes of its pattern.
 pub fn floats(run: Run, s: &[f64]) -> Run
-    ensures { λ r. ⌜ Grown run r (8 * length (now (s .entry))) ⌝ }
+    ensures { λ r. ⌜ RunGrown run r (8 * length (now (s .entry))) ⌝ }
 {
     let mut after = run;
     let mut i: usize = 0;
@@ -103,7 +103,7 @@ pub fn floats(run: Run, s: &[f64]) -> Run
 
 // Writes each cell as two bytes.
 pub fn cells(run: Run, s: &[u16]) -> Run
-    ensures { λ r. ⌜ Grown run r (2 * length (now (s .entry))) ⌝ }
+    ensures { λ r. ⌜ RunGrown run r (2 * length (now (s .entry))) ⌝ }
 {
     let mut after = run;
     let mut i: usize = 0;
@@ -147,7 +147,7 @@ pub fn digit(n: u64) -> u8
 
 // Writes a number as sixteen hexadecimal digits.
 pub fn pattern(run: Run, n: u64) -> Run
-    ensures { λ r. ⌜ Grown run r 16 ⌝ }
+    ensures { λ r. ⌜ RunGrown run r 16 ⌝ }
 {
     let b = [
         digit(n / 0x1000_0000_0000_0000),

@@ -85,7 +85,7 @@ module _ (s : Solid) (cls : Classes) (r : ℕ) where
 -- ---- the loop
 
 -- The proper ranks below r have their types, and the least and the top those they had.
-pub record Begun (sh : Shape) (w v : List ℕ) (cells : List Float) (r : ℕ) : Type 0 where
+pub record TypesBegun (sh : Shape) (w v : List ℕ) (cells : List Float) (r : ℕ) : Type 0 where
   pub above : 1 ≤ r
   pub long : length v ≡ length w
   pub lists : listsOf sh v ≡ listsOf sh w
@@ -153,7 +153,7 @@ module _ (sh : Shape) (w : List ℕ) (cells : List Float) (a : Startable sh w ce
         (ap (λ (i : ℕ). getD w₂ i 0) p ∙ getD-set-same w₁ last 0 0 b)
         ∙ sym (start-top s cls q (c ∙ sym (top-is sh (listsOf sh w))) one)
 
-    pub begun-end : (v : List ℕ) (r : ℕ) → Begun sh w₂ v cells r → sh .rank ≤ r → Begins sh w v cells
+    pub begun-end : (v : List ℕ) (r : ℕ) → TypesBegun sh w₂ v cells r → sh .rank ≤ r → Begins sh w v cells
     unfolding stateIn start absIn
     begun-end v r i k = record {
       lists = i .lists ∙ lists₂;
@@ -170,10 +170,10 @@ module _ (sh : Shape) (w : List ℕ) (cells : List Float) (a : Startable sh w ce
 
   -- ---- the proper ranks
 
-  pub begun-first : Begun sh w w cells 1
+  pub begun-first : TypesBegun sh w w cells 1
   begun-first = record { above = omega arith; long = refl; lists = refl; ends = λ q e. refl; types = λ fs e q b c d. absurd (omega arith) }
 
-  module _ (v : List ℕ) (r : ℕ) (i : Begun sh w v cells r) (k : r < sh .rank) where
+  module _ (v : List ℕ) (r : ℕ) (i : TypesBegun sh w v cells r) (k : r < sh .rank) where
     -- The rank's elements are proper, and their types lie within the words.
     pub offsets : (firstAt sh 1 ≤ firstAt sh r) × (firstAt sh r < firstAt sh (suc r)) × (firstAt sh (suc r) ≤ firstAt sh (sh .rank)) × (typesAt sh (suc r) ≤ length w)
     offsets =
@@ -248,7 +248,7 @@ module _ (sh : Shape) (w : List ℕ) (cells : List Float) (a : Startable sh w ce
             (λ j d. let b : j < sh .low = omega (arith, d, length-take (sh .low) u) in
             getD-take (sh .low) u j 0 b ∙ c .others j (omega arith) (inl (omega arith)) ∙ sym (getD-take (sh .low) v j 0 b))
 
-        pub begun-next : Begun sh w u cells (r + 1)
+        pub begun-next : TypesBegun sh w u cells (r + 1)
         unfolding cls
         begun-next = record {
           above = omega arith;

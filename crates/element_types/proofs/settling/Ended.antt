@@ -39,7 +39,7 @@ good-sweep s cls S g = good-play s cls S (sweepSteps s) (sweep-proper s) g
 -- ---- the words
 
 -- The types of w come of steps from the start by cls.
-pub record Swept (sh : Shape) (w : List ℕ) (cls : Classes) : Type 0 where
+pub record ReachedBySteps (sh : Shape) (w : List ℕ) (cls : Classes) : Type 0 where
   pub sweepable : Sweepable sh w
   pub room : scratchAt sh ≤ length w
   pub good : Good (absIn sh (listsOf sh w)) cls (stateIn sh w)
@@ -55,7 +55,7 @@ pub record Settling (sh : Shape) (w v : List ℕ) (count all left : ℕ) : Type 
 pub settling-first : (sh : Shape) (w : List ℕ) (count all : ℕ) → count ≡ typeCount (absIn sh (listsOf sh w)) (stateIn sh w) → Settling sh w w count all all
 settling-first sh w count all e = record { long = refl; lists = refl; many = e; good = λ cls g. g; rest = refl }
 
-module _ (sh : Shape) (w : List ℕ) (cls : Classes) (a : Swept sh w cls) where
+module _ (sh : Shape) (w : List ℕ) (cls : Classes) (a : ReachedBySteps sh w cls) where
   abbrev s : Solid
   s = absIn sh (listsOf sh w)
 
@@ -118,7 +118,7 @@ module _ (sh : Shape) (w : List ℕ) (cls : Classes) (a : Swept sh w cls) where
 module _ (sh : Shape) (z : List ℕ) (a : Started sh z) (w : List ℕ) (long : length w ≡ length z) (lists : listsOf sh w ≡ listsOf sh z)
     (state : stateIn sh w ≡ sweep (absIn sh (listsOf sh z)) (stateIn sh z)) where
   -- This is the first sweep.
-  pub once : Swept sh w (a .classes)
+  pub once : ReachedBySteps sh w (a .classes)
   once = record {
     sweepable = sweepable-kept sh z w long lists (a .sweepable);
     room = omega (arith, a .room);

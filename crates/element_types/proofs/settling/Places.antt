@@ -30,14 +30,14 @@ module _ {A : Type 0} (same : A → A → Bool) (k : A) where
       go false e ih = rw (place-no x l e) (omega arith)
 
   -- What is left from j on has it where all have it.
-  abbrev pub Sought : List A → ℕ → Type 0
-  Sought l j = j + place same k (drop j l) ≡ place same k l
+  abbrev pub PlaceSought : List A → ℕ → Type 0
+  PlaceSought l j = j + place same k (drop j l) ≡ place same k l
 
-  module _ (d : A) (l : List A) (j : ℕ) (s : Sought l j) where
+  module _ (d : A) (l : List A) (j : ℕ) (s : PlaceSought l j) where
     pub sought-yes : j < length l → same (getD l j d) k ≡ true → j ≡ place same k l
     sought-yes h e = omega (arith, s, ap (place same k) (drop-cons l j d h) ∙ place-yes (getD l j d) (drop (suc j) l) e)
 
-    pub sought-no : j < length l → same (getD l j d) k ≡ false → Sought l (j + 1)
+    pub sought-no : j < length l → same (getD l j d) k ≡ false → PlaceSought l (j + 1)
     sought-no h e = rw (add-one j) (omega (arith, s, ap (place same k) (drop-cons l j d h) ∙ place-no (getD l j d) (drop (suc j) l) e))
 
     pub sought-end : length l ≤ j → j ≡ place same k l

@@ -20,7 +20,7 @@ use Rattle.laws.proofs.Scan.{renumber-snoc, distinct-new, distinct-old, place-o
 use Rattle.geometry.specs.Classes.{sameClass}
 use Rattle.element_types.proofs.Scanned.{table-snoc}
 use Rattle.element_types.specs.Start.{cellAt, repCells, Shares, ClassesFit, ByClass}
-use Rattle.element_types.proofs.settling.Places.{place-within, place-alike, Sought, sought-yes, sought-no, sought-end}
+use Rattle.element_types.proofs.settling.Places.{place-within, place-alike, PlaceSought, sought-yes, sought-no, sought-end}
 
 -- ---- finding a class
 
@@ -34,14 +34,14 @@ module _ (w : List ℕ) (reps m : ℕ) (cells : List Float) (from : ℕ) where
   rep-at j h = getD-table (λ j. cellAt cells from (getD w (reps + j) 0)) nan m j h
 
   module _ (x : Float) where
-    pub class-first : Sought sameClass x (repCells w reps m cells from) 0
+    pub class-first : PlaceSought sameClass x (repCells w reps m cells from) 0
     class-first = omega arith
 
-    module _ (j : ℕ) (s : Sought sameClass x (repCells w reps m cells from) j) where
+    module _ (j : ℕ) (s : PlaceSought sameClass x (repCells w reps m cells from) j) where
       pub class-yes : j < m → sameClass (cellAt cells from (getD w (reps + j) 0)) x ≡ true → j ≡ place sameClass x (repCells w reps m cells from)
       class-yes h e = sought-yes sameClass x nan (repCells w reps m cells from) j s (rw length-cells h) (rw (rep-at j h) e)
 
-      pub class-no : j < m → sameClass (cellAt cells from (getD w (reps + j) 0)) x ≡ false → Sought sameClass x (repCells w reps m cells from) (j + 1)
+      pub class-no : j < m → sameClass (cellAt cells from (getD w (reps + j) 0)) x ≡ false → PlaceSought sameClass x (repCells w reps m cells from) (j + 1)
       class-no h e = sought-no sameClass x nan (repCells w reps m cells from) j s (rw length-cells h) (rw (rep-at j h) e)
 
       pub class-end : m ≤ j → j ≡ place sameClass x (repCells w reps m cells from)
@@ -50,20 +50,20 @@ module _ (w : List ℕ) (reps m : ℕ) (cells : List Float) (from : ℕ) where
 -- ---- the loop
 
 -- The first e numbers are those of cls, and the m elements from word `reps` have one of each.
-pub record Met (v : List ℕ) (to reps : ℕ) (cls : ℕ → ℕ) (m e : ℕ) : Type 0 where
+pub record ClassesMet (v : List ℕ) (to reps : ℕ) (cls : ℕ → ℕ) (m e : ℕ) : Type 0 where
   pub types : take e (drop to v) ≡ renumber eqb (map cls (range 0 e))
   pub kinds : map (λ j. cls (getD v (reps + j) 0)) (range 0 m) ≡ distinct eqb (map cls (range 0 e))
 
-pub record Scan (w v : List ℕ) (to reps n : ℕ) (cells : List Float) (from m e : ℕ) : Type 0 where
+pub record ClassesScan (w v : List ℕ) (to reps n : ℕ) (cells : List Float) (from m e : ℕ) : Type 0 where
   pub bound : e ≤ n
   pub long : length v ≡ length w
   pub few : m ≤ e
   pub slots : (j : ℕ) → j < m → getD v (reps + j) 0 < e
   pub others : (i : ℕ) → i < reps → (i < to) ⊎ (to + e ≤ i) → getD v i 0 ≡ getD w i 0
-  pub met : (cls : ℕ → ℕ) → Shares cells from n cls → Met v to reps cls m e
+  pub met : (cls : ℕ → ℕ) → Shares cells from n cls → ClassesMet v to reps cls m e
 
 module _ (w : List ℕ) (to reps n : ℕ) (cells : List Float) (from : ℕ) (f : ClassesFit w to reps n cells from) where
-  pub scan-first : Scan w w to reps n cells from 0 0
+  pub scan-first : ClassesScan w w to reps n cells from 0 0
   unfolding renumber distinct range
   scan-first = record {
     bound = omega arith;
@@ -74,20 +74,20 @@ module _ (w : List ℕ) (to reps n : ℕ) (cells : List Float) (from : ℕ) (f :
     met = λ cls s. record { types = refl; kinds = refl };
   }
 
-  pub scan-end : (v : List ℕ) (m e : ℕ) → Scan w v to reps n cells from m e → n ≤ e → ByClass w v to reps n cells from
+  pub scan-end : (v : List ℕ) (m e : ℕ) → ClassesScan w v to reps n cells from m e → n ≤ e → ByClass w v to reps n cells from
   scan-end v m e s h =
       let q : e ≡ n = omega (arith, s .bound) in
       record { long = s .long; others = rw q at (s .others); numbers = λ cls k. rw q at (s .met cls k .types) }
 
   -- This is what finding the class asks, and what a turn writes.
-  module _ (v : List ℕ) (m e : ℕ) (s : Scan w v to reps n cells from m e) (h : e < n) where
+  module _ (v : List ℕ) (m e : ℕ) (s : ClassesScan w v to reps n cells from m e) (h : e < n) where
     pub reps-in : (reps + m ≤ length v) × ((j : ℕ) → j < m → from + getD v (reps + j) 0 < length cells)
     reps-in = (omega (arith, s .long, s .few, f .room), λ j k. omega (arith, s .slots j k, f .inside))
 
     pub cells-in : (to + e < length v) × (reps + m < length v)
     cells-in = (omega (arith, s .long, f .room, f .apart), omega (arith, s .long, s .few, f .room))
 
-  module _ (v : List ℕ) (m e : ℕ) (s : Scan w v to reps n cells from m e) (h : e < n) (p : ℕ) (found : p ≡ place sameClass (cellAt cells from e) (repCells v reps m cells from)) where
+  module _ (v : List ℕ) (m e : ℕ) (s : ClassesScan w v to reps n cells from m e) (h : e < n) (p : ℕ) (found : p ≡ place sameClass (cellAt cells from e) (repCells v reps m cells from)) where
     pub number-within : p ≤ m
     number-within = omega (arith, found, length-cells v reps m cells from, place-within sameClass (cellAt cells from e) (repCells v reps m cells from))
 
@@ -149,7 +149,7 @@ module _ (w : List ℕ) (to reps n : ℕ) (cells : List Float) (from : ℕ) (f :
 
     -- ---- a class that was met
 
-    pub scan-old : p ≢ m → Scan w u to reps n cells from m (e + 1)
+    pub scan-old : p ≢ m → ClassesScan w u to reps n cells from m (e + 1)
     scan-old z = record {
       bound = omega arith;
       long = length-set v (to + e) p ∙ s .long;
@@ -192,7 +192,7 @@ module _ (w : List ℕ) (to reps n : ℕ) (cells : List Float) (from : ℕ) (f :
     slots-new j k (yes q) = rw (q, rep-new) (omega arith)
     slots-new j k (no q) = let i : j < m = omega arith in omega (arith, rep-old j i, s .slots j i)
 
-    pub scan-new : p ≡ m → Scan w t to reps n cells from (m + 1) (e + 1)
+    pub scan-new : p ≡ m → ClassesScan w t to reps n cells from (m + 1) (e + 1)
     scan-new z = record {
       bound = omega arith;
       long = length-set u (reps + m) e ∙ length-set v (to + e) p ∙ s .long;

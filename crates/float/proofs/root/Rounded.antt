@@ -10,7 +10,7 @@ use lib.Pow.{pow-add, pow-pos, pow-mono, shl-lt, shl-exact}
 use lib.Ieee.{Float, binary64, size, nearest, units, ofBits}
 use lib.Ieee.Bits.{ofBits-toBits}
 use Rattle.spec.specs.Float.{rootDown, rootUnits}
-use Rattle.laws.proofs.RootIs.{sq-twice, sq-suc, four-two, four-pos, Kept, kept-is, digits-of, at-units, units-fit, pattern-at, Cmp, cmp}
+use Rattle.laws.proofs.RootIs.{sq-twice, sq-suc, four-two, four-pos, DigitsKept, kept-is, digits-of, at-units, units-fit, pattern-at, Cmp, cmp}
 use Rattle.float.proofs.root.Digits.{Root}
 
 -- ---- an even number of zeros dropped
@@ -93,8 +93,8 @@ module _ (n d z q c : ℕ) (lo : 2 ^ 52 ≤ d) (hi : d < 2 ^ 53) (least : 1022 �
   kept : rootDown 53 (n / 4 ^ K z) ≡ q
   kept = ap (λ (x : ℕ). rootDown 53 (x / 4 ^ K z)) spread ∙ ap (rootDown 53) (mul-div-cancel (N d z) (four-pos (K z))) ∙ sym (r .0)
 
-  is-kept : Kept n (K z) q
-  is-kept = let s = long in subst (λ (x : ℕ). Kept n (K z) x) kept (kept-is n (K z) (sym dropped) (omega arith))
+  is-kept : DigitsKept n (K z) q
+  is-kept = let s = long in subst (λ (x : ℕ). DigitsKept n (K z) x) kept (kept-is n (K z) (sym dropped) (omega arith))
 
   -- The number and the midpoint's square, each four times, keep their order.
   four : 4 * n ≡ 4 * N d z * 4 ^ K z

@@ -13,7 +13,7 @@ use borrow.Rule.Slice.PartMut.{midOf, postOf, putMid}
 use Rattle.spec.specs.Hull.{listing, classesFrom}
 use Rattle.geometry.specs.declared.classes.ListedValue.{ListedValue}
 use Rattle.geometry.specs.Classes.{Takes}
-use Rattle.geometry.specs.Listed.{listAfter, Grown}
+use Rattle.geometry.specs.Listed.{listAfter, ListGrown}
 
 -- ---- plain lists
 
@@ -30,7 +30,7 @@ classes-append l (x ∷ xs) ys = ap (λ (c : List Float). listing l x .0 ∷ c) 
 -- ---- cells
 
 -- At first no distance was taken.
-pub grown-none : (from cell k : ℕ) (old : List Float) (n : ℕ) → Grown from cell k old old n n []
+pub grown-none : (from cell k : ℕ) (old : List Float) (n : ℕ) → ListGrown from cell k old old n n []
 unfolding listAfter classesFrom
 grown-none from cell k old n = record {
   same = refl;
@@ -42,7 +42,7 @@ grown-none from cell k old n = record {
 
 -- The distances xs, and then ys, are taken.
 pub grown-more : {from cell k h : ℕ} {a b c : List Float} {n m p : ℕ} {xs ys : List Float}
-    → Grown from cell k a b n m xs → h ≡ k + length xs → Grown from cell h b c m p ys → Grown from cell k a c n p (xs ++ ys)
+    → ListGrown from cell k a b n m xs → h ≡ k + length xs → ListGrown from cell h b c m p ys → ListGrown from cell k a c n p (xs ++ ys)
 grown-more {from} {cell} {k} {h} {a} {b} {c} {n} {m} {p} {xs} {ys} f e g =
     let l = take n (drop from a) in
     let s : k + length (xs ++ ys) ≡ h + length ys = omega (arith, length-append xs ys) in
@@ -83,7 +83,7 @@ module _ (old after : List Float) (from n cell k : ℕ) (x : Float) (t : ListedV
       ∙ ap (drop i) (took .rest)
       ∙ sym (step old)
 
-  pub grown-one : Grown from cell k old (set (take from old ++ after) (cell + k) (t .value)) n (t .count) (x ∷ [])
+  pub grown-one : ListGrown from cell k old (set (take from old ++ after) (cell + k) (t .value)) n (t .count) (x ∷ [])
   unfolding listAfter classesFrom
   grown-one =
       let j = cell + k - from in
@@ -107,7 +107,7 @@ module _ (old after : List Float) (from n cell k : ℕ) (x : Float) (t : ListedV
 -- The same holds as the part comes back, because what is lent is the part to the end, and nothing stands behind it.
 pub grown-part : (old after : List Float) (from n cell k : ℕ) (x : Float) (t : ListedValue) → Takes (midOf from (length old - from) old) after n x t
     → length after ≡ length (midOf from (length old - from) old) → from + n < cell → cell + k < length old
-    → Grown from cell k old (set (putMid from (length old - from) old after) (cell + k) (t .value)) n (t .count) (x ∷ [])
+    → ListGrown from cell k old (set (putMid from (length old - from) old after) (cell + k) (t .value)) n (t .count) (x ∷ [])
 grown-part old after from n cell k x t took many apart inside =
     let a : midOf from (length old - from) old ≡ drop from old = take-all (length old - from) (drop from old) (omega (arith, length-drop from old)) in
     let b : postOf from (length old - from) old ≡ [] = drop-of-length-le (drop from old) {i = length old - from} (omega (arith, length-drop from old)) in

@@ -19,7 +19,7 @@ use Rattle.ranked.specs.declared.Shape.{Shape}
 use Rattle.ranked.specs.Words.{firstAt, sizeAt, absIn, Held}
 use Rattle.ranked.specs.Layout.{proper, before, coordinates, classesAt, solidOn}
 use Rattle.ranked.proofs.Solids.{top-is, sizes-are, in-order}
-use Rattle.geometry.specs.Listed.{rankDistances, Grown, Classable, Classed}
+use Rattle.geometry.specs.Listed.{rankDistances, ListGrown, Classable, Classed}
 use Rattle.geometry.proofs.elements.Grown.{grown-none, grown-more}
 
 -- ---- a rank's elements
@@ -42,16 +42,16 @@ module _ {sh : Shape} {w : List ℕ} {floats : List Float} {n r : ℕ} (a : Clas
   before-in = omega (arith, start-below, some-here, end-below)
 
 -- The first e elements of rank r were taken.
-pub record Turn (sh : Shape) (w : List ℕ) (floats₀ : List Float) (n r from cell done many : ℕ) (floats : List Float) (m e : ℕ) : Type 0 where
+pub record RankTurn (sh : Shape) (w : List ℕ) (floats₀ : List Float) (n r from cell done many : ℕ) (floats : List Float) (m e : ℕ) : Type 0 where
   pub from-is : from ≡ coordinates sh
   pub cell-is : cell ≡ classesAt sh
   pub done-is : done ≡ before sh r
   pub many-is : many ≡ sizeAt sh r
   pub bound : e ≤ many
-  pub grown : Grown from cell done floats₀ floats n m (map (distanceOf (solidOn sh w floats₀) r) (range 0 e))
+  pub grown : ListGrown from cell done floats₀ floats n m (map (distanceOf (solidOn sh w floats₀) r) (range 0 e))
 
 pub first-turn : (sh : Shape) (w : List ℕ) (floats : List Float) (n r from cell done many : ℕ) → from ≡ coordinates sh → cell ≡ classesAt sh → done ≡ before sh r + 0
-    → many ≡ sizeAt sh r → Turn sh w floats n r from cell done many floats n 0
+    → many ≡ sizeAt sh r → RankTurn sh w floats n r from cell done many floats n 0
 unfolding range
 first-turn sh w floats n r from cell done many f c d s = record {
   from-is = f;
@@ -63,7 +63,7 @@ first-turn sh w floats n r from cell done many f c d s = record {
 }
 
 module _ {sh : Shape} {w : List ℕ} {floats₀ : List Float} {n r from cell done many : ℕ} {floats : List Float} {m e : ℕ}
-    (t : Turn sh w floats₀ n r from cell done many floats m e) (a : Classable sh w floats₀ n r) where
+    (t : RankTurn sh w floats₀ n r from cell done many floats m e) (a : Classable sh w floats₀ n r) where
   taken : length (map (distanceOf (solidOn sh w floats₀) r) (range 0 e)) ≡ e
   taken = length-table (distanceOf (solidOn sh w floats₀) r) e
 
@@ -84,7 +84,7 @@ module _ {sh : Shape} {w : List ℕ} {floats₀ : List Float} {n r from cell don
 
   -- One element more is taken.
   pub next-turn : e < many → (x : Float) → x ≡ distanceOf (solidOn sh w floats) r e
-      → (new : List Float) (p : ℕ) → Grown from cell (done + e) floats new m p (x ∷ []) → Turn sh w floats₀ n r from cell done many new p (e + 1)
+      → (new : List Float) (p : ℕ) → ListGrown from cell (done + e) floats new m p (x ∷ []) → RankTurn sh w floats₀ n r from cell done many new p (e + 1)
   next-turn h x q new p g =
       let f = distanceOf (solidOn sh w floats₀) r in
       let k : take (coordinates sh) floats ≡ take (coordinates sh) floats₀ = rw (t .from-is) at (t .grown .same) in
@@ -100,7 +100,7 @@ module _ {sh : Shape} {w : List ℕ} {floats₀ : List Float} {n r from cell don
         grown = rw s at (grown-more (t .grown) (omega (arith, taken)) g);
       }
 
-  pub last-turn : many ≤ e → Grown (coordinates sh) (classesAt sh) (before sh r) floats₀ floats n m (rankDistances (solidOn sh w floats₀) r)
+  pub last-turn : many ≤ e → ListGrown (coordinates sh) (classesAt sh) (before sh r) floats₀ floats n m (rankDistances (solidOn sh w floats₀) r)
   unfolding rankDistances
   last-turn h =
       let i : e ≡ size (absIn sh w) r = omega (arith, t .bound, t .many-is, sizes-are sh w (a .held) r) in
@@ -141,7 +141,7 @@ pub record Round (sh : Shape) (w : List ℕ) (floats₀ floats : List Float) (n 
   pub low : 1 ≤ r
   pub high : r - 1 ≤ sh .rank - 1
   pub many : length (below (solidOn sh w floats₀) r) ≡ before sh r
-  pub grown : Grown (coordinates sh) (classesAt sh) 0 floats₀ floats 0 n (below (solidOn sh w floats₀) r)
+  pub grown : ListGrown (coordinates sh) (classesAt sh) 0 floats₀ floats 0 n (below (solidOn sh w floats₀) r)
 
 pub first-round : (sh : Shape) (w : List ℕ) (floats : List Float) → Round sh w floats floats 0 1
 first-round sh w floats =
@@ -164,11 +164,11 @@ module _ {sh : Shape} {w : List ℕ} {floats₀ floats : List Float} {n r : ℕ}
   }
 
   pub next-round : r < sh .rank → (new : List Float) (p : ℕ)
-      → Grown (coordinates sh) (classesAt sh) (before sh r) floats new n p (rankDistances (solidOn sh w floats) r) → Round sh w floats₀ new p (r + 1)
+      → ListGrown (coordinates sh) (classesAt sh) (before sh r) floats new n p (rankDistances (solidOn sh w floats) r) → Round sh w floats₀ new p (r + 1)
   next-round k new p g =
       let c = solidOn sh w floats₀ in
       let s = below-next c r (t .low) in
-      let f : Grown (coordinates sh) (classesAt sh) (before sh r) floats new n p (rankDistances c r) = rw (t .grown .same) at g in
+      let f : ListGrown (coordinates sh) (classesAt sh) (before sh r) floats new n p (rankDistances c r) = rw (t .grown .same) at g in
       let l = rank-length sh w h floats₀ r in
       let a = in-order sh w h 1 r (t .low) (omega arith) in
       let b = h .some r (omega arith) in
@@ -196,7 +196,7 @@ module _ {sh : Shape} {w : List ℕ} {floats₀ floats : List Float} {n r : ℕ}
       let ds = distances (solidOn sh w floats₀) in
       let e = below-all sh w floats₀ r (omega (arith, t .low, t .high)) in
       let q : proper sh ≡ 0 + length ds = omega (arith, ap length e, t .many, all-before k) in
-      let g : Grown (coordinates sh) (classesAt sh) 0 floats₀ floats 0 n ds = rw e at (t .grown) in
+      let g : ListGrown (coordinates sh) (classesAt sh) 0 floats₀ floats 0 n ds = rw e at (t .grown) in
       record {
         same = g .same;
         long = g .long;

@@ -16,7 +16,7 @@ use Rattle.laws.proofs.Lists.{map-in, in-map, in-range, of-range, getD-map, onc
 use Rattle.laws.proofs.Counts.{lists}
 use Rattle.laws.proofs.Steps.{proper?}
 use Rattle.laws.proofs.Result.{proper-rank}
-use Rattle.laws.proofs.Marked.{both, every-in, in-order, of-order, order-same, goes-proper, goes-improper, goes-vertices, Permutes, row-low, Fit, fit-of}
+use Rattle.laws.proofs.Marked.{both, every-in, in-order, of-order, order-same, goes-proper, goes-improper, goes-vertices, Permutes, row-low, ElementFit, fit-of}
 use Rattle.marks.proofs.Sets.{every-of}
 use Rattle.marks.proofs.Rows.{same-place, permutes-of, permutes-vertices}
 use Rattle.marks.proofs.Confirmed.{carriesAt, carriesAll, marked-full, marked-is}
@@ -26,14 +26,14 @@ use Rattle.marks.specs.Products.{composed}
 -- ---- what a confirmed row is
 
 module _ (s : Solid) (cls : Classes) (row : List ℕ) where
-  fit-is : (r e : ℕ) → Fit s cls row r e → carriesElement s cls row r e ≡ true
+  fit-is : (r e : ℕ) → ElementFit s cls row r e → carriesElement s cls row r e ≡ true
   unfolding carriesElement
   fit-is r e f = rw (lt-ltb (goes s row r e) (size s r) (f .inside), eq-eqb (cls r (goes s row r e)) (cls r e) (f .class), f .onto) (lists .pass _)
 
   record Confirmed : Type 0 where
     sets : setsApart s ≡ true
     permutes : Permutes s row
-    fit : (r e : ℕ) → Proper s r → e < size s r → Fit s cls row r e
+    fit : (r e : ℕ) → Proper s r → e < size s r → ElementFit s cls row r e
 
   confirmed : marked s cls row ≡ true → Confirmed
   confirmed ok =
@@ -125,7 +125,7 @@ module _ (s : Solid) (w : Sound s) (cls : Classes) (a b : List ℕ) (ca : Confir
       order-then (size s (pred r)) (goes s a (pred r)) (goes s b (pred r)) (goes s (composed a b) (pred r)) (subs s r e)
       (λ x m. let i = inside (pred r) x (below r e x p m) in (i, goes-composed s a b (cb .permutes) (pred r) x i))
 
-  fit-composed : (r e : ℕ) → Proper s r → e < size s r → Fit s cls (composed a b) r e
+  fit-composed : (r e : ℕ) → Proper s r → e < size s r → ElementFit s cls (composed a b) r e
   fit-composed r e p h =
       let fb = cb .fit r e p h in
       let fa = ca .fit r (goes s b r e) p (fb .inside) in

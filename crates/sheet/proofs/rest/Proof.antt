@@ -6,7 +6,7 @@ use native.Mathlib.Omega.{arith}
 use borrow.Author.Needs.{needs}
 use Rattle.spec.specs.Sheet.{times, count}
 use Rattle.sheet.specs.Reading.{countedOf, restAt, judgementAt}
-use Rattle.sheet.proofs.Made.{Counts, uncounted, counted, counts-near, counts-small, counts-vertices, judgedWith, rest-refuses, rest-told}
+use Rattle.sheet.proofs.Made.{CountsKnown, uncounted, counted, counts-near, counts-small, counts-vertices, judgedWith, rest-refuses, rest-told}
 use Rattle.sheet.proofs.rest.Statement.{statement}
 use Rattle.sheet.proofs.rest.Tie as tie
 
@@ -15,7 +15,7 @@ answer : (c : tie.After-counts) → let a = c .before .before .before .args in c
 answer c = rw (c .before .proper-ranks .ensures) at (c .counts .ensures)
 
 -- The counts were read.
-read : (c : tie.After-known-told2) → let k = c .before .before .before .before in let a = k .before .before .before .args in Counts (a .sheet .now) (a .rank - 1) 6 (c .before .place2 .given .0 .0) (k .counts .result)
+read : (c : tie.After-known-told2) → let k = c .before .before .before .before in let a = k .before .before .before .args in CountsKnown (a .sheet .now) (a .rank - 1) 6 (c .before .place2 .given .0 .0) (k .counts .result)
 read c =
     let k = c .before .before .before .before in
     let a = k .before .before .before .args in

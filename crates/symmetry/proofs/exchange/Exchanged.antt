@@ -18,7 +18,7 @@ use Rattle.spec.specs.Types.{Solid, top, size, subs, elements}
 use Rattle.spec.specs.Solid.{entries, bound, diamond, floatsFor}
 use Rattle.spec.specs.Search.{exchangedIn, exchanged}
 use Rattle.laws.specs.SolidLaws.{swap}
-use Rattle.laws.specs.Passed.{Kept}
+use Rattle.laws.specs.Passed.{ExchangeKept}
 use Rattle.laws.proofs.Exchange.{swap-low, size-same, subs-n, subs-other, elements-same, entries-same, bound-same, every-exchange}
 use Rattle.ranked.specs.declared.Shape.{Shape}
 use Rattle.ranked.specs.Words.{firstAt, sizeAt, total, listsOf, listAt, subsIn, absIn, Held}
@@ -175,7 +175,7 @@ module _ (sh : Shape) (w : List ℕ) (st : Stored sh w) (d : diamond (absIn sh w
       (λ r h. size-is sh w′ r (omega (arith, ranks)) ∙ sym (size-is sh w r (omega (arith, ranks))) ∙ sym (size-same s tall-here f low-here r))
       (λ r e h k. same-subs r e (omega (arith, ranks)) (rw (size-is sh w′ r (omega (arith, ranks))) at k))
 
-  pub kept : Kept s t
+  pub kept : ExchangeKept s t
   kept = every-exchange s (st .sound) d (st .filled) tall-here f low-here
 
   pub entries-is : entries t ≡ entries s
@@ -310,7 +310,7 @@ module _ (sh : Shape) (ws : List ℕ) (l : Laid sh ws) (f : ℕ) (asked : (2 ≤
         pub past₂ : drop (sh .low) ws₂ ≡ drop (sh .low) ws
         past₂ = (rw (base-is, low-is) at p′) ∙ rw e₁ (lists-drop ws a (a + f) (sh .low) (omega (arith, facet-low, heads-fit, base-in b)) (omega (arith, facet-low, heads-fit, base-in b)))
 
-        tests : Kept whole (exchangedIn whole f)
+        tests : ExchangeKept whole (exchangedIn whole f)
         tests = rw alone at (kept sh v (b .stored) diamonds (asked .0) f (asked .1))
 
         entries₂ : entries (exchangedIn whole f) ≡ entries whole

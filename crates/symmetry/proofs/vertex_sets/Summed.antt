@@ -9,7 +9,8 @@ use native.Mathlib.Nat.{mul-le-mul}
 use native.Mathlib.Omega.{arith}
 use lib.ListN.{length, getD, drop, drop-of-length-le}
 use lib.Seq.{drop-cons}
-use lib.Dec.{eqb}
+use lib.Dec.{eqb, ltb}
+use borrow.Author.Tests.{ltb-true}
 use Rattle.spec.specs.Limits.{maxCount}
 use Rattle.spec.specs.Lists.{range, keep, holds, inOrder}
 use Rattle.spec.specs.Types.{Solid, size, reach, vertices}
@@ -66,8 +67,8 @@ unfolding range fingerprintOf
 range-less a zero m = omega arith
 range-less a (suc n) m = let e : suc n + m ≡ suc (n + m) = omega arith in rw e (omega (arith, range-less (suc a) n m))
 
--- With as many vertices as a solid can have, the sum is this.
-whole : fingerprintOf (range 0 maxCount) ≡ 2861214720
+-- With as many vertices as a solid can have, the sum fits a word.
+whole : ltb (fingerprintOf (range 0 maxCount)) (2 ^ 32) ≡ true
 unfolding range fingerprintOf
 whole = refl
 
@@ -76,4 +77,4 @@ unfolding vertices inOrder
 fingerprint-fits s r e h =
     let q : size s 1 + (maxCount - size s 1) ≡ maxCount = omega arith in
     let l : fingerprintOf (range 0 (size s 1)) ≤ fingerprintOf (range 0 maxCount) = rw q at (range-less 0 (size s 1) (maxCount - size s 1)) in
-    omega (arith, keep-less (λ v. holds eqb v (reach s r e)) (range 0 (size s 1)), l, whole)
+    omega (arith, keep-less (λ v. holds eqb v (reach s r e)) (range 0 (size s 1)), l, ltb-true (fingerprintOf (range 0 maxCount)) (2 ^ 32) whole)

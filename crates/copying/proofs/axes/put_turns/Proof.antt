@@ -6,12 +6,12 @@ use native.Mathlib.Omega.{arith}
 use borrow.Author.Needs.{needs}
 use lib.ListN.{length, length-drop}
 use Rattle.points.proofs.Tails.{tail-is}
-use Rattle.copying.proofs.Flat.{Laid, laid-none, laid-length, laid-next, laid-all}
+use Rattle.copying.proofs.Flat.{TurnsLaid, laid-none, laid-length, laid-next, laid-all}
 use Rattle.copying.proofs.axes.put_turns.Statement.{statement}
 use Rattle.copying.proofs.axes.put_turns.Tie as tie
 
 abbrev Inv-loop : tie.InvT-loop
-Inv-loop table out₀ k₀ out k = (k ≤ length table) × (length out ≡ length out₀) × Laid table out₀ out k
+Inv-loop table out₀ k₀ out k = (k ≤ length table) × (length out ≡ length out₀) × TurnsLaid table out₀ out k
 
 abbrev μ-loop : tie.MeasureT-loop
 μ-loop table out₀ k₀ out k = length table - k

@@ -12,14 +12,14 @@ use Rattle.spec.specs.Copying.{copiesFrom, copies, points, matrices}
 use Rattle.spec.specs.Lists.{parts}
 use Rattle.laws.proofs.CopyLaws.{copies-add}
 use Rattle.copying.specs.Post.{CopiesKept, withPoint}
-use Rattle.copying.proofs.Growth.{Grown, grown-first, grown-next, grown-full, grown-end, Done, done-first, done-next, done-longer, done-end, copies-nothing, copies-turn, point-is, length-points, point-longer}
+use Rattle.copying.proofs.Growth.{CopiesGrown, grown-first, grown-next, grown-full, grown-end, Done, done-first, done-next, done-longer, done-end, copies-nothing, copies-turn, point-is, length-points, point-longer}
 use Rattle.copying.proofs.Squares.{point-end}
 use Rattle.copying.proofs.joining.copies.Statement.{statement}
 use Rattle.copying.proofs.joining.copies.Tie as tie
 
 abbrev Inv-loop : tie.InvT-loop
 Inv-loop from turns d limit out₀ count n₀ k₀ out n k =
-    (k ≤ count) × Grown d limit out₀ out n × Done (copiesFrom (matrices d turns)) (points d from) [] k (parts n d out)
+    (k ≤ count) × CopiesGrown d limit out₀ out n × Done (copiesFrom (matrices d turns)) (points d from) [] k (parts n d out)
 
 abbrev μ-loop : tie.MeasureT-loop
 μ-loop from turns d limit out₀ count n₀ k₀ out n k = count - k

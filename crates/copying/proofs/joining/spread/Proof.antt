@@ -13,7 +13,7 @@ use Rattle.spec.specs.Copying.{spread, matrices}
 use Rattle.spec.specs.Lists.{parts}
 use Rattle.points.proofs.Parts.{length-parts}
 use Rattle.matrix.proofs.Padded.{take-image}
-use Rattle.copying.proofs.Growth.{Grown, grown-first, grown-next, grown-full, grown-end, Done, done-first, done-next, done-longer, done-end, spread-nothing, spread-turn, matrix-is, length-matrices, image-longer}
+use Rattle.copying.proofs.Growth.{CopiesGrown, grown-first, grown-next, grown-full, grown-end, Done, done-first, done-next, done-longer, done-end, spread-nothing, spread-turn, matrix-is, length-matrices, image-longer}
 use Rattle.laws.proofs.CopyLaws.{spread-adds}
 use Rattle.copying.specs.Post.{CopiesKept, withImage}
 use Rattle.copying.proofs.Squares.{square, square-pos, point-end}
@@ -22,7 +22,7 @@ use Rattle.copying.proofs.joining.spread.Tie as tie
 
 abbrev Inv-loop : tie.InvT-loop
 Inv-loop out₀ d n limit turns p count held₀ j₀ out held j =
-    (j ≤ count) × Grown d limit out₀ out held × Done (λ ms cs. spread ms (take d p) cs) (matrices d turns) (parts n d out₀) j (parts held d out)
+    (j ≤ count) × CopiesGrown d limit out₀ out held × Done (λ ms cs. spread ms (take d p) cs) (matrices d turns) (parts n d out₀) j (parts held d out)
 
 abbrev μ-loop : tie.MeasureT-loop
 μ-loop out₀ d n limit turns p count held₀ j₀ out held j = count - j

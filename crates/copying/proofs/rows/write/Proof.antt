@@ -18,14 +18,14 @@ use Rattle.points.proofs.Parts.{length-parts, part-end}
 use Rattle.copying.proofs.Squares.{square, square-pos, point-end}
 use Rattle.copying.proofs.Growth.{matrix-is, length-matrices}
 use Rattle.points.proofs.Tails.{tail-is}
-use Rattle.points.proofs.Filled.{Filled, Piece, filled-none, filled-next, filled-open, filled-end, length-row}
+use Rattle.points.proofs.Filled.{CellsFilled, Piece, filled-none, filled-next, filled-open, filled-end, length-row}
 use Rattle.copying.proofs.Tables.{row-piece, closed-back, opened-back}
 use Rattle.copying.proofs.rows.write.Statement.{statement}
 use Rattle.copying.proofs.rows.write.Tie as tie
 
 abbrev Inv-loop : tie.InvT-loop
 Inv-loop copies d n turns out₀ count places j₀ out j =
-    (j ≤ count) × (length out ≡ length out₀) × Filled n (copyTable (matrices d turns) (parts n d copies)) out₀ out (j * n)
+    (j ≤ count) × (length out ≡ length out₀) × CellsFilled n (copyTable (matrices d turns) (parts n d copies)) out₀ out (j * n)
 
 abbrev μ-loop : tie.MeasureT-loop
 μ-loop copies d n turns out₀ count places j₀ out j = count - j

@@ -4,12 +4,12 @@ use borrow.Author.Needs.{needs}
 use mathlib.Core.Path.{sym, _∙_}
 use Prim.Native.Nat.{_≤_, _-_}
 use Rattle.element_types.specs.Runs.{keyAt, repKeys}
-use Rattle.element_types.proofs.Compared.{Sought, sought-first, sought-yes, sought-no, sought-end}
+use Rattle.element_types.proofs.Compared.{KeySought, sought-first, sought-yes, sought-no, sought-end}
 use Rattle.element_types.proofs.compare.find_key.Statement.{statement}
 use Rattle.element_types.proofs.compare.find_key.Tie as tie
 
 abbrev Inv : tie.InvT-loop
-Inv words reps m q j₀ j = (j ≤ m) × Sought (keyAt words q) (repKeys words reps m) j
+Inv words reps m q j₀ j = (j ≤ m) × KeySought (keyAt words q) (repKeys words reps m) j
 
 abbrev μ : tie.MeasureT-loop
 μ words reps m q j₀ j = m - j

@@ -4,12 +4,12 @@ use borrow.Author.Needs.{needs}
 use native.Mathlib.Omega.{arith}
 use Prim.Native.Nat.{suc, _-_, _≤_, _<_}
 use Rattle.ranked.specs.Words.{firstAt, total}
-use Rattle.element_types.proofs.Tallied.{Tally, tally-first, offsets, run-in, run-numbered, sum-fits, tally-next, tally-end}
+use Rattle.element_types.proofs.Tallied.{TypesTally, tally-first, offsets, run-in, run-numbered, sum-fits, tally-next, tally-end}
 use Rattle.element_types.proofs.counting.type_count.Statement.{statement}
 use Rattle.element_types.proofs.counting.type_count.Tie as tie
 
 abbrev Inv : tie.InvT-loop
-Inv words sh rank n₀ r₀ n r = Tally sh words n r
+Inv words sh rank n₀ r₀ n r = TypesTally sh words n r
 
 abbrev μ : tie.MeasureT-loop
 μ words sh rank n₀ r₀ n r = rank - r

@@ -1,14 +1,14 @@
--- The elements are numbered one after another, as `Scan` says.
+-- The elements are numbered one after another, as `KeysScan` says.
 -- Assumes nothing.
 use borrow.Author.Needs.{needs}
 use native.Mathlib.Omega.{arith}
 use Prim.Native.Nat.{_-_}
-use Rattle.element_types.proofs.Scanned.{Scan, Sums, scan-first, scan-end, writable, asked, scan-old, scan-new, sums-fit}
+use Rattle.element_types.proofs.Scanned.{KeysScan, Sums, scan-first, scan-end, writable, asked, scan-old, scan-new, sums-fit}
 use Rattle.element_types.proofs.numbering.number_rank.Statement.{statement}
 use Rattle.element_types.proofs.numbering.number_rank.Tie as tie
 
 abbrev Inv : tie.InvT-loop
-Inv words₀ lists n base from out reps q₀ m₀ e₀ words q m e = Scan words₀ lists n base from out words m q e
+Inv words₀ lists n base from out reps q₀ m₀ e₀ words q m e = KeysScan words₀ lists n base from out words m q e
 
 abbrev μ : tie.MeasureT-loop
 μ words₀ lists n base from out reps q₀ m₀ e₀ words q m e = n - e

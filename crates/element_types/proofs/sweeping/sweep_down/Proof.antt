@@ -5,12 +5,12 @@ use native.Mathlib.Omega.{arith}
 use Prim.Native.Nat.{_-_, _≤_}
 use Rattle.spec.specs.Types.{down}
 use Rattle.element_types.specs.State.{downs}
-use Rattle.element_types.proofs.Sweeps.{Swept, swept-first, swept-ready, swept-next, swept-end, downs-next, downs-end}
+use Rattle.element_types.proofs.Sweeps.{StepsSwept, swept-first, swept-ready, swept-next, swept-end, downs-next, downs-end}
 use Rattle.element_types.proofs.sweeping.sweep_down.Statement.{statement}
 use Rattle.element_types.proofs.sweeping.sweep_down.Tie as tie
 
 abbrev Inv : tie.InvT-loop
-Inv words₀ sh r₀ words r = (r ≤ sh .rank) × Swept sh words₀ words (downs r) (downs (sh .rank))
+Inv words₀ sh r₀ words r = (r ≤ sh .rank) × StepsSwept sh words₀ words (downs r) (downs (sh .rank))
 
 abbrev μ : tie.MeasureT-loop
 μ words₀ sh r₀ words r = r

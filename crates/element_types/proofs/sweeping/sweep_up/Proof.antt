@@ -5,12 +5,12 @@ use native.Mathlib.Omega.{arith}
 use Prim.Native.Nat.{_-_, _≤_}
 use Rattle.spec.specs.Types.{up}
 use Rattle.element_types.specs.State.{ups}
-use Rattle.element_types.proofs.Sweeps.{Swept, swept-first, swept-ready, swept-next, swept-end, ups-next, ups-end}
+use Rattle.element_types.proofs.Sweeps.{StepsSwept, swept-first, swept-ready, swept-next, swept-end, ups-next, ups-end}
 use Rattle.element_types.proofs.sweeping.sweep_up.Statement.{statement}
 use Rattle.element_types.proofs.sweeping.sweep_up.Tie as tie
 
 abbrev Inv : tie.InvT-loop
-Inv words₀ sh rank r₀ words r = (1 ≤ r) × Swept sh words₀ words (ups r (sh .rank)) (ups 1 (sh .rank))
+Inv words₀ sh rank r₀ words r = (1 ≤ r) × StepsSwept sh words₀ words (ups r (sh .rank)) (ups 1 (sh .rank))
 
 abbrev μ : tie.MeasureT-loop
 μ words₀ sh rank r₀ words r = sh .rank - r

@@ -4,12 +4,12 @@ use Prim.Native.Nat.{_≤_, _-_}
 use native.Mathlib.Omega.{arith}
 use lib.ListN.{length}
 use borrow.Author.Needs.{needs}
-use Rattle.float.proofs.Dots.{Summed, none, first, next, end}
+use Rattle.float.proofs.Dots.{DotSummed, none, first, next, end}
 use Rattle.float.proofs.vector.dot.Statement.{statement}
 use Rattle.float.proofs.vector.dot.Tie as tie
 
 abbrev Inv-loop : tie.InvT-loop
-Inv-loop a b t₀ i₀ t i = (1 ≤ i) × (i ≤ length a) × Summed a b t i
+Inv-loop a b t₀ i₀ t i = (1 ≤ i) × (i ≤ length a) × DotSummed a b t i
 
 abbrev μ-loop : tie.MeasureT-loop
 μ-loop a b t₀ i₀ t i = length a - i

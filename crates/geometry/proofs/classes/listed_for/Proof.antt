@@ -4,12 +4,12 @@ use mathlib.Core.Path.{sym, _∙_}
 use Prim.Native.Nat.{_≤_}
 use borrow.Author.Needs.{needs}
 use Rattle.geometry.specs.Classes.{nearestOf}
-use Rattle.geometry.proofs.Nearest.{Found, first, near, far, end}
+use Rattle.geometry.proofs.Nearest.{NearestFound, first, near, far, end}
 use Rattle.geometry.proofs.classes.listed_for.Statement.{statement}
 use Rattle.geometry.proofs.classes.listed_for.Tie as tie
 
 abbrev Inv-loop : tie.InvT-loop
-Inv-loop listed n x found₀ i₀ found i = (i ≤ n) × Found x listed n (nearestOf found) i
+Inv-loop listed n x found₀ i₀ found i = (i ≤ n) × NearestFound x listed n (nearestOf found) i
 
 abbrev μ-loop : tie.MeasureT-loop
 μ-loop listed n x found₀ i₀ found i = i

@@ -3,12 +3,12 @@
 use borrow.Author.Needs.{needs}
 use native.Mathlib.Omega.{arith}
 use Prim.Native.Nat.{_-_}
-use Rattle.geometry.proofs.elements.Ranks.{rank-fits, start-below, some-here, before-in, Turn, first-turn, points-fit, in-rank, here, apart, inside, next-turn, last-turn}
+use Rattle.geometry.proofs.elements.Ranks.{rank-fits, start-below, some-here, before-in, RankTurn, first-turn, points-fit, in-rank, here, apart, inside, next-turn, last-turn}
 use Rattle.geometry.proofs.elements.classes_of_rank.Statement.{statement}
 use Rattle.geometry.proofs.elements.classes_of_rank.Tie as tie
 
 abbrev Inv : tie.InvT-loop
-Inv lists sh floats₀ n r from cell done many m₀ e₀ floats m e = Turn sh lists floats₀ n r from cell done many floats m e
+Inv lists sh floats₀ n r from cell done many m₀ e₀ floats m e = RankTurn sh lists floats₀ n r from cell done many floats m e
 
 abbrev μ : tie.MeasureT-loop
 μ lists sh floats₀ n r from cell done many m₀ e₀ floats m e = many - e

@@ -11,12 +11,12 @@ use Rattle.spec.specs.Float.{zeroF, oneF}
 use Rattle.spec.specs.Matrix.{entry}
 use Rattle.matrix.specs.Reading.{leading, paddedRows, ifRegular, inverseCells}
 use Rattle.matrix.proofs.Leading.{entry-leading}
-use Rattle.matrix.proofs.Columns.{Run, first, stop, next, inverse-none, determinant-none, inverse-end, determinant-end}
+use Rattle.matrix.proofs.Columns.{ColumnsDone, first, stop, next, inverse-none, determinant-none, inverse-end, determinant-end}
 use Rattle.matrix.proofs.elimination.eliminate.Statement.{statement}
 use Rattle.matrix.proofs.elimination.eliminate.Tie as tie
 
 abbrev Inv-loop : tie.InvT-loop
-Inv-loop d regular₀ product₀ rows₀ t₀ odd₀ c₀ regular product rows t odd c = (c ≤ d) × Run d (leading d (d + d) rows₀) (leading d (d + d) rows) t odd c
+Inv-loop d regular₀ product₀ rows₀ t₀ odd₀ c₀ regular product rows t odd c = (c ≤ d) × ColumnsDone d (leading d (d + d) rows₀) (leading d (d + d) rows) t odd c
 
 abbrev μ-loop : tie.MeasureT-loop
 μ-loop d regular₀ product₀ rows₀ t₀ odd₀ c₀ regular product rows t odd c = d - c

@@ -17,13 +17,13 @@ use Rattle.matrix.proofs.Corner.{length-corner}
 use Rattle.matrix.proofs.Padded.{take-image}
 use Rattle.points.proofs.Parts.{length-parts, part-at, part-end}
 use Rattle.points.proofs.Finding.{at-number, is-missing}
-use Rattle.points.proofs.Filled.{Filled, Piece, filled-none, filled-next, filled-open, filled-end, cell, cell-set, cell-is, length-row, one-held, one-other}
+use Rattle.points.proofs.Filled.{CellsFilled, Piece, filled-none, filled-next, filled-open, filled-end, cell, cell-set, cell-is, length-row, one-held, one-other}
 use Rattle.points.proofs.lookup.row_of.Statement.{statement}
 use Rattle.points.proofs.lookup.row_of.Tie as tie
 
 abbrev Inv-loop : tie.InvT-loop
 Inv-loop points d n places m row₀ k₀ row k =
-    (k ≤ n) × (length row ≡ length row₀) × Filled n (rowOf (parts n d points) (corner d m)) row₀ row k
+    (k ≤ n) × (length row ≡ length row₀) × CellsFilled n (rowOf (parts n d points) (corner d m)) row₀ row k
 
 abbrev μ-loop : tie.MeasureT-loop
 μ-loop points d n places m row₀ k₀ row k = n - k
@@ -33,13 +33,13 @@ loaded-requires c κs =
     let s = c .before .before .before .before in
     (s .pre .0 .1, omega (arith, part-end (s .args .n) (s .args .d) (c .before .loop .k) (c .loop-test .taken), s .pre .0 .3))
 
--- The row over the points.
+-- This is the row over the points.
 abbrev whole : (c : tie.After-found Inv-loop μ-loop) → List ℕ
 whole c =
     let a = c .before .before .before .before .before .before .before .args in
     rowOf (parts (a .n) (a .d) (a .points .now)) (corner (a .d) (a .m))
 
--- The number of point k's image.
+-- This is the number of point k's image.
 abbrev imageOf : (c : tie.After-found Inv-loop μ-loop) → ℕ
 imageOf c =
     let a = c .before .before .before .before .before .before .before .args in

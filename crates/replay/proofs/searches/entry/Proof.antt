@@ -5,16 +5,16 @@ use Prim.Native.Nat.{ℕ, _<_}
 use native.Mathlib.Omega.{arith}
 use lib.Ieee.{Float}
 use borrow.Author.Needs.{needs}
-use Rattle.replay.specs.declared.searches.Output.{Output}
+use Rattle.replay.specs.declared.searches.SearchOutput.{SearchOutput}
 use Rattle.replay.specs.Outputs.{lengthOf}
 use Rattle.replay.proofs.searches.entry.Statement.{statement}
 use Rattle.replay.proofs.searches.entry.Tie as tie
 
-below : (a b : Output) (m : List Float) (r k : List ℕ) (i : ℕ) → a ≡ b → i < lengthOf a m r k → i < lengthOf b m r k
+below : (a b : SearchOutput) (m : List Float) (r k : List ℕ) (i : ℕ) → a ≡ b → i < lengthOf a m r k → i < lengthOf b m r k
 below a b m r k i e h = rw e at h
 
 -- The index is below the length of the output that a case has told.
-inside : (c : tie.After-shared-slice-known3) (o : Output) → let a = c .before .before .before .args in a .output ≡ o → a .i < lengthOf o (a .matrices .now) (a .rows .now) (a .marks .now)
+inside : (c : tie.After-shared-slice-known3) (o : SearchOutput) → let a = c .before .before .before .args in a .output ≡ o → a .i < lengthOf o (a .matrices .now) (a .rows .now) (a .marks .now)
 inside c o e = let s = c .before .before .before in below (s .args .output) o _ _ _ _ e (s .pre)
 
 pub entry-spec : {M : Type 1} → statement M

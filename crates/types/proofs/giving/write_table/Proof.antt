@@ -5,12 +5,12 @@ use native.Mathlib.Omega.{arith}
 use Prim.Native.Nat.{suc, _-_, _≤_, _<_}
 use Rattle.ranked.specs.Words.{firstAt, total}
 use Rattle.element_types.proofs.Tallied.{offsets}
-use Rattle.types.proofs.Ranks.{Tabled, tabled-first, tabled-long, listable, types-fit, tabled-next, tabled-end}
+use Rattle.types.proofs.Ranks.{RanksTabled, tabled-first, tabled-long, listable, types-fit, tabled-next, tabled-end}
 use Rattle.types.proofs.giving.write_table.Statement.{statement}
 use Rattle.types.proofs.giving.write_table.Tie as tie
 
 abbrev Inv : tie.InvT-loop
-Inv words sh table₀ rank m₀ r₀ table m r = Tabled sh words table₀ table m r
+Inv words sh table₀ rank m₀ r₀ table m r = RanksTabled sh words table₀ table m r
 
 abbrev μ : tie.MeasureT-loop
 μ words sh table₀ rank m₀ r₀ table m r = rank - r

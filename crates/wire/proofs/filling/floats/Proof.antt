@@ -3,13 +3,13 @@ use Prim.Native.Nat.{ℕ, _+_, _%_, _-_}
 use native.Mathlib.Omega.{arith}
 use lib.ListN.{length}
 use lib.Ieee.{binary64, ofBits}
-use Rattle.wire.proofs.Filled.{Filled, none, next, all}
+use Rattle.wire.proofs.Filled.{OutputFilled, none, next, all}
 use borrow.Author.Needs.{needs}
 use Rattle.wire.proofs.filling.floats.Statement.{statement}
 use Rattle.wire.proofs.filling.floats.Tie as tie
 
 abbrev Inv-loop : tie.InvT-loop
-Inv-loop out₀ i₀ out i = Filled (λ (i : ℕ). ofBits binary64 (0x7000_0000_0000_0000 + i % 65536)) out₀ out i
+Inv-loop out₀ i₀ out i = OutputFilled (λ (i : ℕ). ofBits binary64 (0x7000_0000_0000_0000 + i % 65536)) out₀ out i
 
 abbrev μ-loop : tie.MeasureT-loop
 μ-loop out₀ i₀ out i = length out₀ - i

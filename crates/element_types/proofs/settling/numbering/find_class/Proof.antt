@@ -7,13 +7,13 @@ use Prim.Native.Nat.{_+_, _-_, _≤_, _<_}
 use lib.ListN.{length}
 use Rattle.geometry.specs.Classes.{sameClass}
 use Rattle.element_types.specs.Start.{repCells}
-use Rattle.element_types.proofs.settling.Places.{Sought}
+use Rattle.element_types.proofs.settling.Places.{PlaceSought}
 use Rattle.element_types.proofs.settling.Scanned.{class-first, class-yes, class-no, class-end}
 use Rattle.element_types.proofs.settling.numbering.find_class.Statement.{statement}
 use Rattle.element_types.proofs.settling.numbering.find_class.Tie as tie
 
 abbrev Inv : tie.InvT-loop
-Inv words reps m cells from x j₀ j = (j ≤ m) × Sought sameClass x (repCells words reps m cells from) j
+Inv words reps m cells from x j₀ j = (j ≤ m) × PlaceSought sameClass x (repCells words reps m cells from) j
 
 abbrev μ : tie.MeasureT-loop
 μ words reps m cells from x j₀ j = m - j

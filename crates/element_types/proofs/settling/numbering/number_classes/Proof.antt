@@ -1,15 +1,15 @@
--- The elements are numbered one after another, as `Scan` says.
+-- The elements are numbered one after another, as `ClassesScan` says.
 -- Assumes nothing.
 use borrow.Author.Needs.{needs}
 use native.Mathlib.Omega.{arith}
 use Prim.Native.Nat.{_+_, _-_, _≤_, _<_}
 use lib.ListN.{length, length-set}
-use Rattle.element_types.proofs.settling.Scanned.{Scan, scan-first, scan-end, reps-in, number-within, cells-in, scan-old, scan-new}
+use Rattle.element_types.proofs.settling.Scanned.{ClassesScan, scan-first, scan-end, reps-in, number-within, cells-in, scan-old, scan-new}
 use Rattle.element_types.proofs.settling.numbering.number_classes.Statement.{statement}
 use Rattle.element_types.proofs.settling.numbering.number_classes.Tie as tie
 
 abbrev Inv : tie.InvT-loop
-Inv words₀ to reps n cells from m₀ e₀ words m e = Scan words₀ words to reps n cells from m e
+Inv words₀ to reps n cells from m₀ e₀ words m e = ClassesScan words₀ words to reps n cells from m e
 
 abbrev μ : tie.MeasureT-loop
 μ words₀ to reps n cells from m₀ e₀ words m e = n - e

@@ -4,7 +4,7 @@ use borrow.Author.Needs.{needs}
 use native.Mathlib.Omega.{arith}
 use mathlib.Core.Path.{_∙_}
 use Rattle.element_types.specs.Settle.{endOf}
-use Rattle.element_types.proofs.settling.Ended.{Swept, Settling, settling-first, first-countable, ready, left-countable, none-left, u-lists, next-countable, stays, settling-next, once, ended}
+use Rattle.element_types.proofs.settling.Ended.{ReachedBySteps, Settling, settling-first, first-countable, ready, left-countable, none-left, u-lists, next-countable, stays, settling-next, once, ended}
 use Rattle.element_types.proofs.settling.settled.settle.Statement.{statement}
 use Rattle.element_types.proofs.settling.settled.settle.Tie as tie
 
@@ -15,7 +15,7 @@ abbrev μ : tie.MeasureT-loop
 μ words₀ sh count₀ left₀ words count left = left
 
 -- After the first sweep, the types come of steps from the start.
-swept : (u : tie.After-sweep Inv μ) → let s = u .before .before .before in Swept (s .args .sh) (u .sweep .last .0) (s .pre .classes)
+swept : (u : tie.After-sweep Inv μ) → let s = u .before .before .before in ReachedBySteps (s .args .sh) (u .sweep .last .0) (s .pre .classes)
 swept u = once _ _ (u .before .before .before .pre) _ (u .sweep .kept .0) (u .sweep .ensures .0) (u .sweep .ensures .1)
 
 -- This is the state before the loop.

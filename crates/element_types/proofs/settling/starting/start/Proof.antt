@@ -1,4 +1,4 @@
--- The ranks are started one after another, as `Begun` says.
+-- The ranks are started one after another, as `TypesBegun` says.
 -- Assumes nothing.
 use borrow.Author.Needs.{needs}
 use native.Mathlib.Omega.{arith}
@@ -8,12 +8,12 @@ use lib.ListN.{length, length-set}
 use Rattle.ranked.specs.Words.{firstAt}
 use Rattle.ranked.specs.Layout.{typesAt}
 use Rattle.element_types.specs.Start.{Startable}
-use Rattle.element_types.proofs.settling.Begun.{Begun, opened, long₂, startable-opened, starts-in, begun-first, offsets, fitting, begun-next, begun-end}
+use Rattle.element_types.proofs.settling.Begun.{TypesBegun, opened, long₂, startable-opened, starts-in, begun-first, offsets, fitting, begun-next, begun-end}
 use Rattle.element_types.proofs.settling.starting.start.Statement.{statement}
 use Rattle.element_types.proofs.settling.starting.start.Tie as tie
 
 abbrev Inv : tie.InvT-loop
-Inv words₀ sh cells rank least last out r₀ words r = Begun sh words₀ words cells r
+Inv words₀ sh cells rank least last out r₀ words r = TypesBegun sh words₀ words cells r
 
 abbrev μ : tie.MeasureT-loop
 μ words₀ sh cells rank least last out r₀ words r = sh .rank - r
