@@ -1,7 +1,7 @@
 // "numbers go from 0 in each rank by first appearance": this file numbers the elements of a rank by their keys.
 use crate::compare::find_key;
 use crate::sorting::write_key;
-use ranked::lists::list_of;
+use ranked::lists::list_word;
 ghost use mathlib.Core.Path.{_≡_};
 ghost use Prim.Native.Nat.{_+_, _<_};
 ghost use Rattle.element_types.specs.Numbers.{Open, numberOf, noted, Numberable, NumbersWritten};
@@ -22,7 +22,7 @@ fn number_one(words: &mut [u32], cell: usize, reps: usize, m: usize, q: usize) -
     p
 }
 
-// Numbers the n elements of a rank, to the words from `out`. Element e's list is at word list_of(lists, e), its type at word from + e; its neighbours'
+// Numbers the n elements of a rank, to the words from `out`. Element e's list is at word list_word(lists, e), its type at word from + e; its neighbours'
 // types stand from word `base`.
 pub fn number_rank(words: &mut [u32], lists: usize, n: usize, base: usize, from: usize, out: usize)
     requires { ⌜ Numberable (now words) lists n base from out ⌝ }
@@ -33,7 +33,7 @@ pub fn number_rank(words: &mut [u32], lists: usize, n: usize, base: usize, from:
     let mut m: usize = 0;
     let mut e: usize = 0;
     while e < n {
-        let list = list_of(lists, e);
+        let list = list_word(lists, e);
         let k = write_key(words, list, base, from + e, q);
         let p = number_one(words, out + e, reps, m, q);
         e += 1;

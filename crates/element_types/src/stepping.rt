@@ -24,7 +24,7 @@ fn copy_down(words: &mut [u32], to: usize, from: usize, n: usize)
     }
 }
 
-// Makes the types of the elements of rank r the numbers of their keys. Element e's list is at word list_of(lists, e), and its neighbours' types stand
+// Makes the types of the elements of rank r the numbers of their keys. Element e's list is at word list_word(lists, e), and its neighbours' types stand
 // from word `base`. The free words hold the new numbers until all are known.
 fn step_at(words: &mut [u32], sh: Shape, r: usize, lists: usize, base: usize)
     requires { ⌜ Stepping sh (now words) r lists base ⌝ }

@@ -16,7 +16,7 @@ use ranked::Shape;
 use ranked::lists::count_at;
 use ranked::lists::entry_at;
 use ranked::lists::holds_at;
-use ranked::lists::list_of;
+use ranked::lists::list_word;
 use ranked::lists::sub;
 use spec::MAX_RANK;
 
@@ -68,7 +68,7 @@ fn other_at(lists: &[u32], word: usize, base: usize, x: usize, e: usize) -> Othe
         let y = entry_at(lists, word, k);
         k += 1;
         if y != e {
-            if holds_at(lists, list_of(base, y), x) {
+            if holds_at(lists, list_word(base, y), x) {
                 return Other::Element(y);
             }
         }

@@ -92,7 +92,7 @@ fn first_onto(lists: &[u32], goes: &[u16], base: usize, i: usize, j: usize, up: 
     let mut k: usize = 0;
     while k < n {
         let g = lists::entry_at(lists, j, k);
-        let at = lists::list_of(up, g);
+        let at = lists::list_word(up, g);
         if is_onto(lists, goes, base, i, at) {
             return Found::At(g);
         }

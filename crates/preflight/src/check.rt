@@ -4,7 +4,7 @@ use ranked::Shape;
 use ranked::lists::count_at;
 use ranked::lists::entry_at;
 use ranked::lists::holds_at;
-use ranked::lists::list_of;
+use ranked::lists::list_word;
 use ranked::lists::sups_beside;
 ghost use mathlib.Core.Path.{_≡_};
 ghost use Prim.Native.Nat.{ℕ, suc, _+_, _*_, _≤_, _<_};
@@ -58,7 +58,7 @@ fn counting(lists: &[u32], i: usize, base: usize, x: usize) -> usize
     while k < n {
         let y = entry_at(lists, i, k);
         k += 1;
-        if holds_at(lists, list_of(base, y), x) {
+        if holds_at(lists, list_word(base, y), x) {
             m += 1;
         }
     }
@@ -88,7 +88,7 @@ fn diamond_under(lists: &[u32], i: usize, j: usize, base: usize, below: usize, g
     let mut k: usize = 0;
     while k < n {
         let h = entry_at(lists, j, k);
-        if between(lists, i, list_of(below, h), base, g, h) != 2 {
+        if between(lists, i, list_word(below, h), base, g, h) != 2 {
             return false;
         }
         k += 1;
@@ -108,7 +108,7 @@ fn diamond_at(lists: &[u32], sh: Shape, r: usize, g: usize) -> bool
     let mut k: usize = 0;
     while k < n {
         let f = entry_at(lists, i, k);
-        if !diamond_under(lists, i, list_of(base, f), base, below, g) {
+        if !diamond_under(lists, i, list_word(base, f), base, below, g) {
             return false;
         }
         k += 1;

@@ -34,7 +34,8 @@ subEntriesAt sh = 4 * total sh
 unfoldable pub lowOf : Shape → ℕ → ℕ
 lowOf sh I = subEntriesAt sh + 2 * subEntries sh I
 
--- Gives the word where the sups' entries start, which is after the subs' entries.
+-- Gives the word from which on the sups' entries stand, after those of the subs. It goes by the sheet's entries and serves where `low` is not known yet;
+-- supEntriesAt gives the same word by `low`.
 unfoldable pub baseOf : Shape → ℕ → ℕ
 baseOf sh I = subEntriesAt sh + subEntries sh I
 
@@ -42,7 +43,8 @@ baseOf sh I = subEntriesAt sh + subEntries sh I
 unfoldable pub sized : Shape → ℕ → Shape
 sized sh I = record { rank = sh .rank; dimension = sh .dimension; first = sh .first; low = lowOf sh I }
 
--- Gives the word from which on the sups' entries stand: low = 4 n + 2 I for n elements whose subs have I entries, and as many have their sups.
+-- Gives the word from which on the sups' entries stand: low = 4 n + 2 s for n elements that have s subs together, and as many sups. It goes by
+-- `low` and serves the code, which keeps the shape and not the number of the sheet's entries; baseOf gives the same word by that number.
 abbrev pub supEntriesAt : Shape → ℕ
 supEntriesAt sh = 2 * total sh + sh .low / 2
 

@@ -112,7 +112,7 @@ impl Shape {
     }
 
     // Returns the word from which on the entries of the subs' lists stand, behind the starts and lengths of all lists.
-    pub fn sub_entries(self) -> usize
+    pub fn sub_entries_at(self) -> usize
         requires { ⌜ (self .rank ≤ maxRank) × (subEntriesAt self < 2 ^ 64) ⌝ }
         ensures { λ n. ⌜ n ≡ subEntriesAt self ⌝ }
     {
@@ -120,7 +120,7 @@ impl Shape {
     }
 
     // Counts the subs that all elements have together, where the sheet's lists have so many entries.
-    fn sub_count(self, entries: usize) -> usize
+    fn sub_entries(self, entries: usize) -> usize
         requires { ⌜ (self .rank ≤ maxRank) × (total self < 2 ^ 32) × (entries < 2 ^ 32) ⌝ }
         requires { ⌜ ((r : ℕ) → r ≤ self .rank → firstAt self r < firstAt self (suc r)) ⌝ }
         ensures { λ n. ⌜ n ≡ subEntries self entries ⌝ }
@@ -140,7 +140,7 @@ impl Shape {
         requires { ⌜ ((r : ℕ) → r ≤ self .rank → firstAt self r < firstAt self (suc r)) ⌝ }
         ensures { λ sh. ⌜ sh ≡ sizedAs self entries ⌝ }
     {
-        let low = self.sub_entries() + 2 * self.sub_count(entries);
+        let low = self.sub_entries_at() + 2 * self.sub_entries(entries);
         let first = self.first;
         Shape {
             rank: self.rank,
@@ -152,7 +152,7 @@ impl Shape {
 
     // Returns the word from which on the entries of the sups' lists stand, up to the end of the solid's words. They take as many words as the entries of
     // the subs before them, and the starts and lengths before these take four for each element.
-    pub fn sup_entries(self) -> usize
+    pub fn sup_entries_at(self) -> usize
         requires { ⌜ (self .rank ≤ maxRank) × (supEntriesAt self < 2 ^ 64) ⌝ }
         ensures { λ n. ⌜ n ≡ supEntriesAt self ⌝ }
     {

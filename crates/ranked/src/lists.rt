@@ -60,7 +60,7 @@ pub fn sups_word(g: usize) -> usize
 }
 
 // Returns the word that says where the list of element e starts, by that word `base` of the first element of its rank.
-pub fn list_of(base: usize, e: usize) -> usize
+pub fn list_word(base: usize, e: usize) -> usize
     requires { ⌜ base + 4 * e < 2 ^ 64 ⌝ }
     ensures { λ r. ⌜ r ≡ base + 4 * e ⌝ }
 {

@@ -45,22 +45,22 @@ other-at-spec =
     (λ c. (search needs, c .count-at .ensures, refl))
     (λ c κs. (search needs, search needs))
     (λ c. search needs)
-    -- The needs are list-of-requires and holds-at-requires.
+    -- The needs are list-word-requires and holds-at-requires.
     (λ c κs. omega (arith, lies (c .before)))
-    (λ c κs. rw (sym (c .list-of .ensures)) at (lies (c .before .before)))
+    (λ c κs. rw (sym (c .list-word .ensures)) at (lies (c .before .before)))
     -- The need is returns.
     (λ c. let b = c .before .before .before .before in let l = b .before .before in
     ap some (b .entry-at .ensures)
     ∙ other-yes _ _ _ (l .loop .k) (omega (arith, b .before .loop-test .taken, l .loop .inv .1)) (l .loop .inv .2)
     (λ q. c .before .before .before .if1 .taken (b .entry-at .ensures ∙ q))
-    (rw (b .entry-at .ensures) at (rw (c .before .before .list-of .ensures) at (sym (c .before .holds-at .ensures) ∙ c .if2 .taken))))
+    (rw (b .entry-at .ensures) at (rw (c .before .before .list-word .ensures) at (sym (c .before .holds-at .ensures) ∙ c .if2 .taken))))
     -- The needs are loop-less and loop-again.
     (λ c. search needs)
     (λ c. let b = c .before .before .before .before in let l = b .before .before in (
       omega (arith, b .before .loop-test .taken),
       l .loop .inv .1,
       other-no _ _ _ (l .loop .k) (omega (arith, b .before .loop-test .taken, l .loop .inv .1)) (l .loop .inv .2)
-          (rw (b .entry-at .ensures) at (rw (c .before .before .list-of .ensures) at (sym (c .before .holds-at .ensures) ∙ c .if2 .left))),
+          (rw (b .entry-at .ensures) at (rw (c .before .before .list-word .ensures) at (sym (c .before .holds-at .ensures) ∙ c .if2 .left))),
     ))
     -- The needs are loop-less-2, loop-again-2 and returns-2.
     (λ c. search needs)

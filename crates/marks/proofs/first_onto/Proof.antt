@@ -40,16 +40,16 @@ first-onto-spec =
     -- The needs are loop-holds and entry-at-requires.
     (λ c. (search needs, c .count-at .ensures, refl))
     (λ c κs. (search needs, search needs))
-    -- The needs are list-of-requires and is-onto-requires.
+    -- The needs are list-word-requires and is-onto-requires.
     (λ c κs. omega (arith, lies c .head))
-    (λ c κs. let s = c .before .before .before .before .before .before .before in rw (c .list-of .ensures) ((s .pre .0 .0, lies (c .before)), s .pre .1))
+    (λ c κs. let s = c .before .before .before .before .before .before .before in rw (c .list-word .ensures) ((s .pre .0 .0, lies (c .before)), s .pre .1))
     -- The needs are returns, add-k, loop-less, loop-again and returns-2.
     (λ c. let o = c .before .before in
     let e = o .before in
     let l = e .before .before in
     let a = l .before .before .before .before .args in
     ap (λ (g : ℕ). At g) (e .entry-at .ensures) ∙ first-yes (p (a .lists .now) (a .goes .now) (a .base) (a .i) (a .up)) _ (l .loop .k) (omega (arith, e .before .loop-test .taken, l .loop .inv .1)) (l .loop .inv .2)
-    (rw (o .list-of .ensures, e .entry-at .ensures) at (sym (c .before .is-onto .ensures) ∙ c .if1 .taken)))
+    (rw (o .list-word .ensures, e .entry-at .ensures) at (sym (c .before .is-onto .ensures) ∙ c .if1 .taken)))
     (λ c. search needs)
     (λ c. search needs)
     (λ c. let o = c .before .before in
@@ -59,7 +59,7 @@ first-onto-spec =
       search needs,
       l .loop .inv .1,
       first-no (p (a .lists .now) (a .goes .now) (a .base) (a .i) (a .up)) _ (l .loop .k) (omega (arith, e .before .loop-test .taken, l .loop .inv .1)) (l .loop .inv .2)
-          (rw (o .list-of .ensures, e .entry-at .ensures) at (sym (c .before .is-onto .ensures) ∙ c .if1 .left)),
+          (rw (o .list-word .ensures, e .entry-at .ensures) at (sym (c .before .is-onto .ensures) ∙ c .if1 .left)),
     ))
     (λ c. let l = c .before in
     first-end _ _ (l .loop .k) (omega (arith, c .loop-test .left, l .loop .inv .1)) (l .loop .inv .2)))

@@ -27,20 +27,20 @@ number-rank-spec =
     (λ c. omega (arith, c .before .pre .room))
     (λ c. omega (arith, c .before .pre .room))
     (λ c. scan-first _ _ _ _ _ _ (c .before .pre))
-    -- The needs are list-of-requires, add-write-key and write-key-requires.
+    -- The needs are list-word-requires, add-write-key and write-key-requires.
     (λ c κs. omega (arith, sums c))
     (λ c. omega (arith, sums (c .before .before)))
     (λ c κs. let j = c .before in
     let i = j .before in
     let l = i .before in
-    rw (j .list-of .ensures) (writable _ _ _ _ _ _ (l .before .before .pre) _ _ _ _ (l .loop .inv) (i .loop-test .taken)))
+    rw (j .list-word .ensures) (writable _ _ _ _ _ _ (l .before .before .pre) _ _ _ _ (l .loop .inv) (i .loop-test .taken)))
     -- The needs are add-number-one and number-one-requires.
     (λ c. omega (arith, sums (c .before .before .before .before .before .before)))
     (λ c κs. let k = c .before .before .before in
     let j = k .before .before in
     let i = j .before in
     let l = i .before in
-    asked _ _ _ _ _ _ (l .before .before .pre) _ _ _ _ (l .loop .inv) (i .loop-test .taken) _ (rw (j .list-of .ensures) at (k .write-key .ensures .1)))
+    asked _ _ _ _ _ _ (l .before .before .pre) _ _ _ _ (l .loop .inv) (i .loop-test .taken) _ (rw (j .list-word .ensures) at (k .write-key .ensures .1)))
     -- The needs are add-e, add-q-2, add-q-3 and add-m.
     (λ c. let i = c .before .before .before .before .before .before .before .before .before in
     omega (arith, i .loop-test .taken, i .before .before .before .fits))
@@ -51,7 +51,7 @@ number-rank-spec =
     let l = i .before in
     omega (
       arith,
-      rw (j .list-of .ensures) at (k .write-key .ensures .0),
+      rw (j .list-word .ensures) at (k .write-key .ensures .0),
       writable _ _ _ _ _ _ (l .before .before .pre) _ _ _ _ (l .loop .inv) (i .loop-test .taken) .room,
       l .loop .inv .long,
       sums i,
@@ -64,8 +64,8 @@ number-rank-spec =
     let j = k .before .before in
     let i = j .before in
     let l = i .before in
-    scan-new _ _ _ _ _ _ (l .before .before .pre) _ _ _ _ (l .loop .inv) (i .loop-test .taken) _ (rw (j .list-of .ensures) at (k .write-key .ensures .1)) _ _
-    (z .number-one .ensures .0) (z .number-one .ensures .1) (c .if1 .taken) _ (rw (j .list-of .ensures) at (k .write-key .ensures .0)))
+    scan-new _ _ _ _ _ _ (l .before .before .pre) _ _ _ _ (l .loop .inv) (i .loop-test .taken) _ (rw (j .list-word .ensures) at (k .write-key .ensures .1)) _ _
+    (z .number-one .ensures .0) (z .number-one .ensures .1) (c .if1 .taken) _ (rw (j .list-word .ensures) at (k .write-key .ensures .0)))
     -- The needs are loop-less-2 and loop-again-2.
     (λ c. search needs)
     (λ c. let z = c .before .before .before in
@@ -73,7 +73,7 @@ number-rank-spec =
     let j = k .before .before in
     let i = j .before in
     let l = i .before in
-    scan-old _ _ _ _ _ _ (l .before .before .pre) _ _ _ _ (l .loop .inv) (i .loop-test .taken) _ (rw (j .list-of .ensures) at (k .write-key .ensures .1)) _ _
+    scan-old _ _ _ _ _ _ (l .before .before .pre) _ _ _ _ (l .loop .inv) (i .loop-test .taken) _ (rw (j .list-word .ensures) at (k .write-key .ensures .1)) _ _
     (z .number-one .ensures .0) (z .number-one .ensures .1) (c .if1 .left))
     -- The needs are same-length and returns.
     (λ c. c .before .loop .inv .long)

@@ -40,7 +40,7 @@ said : (h : tie.After-holds-at Inv μ) (t : Bool) → h .holds-at .result ≡ t 
     let l = h .before .before .before .before in
     let a = l .before .before .before .args in
     p (a .lists .now) (a .base) (a .x) (getD (listAt (a .lists .now) (a .i)) (l .loop .k) 0) ≡ t
-said h t e = let o = h .before in rw (o .list-of .ensures, o .before .entry-at .ensures) at (sym (h .holds-at .ensures) ∙ e)
+said h t e = let o = h .before in rw (o .list-word .ensures, o .before .entry-at .ensures) at (sym (h .holds-at .ensures) ∙ e)
 
 pub counting-spec : {M : Type 1} → statement M
 unfolding holding
@@ -52,9 +52,9 @@ counting-spec =
     (λ c. (search needs, search needs, c .count-at .ensures, omega arith))
     (λ c κs. (search needs, search needs))
     (λ c. search needs)
-    -- The needs are list-of-requires and holds-at-requires.
+    -- The needs are list-word-requires and holds-at-requires.
     (λ c κs. omega (arith, lies c))
-    (λ c κs. rw (c .list-of .ensures) (lies (c .before)))
+    (λ c κs. rw (c .list-word .ensures) (lies (c .before)))
     -- The needs are add-m, loop-less and loop-again.
     (λ c. search needs)
     (λ c. search needs)

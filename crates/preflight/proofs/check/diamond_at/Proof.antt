@@ -128,15 +128,15 @@ diamond-at-spec =
     (λ c κs. lies (c .before .before))
     (λ c. (search needs, c .count-at .ensures, refl))
     (λ c κs. let l = c .before in (lies (l .before .before .before .before), omega (arith, c .loop-test .taken, l .loop .inv .1)))
-    -- The needs are list-of-requires and diamond-under-requires.
+    -- The needs are list-word-requires and diamond-under-requires.
     (λ c κs. omega (arith, call c .0))
-    (λ c κs. rw (c .list-of .ensures) (call (c .before)))
+    (λ c κs. rw (c .list-word .ensures) (call (c .before)))
     -- The needs are returns, add-k, loop-less, loop-again and returns-2.
     (λ c. let o = c .before .before in
     let i = o .before .before in
     let l = i .before in
     every-no _ 0 _ (l .loop .k) (omega (arith, i .loop-test .taken, l .loop .inv .1)) (l .loop .inv .2)
-    (rw (o .list-of .ensures, o .before .entry-at .ensures) at (sym (c .before .diamond-under .ensures) ∙ not-true _ (c .if1 .taken)))
+    (rw (o .list-word .ensures, o .before .entry-at .ensures) at (sym (c .before .diamond-under .ensures) ∙ not-true _ (c .if1 .taken)))
     ∙ all-judged (l .before))
     (λ c. search needs)
     (λ c. search needs)
@@ -146,7 +146,7 @@ diamond-at-spec =
       search needs,
       l .loop .inv .1,
       every-yes _ 0 _ (l .loop .k) (omega (arith, i .loop-test .taken, l .loop .inv .1)) (l .loop .inv .2)
-          (rw (o .list-of .ensures, o .before .entry-at .ensures) at (sym (c .before .diamond-under .ensures) ∙ not-false _ (c .if1 .left))),
+          (rw (o .list-word .ensures, o .before .entry-at .ensures) at (sym (c .before .diamond-under .ensures) ∙ not-false _ (c .if1 .left))),
     ))
     (λ c. let l = c .before in
     every-end _ _ (l .loop .k) (omega (arith, c .loop-test .left, l .loop .inv .1)) (l .loop .inv .2) ∙ all-judged (l .before)))

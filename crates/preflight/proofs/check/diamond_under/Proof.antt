@@ -42,9 +42,9 @@ diamond-under-spec =
     -- The needs are loop-holds and entry-at-requires.
     (λ c. (search needs, c .count-at .ensures, refl))
     (λ c κs. (search needs, search needs))
-    -- The needs are list-of-requires and between-requires.
+    -- The needs are list-word-requires and between-requires.
     (λ c κs. omega (arith, fork c .down))
-    (λ c κs. rw (c .list-of .ensures) (fork (c .before)))
+    (λ c κs. rw (c .list-word .ensures) (fork (c .before)))
     -- The needs are returns, add-k, loop-less, loop-again and returns-2.
     (λ c. let e = c .before .before .before in
     let l = e .before .before in

@@ -1,4 +1,4 @@
--- `ranked::Shape::sub_count` meets its contract. Assumes nothing.
+-- `ranked::Shape::sub_entries` meets its contract. Assumes nothing.
 use mathlib.Core.Path.{_≡_, sym}
 use borrow.Author.Needs.{needs}
 use native.Mathlib.Omega.{arith}
@@ -6,8 +6,8 @@ use Prim.Native.Nat.{_+_, _-_, _^_, _<_}
 use Rattle.ranked.specs.Words.{sizeAt}
 use Rattle.ranked.specs.Layout.{subEntries}
 use Rattle.ranked.proofs.Low.{entries-0, entries-1, entries-some, entries-small, last-fits}
-use Rattle.ranked.proofs.Shape.sub_count.Statement.{statement}
-use Rattle.ranked.proofs.Shape.sub_count.Tie as tie
+use Rattle.ranked.proofs.Shape.sub_entries.Statement.{statement}
+use Rattle.ranked.proofs.Shape.sub_entries.Tie as tie
 
 -- What is summed at the end.
 module _ (v : tie.After-vertices) where
@@ -27,8 +27,8 @@ module _ (v : tie.After-vertices) where
   few : subEntries (start .args .self) (start .args .entries) < 2 ^ 34
   few = entries-small (start .args .self) (start .args .entries) (start .pre .0) (start .pre .1)
 
-pub sub-count-spec : {M : Type 1} → statement M
-sub-count-spec = tie.close (tie.spec
+pub sub-entries-spec : {M : Type 1} → statement M
+sub-entries-spec = tie.close (tie.spec
     -- The needs are returns, returns-2, vertices-requires and add-result.
     (λ c. let s = c .before .before in sym (entries-0 (s .args .self) _ (c .if1 .taken)))
     (λ c. let s = c .before .before .before .before in sym (entries-1 (s .args .self) _ (c .if2 .taken)))
