@@ -8,7 +8,7 @@ use Rattle.spec.specs.Solid.{between}
 use Rattle.ranked.specs.declared.Shape.{Shape}
 use Rattle.ranked.specs.Words.{firstAt, sizeAt, absIn, Held, subsWord, supsWord}
 use Rattle.ranked.specs.Reading.{holding, Fork}
-use Rattle.ranked.proofs.Judged.{down-is, fork}
+use Rattle.ranked.proofs.Forks.{down-is, fork}
 
 -- Element g is of the rank above, and x of the one below.
 pub sides : (sh : Shape) (w : List ℕ) → Held sh w → (r : ℕ) → 0 < r → r < sh .rank → (g : ℕ) → g < sizeAt sh (suc r) → (x : ℕ) → x < sizeAt sh (r - 1)

@@ -20,7 +20,7 @@ use Rattle.ranked.specs.declared.Shape.{Shape}
 use Rattle.ranked.specs.Words.{firstAt, sizeAt, total, listAt, absIn, Held, subsWord, supsWord}
 use Rattle.ranked.specs.Reading.{Lies, Each}
 use Rattle.ranked.proofs.Solids.{size-is, number-in, subs-lie, sups-lie, subs-listed, sups-listed, sub-in, sup-in}
-use Rattle.ranked.proofs.Judged.{keep-same}
+use Rattle.ranked.proofs.Agree.{keep-same}
 use Rattle.marks.specs.Rises.{onto, risesTo}
 
 -- ---- exactly onto

@@ -12,7 +12,8 @@ ghost use lib.ListN.{length};
 ghost use Rattle.spec.specs.Lists.{In};
 ghost use Rattle.spec.specs.Solid.{bound, diamond};
 ghost use Rattle.ranked.specs.Words.{firstAt, sizeAt, listAt, absIn, Held};
-ghost use Rattle.ranked.specs.Reading.{Lies, boundIn, Each, holding, Fork, twoUnder, twoAt, twoRank, twoFrom};
+ghost use Rattle.ranked.specs.Reading.{Lies, Each, holding, Fork};
+ghost use Rattle.preflight.specs.Check.{boundIn, twoUnder, twoAt, twoRank, twoFrom};
 
 // Tells whether each element of rank r is in a list.
 fn bound_rank(lists: &[u32], sh: Shape, r: usize) -> bool

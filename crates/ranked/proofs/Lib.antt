@@ -6,5 +6,6 @@ pub mod Solids
 pub mod Counted
 pub mod Parts
 pub mod Between
-pub mod Judged
+pub mod Agree
+pub mod Forks
 pub mod Walked

@@ -16,7 +16,7 @@ use Rattle.ranked.specs.declared.Shape.{Shape}
 use Rattle.ranked.specs.Words.{listsOf, absIn, Held}
 use Rattle.ranked.specs.Layout.{typesAt, scratchAt}
 use Rattle.ranked.proofs.Solids.{number-in}
-use Rattle.ranked.proofs.Judged.{every-same}
+use Rattle.ranked.proofs.Agree.{every-same}
 use Rattle.element_types.specs.State.{stateIn}
 use Rattle.element_types.proofs.States.{type-read}
 use Rattle.flag.proofs.Flags.{flag-in}

@@ -10,9 +10,10 @@ use lib.ListN.{length}
 use lib.Dec.{ltb}
 use Rattle.spec.specs.Lists.{range}
 use Rattle.ranked.specs.Words.{firstAt, sizeAt, listAt, supsWord}
-use Rattle.ranked.specs.Reading.{Lies, boundIn}
+use Rattle.ranked.specs.Reading.{Lies}
 use Rattle.ranked.proofs.Solids.{sups-lie}
 use Rattle.ranked.proofs.Turns.{none-read, some-read, Every, range-yes, range-no, range-end}
+use Rattle.preflight.specs.Check.{boundIn}
 use Rattle.preflight.proofs.check.bound_rank.Statement.{statement}
 use Rattle.preflight.proofs.check.bound_rank.Tie as tie
 

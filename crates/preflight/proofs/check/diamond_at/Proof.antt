@@ -7,14 +7,17 @@ use native.Mathlib.Numerals.{add-one}
 use mathlib.Core.Path.{_≡_, refl, sym, _∙_, ap}
 use mathlib.Core.Bool.{Bool}
 use mathlib.Core.List.{List}
-use Prim.Native.Nat.{ℕ, suc, _+_, _*_, _≤_, _-_}
+use Prim.Native.Nat.{ℕ, suc, _+_, _*_, _≤_, _<_, _-_}
 use lib.ListN.{length}
 use Rattle.spec.specs.Lists.{In, every}
 use Rattle.ranked.specs.declared.Shape.{Shape}
-use Rattle.ranked.specs.Words.{firstAt, listAt, subsWord, supsWord}
-use Rattle.ranked.specs.Reading.{Lies, Fork, Tier, twoUnder, twoAt}
+use Rattle.ranked.specs.Words.{firstAt, sizeAt, listAt, Held, subsWord, supsWord}
+use Rattle.ranked.specs.Reading.{Lies, Fork}
 use Rattle.ranked.proofs.Turns.{entry-in, Every, every-yes, every-no, every-end}
-use Rattle.ranked.proofs.Judged.{every-same, tier}
+use Rattle.ranked.proofs.Agree.{every-same}
+use Rattle.ranked.proofs.Solids.{subs-lie}
+use Rattle.ranked.proofs.Forks.{sub-read, middle, fork}
+use Rattle.preflight.specs.Check.{twoUnder, twoAt}
 use Rattle.preflight.proofs.check.diamond_at.Statement.{statement}
 use Rattle.preflight.proofs.check.diamond_at.Tie as tie
 
@@ -50,13 +53,15 @@ module _ (sh : Shape) (w : List ℕ) (r g i base below : ℕ) (ei : i ≡ subsWo
   base-is = omega (arith, one-on sh r)
 
   -- The call at the sub f has what it needs.
-  under : Tier w (firstAt sh r) at above g → (f : ℕ) → In f (listAt w i)
-      → Lies w (base + 4 * f) × ((h : ℕ) → In h (listAt w (base + 4 * f)) → Fork w i (below + 4 * h) base g h)
-  under t f m =
+  under : Held sh w → suc r < sh .rank → g < sizeAt sh (suc (suc r)) → (f : ℕ) → In f (listAt w i)
+      → Lies w (base + 4 * f) × ((x : ℕ) → In x (listAt w (base + 4 * f)) → Fork w i (below + 4 * x) base g x)
+  under h low in-g f m =
       let q : base + 4 * f ≡ subsWord at f = omega (arith, base-is) in
-      let d : (h : ℕ) → below + 4 * h ≡ supsWord (firstAt sh r) h = λ h. omega (arith, ed) in
-      let m′ : In f (listAt w (subsWord above g)) = rw i-is at m in
-      (rw q (t .subs f m′), rw (q, i-is, base-is) (λ h x. rw (d h) (t .forks f h m′ x)))
+      let d : (x : ℕ) → below + 4 * x ≡ supsWord (firstAt sh r) x = λ x. omega (arith, ed) in
+      let k = sub-read sh w h (suc r) g f low in-g (rw i-is at m) in (
+        rw q (subs-lie sh w h (suc r) f (omega arith) k),
+        rw (q, i-is, base-is) (λ x n. rw (d x) (fork sh w h r low g in-g x (sub-read sh w h r f x (omega arith) k n))),
+      )
 
   -- All subs have been judged.
   judged : every (p w i base) (listAt w i) ≡ twoAt w at above g
@@ -67,14 +72,15 @@ module _ (sh : Shape) (w : List ℕ) (r g i base below : ℕ) (ei : i ≡ subsWo
       let q : 4 * at + 4 * f ≡ subsWord at f = omega arith in
       ap (λ (j : ℕ). twoUnder w (subsWord above g) j (4 * at)) q))
 
--- What a look at g needs is there.
-looks : (s : tie.Start Inv μ)
-    → let a = s .args in Tier (a .lists .now) (firstAt (a .sh) (a .r)) (firstAt (a .sh) (suc (a .r))) (firstAt (a .sh) (suc (suc (a .r)))) (a .g)
-looks s = let a = s .args in tier (a .sh) (a .lists .now) (s .pre .0) (a .r) (s .pre .1) (a .g) (s .pre .2)
+-- The list of g's subs lies within the words, and so do the first words of the rank below.
+up : (s : tie.Start Inv μ) → let a = s .args in Lies (a .lists .now) (subsWord (firstAt (a .sh) (suc (suc (a .r)))) (a .g))
+up s = let a = s .args in subs-lie (a .sh) (a .lists .now) (s .pre .0) (suc (suc (a .r))) (a .g) (omega (arith, s .pre .1)) (s .pre .2)
 
--- The list of g's subs lies within the words.
+fits : (s : tie.Start Inv μ) → let a = s .args in 4 * firstAt (a .sh) (suc (a .r)) + 2 ≤ length (a .lists .now)
+fits s = let a = s .args in middle (a .sh) (a .lists .now) (s .pre .0) (a .r) (s .pre .1)
+
 lies : (v : tie.After-subs Inv μ) → Lies (v .before .before .args .lists .now) (v .subs .result)
-lies v = let a = v .before .before .args in rw (v .subs .ensures, two-on (a .sh) (a .r)) (looks (v .before .before) .up)
+lies v = let a = v .before .before .args in rw (v .subs .ensures, two-on (a .sh) (a .r)) (up (v .before .before))
 
 -- The entry is a sub of g.
 entry : (c : tie.After-entry-at Inv μ)
@@ -98,7 +104,7 @@ call e =
     let v = b .before in
     let s = v .before .before in
     let a = s .args in
-    under (a .sh) (a .lists .now) (a .r) (a .g) _ _ _ (v .subs .ensures) (b .subs2 .ensures) (o .sups .ensures) (looks s) _ (entry e)
+    under (a .sh) (a .lists .now) (a .r) (a .g) _ _ _ (v .subs .ensures) (b .subs2 .ensures) (o .sups .ensures) (s .pre .0) (s .pre .1) (s .pre .2) _ (entry e)
 
 -- The answer is that of all subs.
 all-judged : (n : tie.After-count-at Inv μ) →
@@ -118,12 +124,12 @@ diamond-at-spec =
     (tie.spec Inv μ
     -- The needs are add-subs and subs-requires.
     (λ c. let s = c .before in omega (arith, s .pre .0 .tall, s .pre .1))
-    (λ c κs. let s = c .before in (omega (arith, s .pre .0 .tall, s .pre .1), omega (arith, two-on (s .args .sh) (s .args .r), looks s .up)))
+    (λ c κs. let s = c .before in (omega (arith, s .pre .0 .tall, s .pre .1), omega (arith, two-on (s .args .sh) (s .args .r), up s)))
     -- The needs are add-subs-2, subs-requires-2 and sups-requires.
     (λ c. let s = c .before .before in omega (arith, s .pre .0 .tall, s .pre .1))
-    (λ c κs. let s = c .before .before in (omega (arith, s .pre .0 .tall, s .pre .1), omega (arith, one-on (s .args .sh) (s .args .r), looks s .fits)))
+    (λ c κs. let s = c .before .before in (omega (arith, s .pre .0 .tall, s .pre .1), omega (arith, one-on (s .args .sh) (s .args .r), fits s)))
     (λ c κs. let s = c .before .before .before in
-    (omega (arith, s .pre .0 .tall, s .pre .1), omega (arith, looks s .fits, s .pre .0 .some (s .args .r) (omega (arith, s .pre .1)))))
+    (omega (arith, s .pre .0 .tall, s .pre .1), omega (arith, fits s, s .pre .0 .some (s .args .r) (omega (arith, s .pre .1)))))
     -- The needs are count-at-requires, loop-holds and entry-at-requires.
     (λ c κs. lies (c .before .before))
     (λ c. (search needs, c .count-at .ensures, refl))

@@ -10,8 +10,8 @@ use Prim.Native.Nat.{ℕ, suc, _+_, _≤_, _-_}
 use Rattle.spec.specs.Lists.{range}
 use Rattle.ranked.specs.declared.Shape.{Shape}
 use Rattle.ranked.specs.Words.{firstAt, sizeAt}
-use Rattle.ranked.specs.Reading.{twoRank, twoFrom}
 use Rattle.ranked.proofs.Turns.{Every, range-yes, range-no, range-end}
+use Rattle.preflight.specs.Check.{twoRank, twoFrom}
 use Rattle.preflight.proofs.check.diamond_from.Statement.{statement}
 use Rattle.preflight.proofs.check.diamond_from.Tie as tie
 

@@ -10,8 +10,9 @@ use Prim.Native.Nat.{ℕ, _+_, _*_, _≤_, _-_}
 use lib.ListN.{length}
 use lib.Dec.{eqb}
 use Rattle.ranked.specs.Words.{listAt}
-use Rattle.ranked.specs.Reading.{Fork, holding, twoUnder}
+use Rattle.ranked.specs.Reading.{Fork, holding}
 use Rattle.ranked.proofs.Turns.{entry-in, Every, every-yes, every-no, every-end}
+use Rattle.preflight.specs.Check.{twoUnder}
 use Rattle.preflight.proofs.check.diamond_under.Statement.{statement}
 use Rattle.preflight.proofs.check.diamond_under.Tie as tie
 

@@ -10,9 +10,9 @@ use Prim.Native.Nat.{ℕ, _+_, _≤_, _-_}
 use Rattle.spec.specs.Lists.{range}
 use Rattle.ranked.specs.declared.Shape.{Shape}
 use Rattle.ranked.specs.Words.{firstAt, sizeAt}
-use Rattle.ranked.specs.Reading.{boundIn}
 use Rattle.ranked.proofs.Turns.{Every, range-yes, range-no, range-end}
-use Rattle.ranked.proofs.Judged.{bound-is}
+use Rattle.preflight.specs.Check.{boundIn}
+use Rattle.preflight.proofs.check.Refusals.{bound-is}
 use Rattle.preflight.proofs.check.is_bound.Statement.{statement}
 use Rattle.preflight.proofs.check.is_bound.Tie as tie
 

@@ -4,7 +4,7 @@ use borrow.Author.Needs.{needs}
 use borrow.Author.Tests.{not-true}
 use native.Mathlib.Omega.{arith}
 use mathlib.Core.Path.{sym, _∙_}
-use Rattle.ranked.proofs.Judged.{diamond-whole, diamond-not}
+use Rattle.preflight.proofs.check.Refusals.{diamond-whole, diamond-not}
 use Rattle.preflight.proofs.check.is_diamond.Statement.{statement}
 use Rattle.preflight.proofs.check.is_diamond.Tie as tie
 
