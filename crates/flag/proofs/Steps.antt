@@ -4,52 +4,30 @@ use mathlib.Core.Path.{_≡_, sym, _∙_, ap, subst}
 use mathlib.Core.Logic.{inl, inr}
 use mathlib.Core.List.{List, [], _∷_, _++_, append-assoc, append-nil}
 use Prim.Native.Nat.{ℕ, zero, suc, _+_, _-_, _≤_, _<_}
-use native.Mathlib.Numerals.{add-one}
 use native.Mathlib.Nat.{add-zero}
 use native.Mathlib.Omega.{arith}
 use native.Mathlib.Decide.{ℕ-discrete}
 use lib.ListN.{length, getD, take, drop, drop-of-length-le}
 use lib.Seq.{take-suc, drop-cons}
 use lib.Dec.{eqb}
-use borrow.Author.Tests.{eq-eqb, ne-eqb}
 use Rattle.spec.specs.Lists.{In, place}
 use Rattle.spec.specs.Types.{Solid, size, subs}
 use Rattle.spec.specs.Demand.{Sound}
 use Rattle.spec.specs.Flags.{Flag, firstTo, flagsTo}
+use Rattle.ranked.proofs.Turns.{place-here, place-past}
 use Rattle.flag.proofs.Order.{Last, After, starts-to, after-up, last-up, cross-up}
 
 -- ---- where x stands in a list
 
 module _ (x : ℕ) where
-  place-here : (y : ℕ) (l : List ℕ) → y ≡ x → place eqb x (y ∷ l) ≡ 0
-  unfolding place
-  place-here y l e = rw (eq-eqb y x e, place)
-
-  place-past : (y : ℕ) (l : List ℕ) → (y ≡ x → ⊥) → place eqb x (y ∷ l) ≡ suc (place eqb x l)
-  unfolding place
-  place-past y l e = rw (ne-eqb y x e, place)
-
-  abbrev pub Place : List ℕ → ℕ → Type 0
-  Place l k = k + place eqb x (drop k l) ≡ place eqb x l
-
-  pub place-yes : (l : List ℕ) (k : ℕ) → k < length l → Place l k → getD l k 0 ≡ x → k ≡ place eqb x l
-  place-yes l k h inv e = omega (arith, inv, ap (place eqb x) (drop-cons l k 0 h) ∙ place-here _ _ e)
-
-  pub place-no : (l : List ℕ) (k : ℕ) → k < length l → Place l k → (getD l k 0 ≡ x → ⊥) → Place l (k + 1)
-  place-no l k h inv e = rw (add-one k) (omega (arith, inv, ap (place eqb x) (drop-cons l k 0 h) ∙ place-past _ _ e))
-
-  pub place-end : (l : List ℕ) (k : ℕ) → length l ≤ k → Place l k → k ≡ place eqb x l
-  unfolding place
-  place-end l k h inv = let q : k + 0 ≡ place eqb x l = rw (drop-of-length-le l h) at inv in omega arith
-
   pub place-in : (l : List ℕ) → place eqb x l ≤ length l
   unfolding place
   place-in [] = omega arith
   place-in (y ∷ l) = go (ℕ-discrete y x) (place-in l)
     where
       go : Dec (y ≡ x) → place eqb x l ≤ length l → place eqb x (y ∷ l) ≤ suc (length l)
-      go (yes e) n = omega (arith, place-here y l e)
-      go (no e) n = omega (arith, place-past y l e)
+      go (yes e) n = omega (arith, place-here x y l e)
+      go (no e) n = omega (arith, place-past x y l e)
 
   pub split : (l : List ℕ) → In x l → l ≡ take (place eqb x l) l ++ (x ∷ drop (suc (place eqb x l)) l)
   split [] m = absurd m
@@ -57,9 +35,9 @@ module _ (x : ℕ) where
     where
       go : Dec (y ≡ x) → In x (y ∷ l) → (In x l → l ≡ take (place eqb x l) l ++ (x ∷ drop (suc (place eqb x l)) l))
           → y ∷ l ≡ take (place eqb x (y ∷ l)) (y ∷ l) ++ (x ∷ drop (suc (place eqb x (y ∷ l))) (y ∷ l))
-      go (yes e) m ih = rw (place-here y l e) (ap (λ (z : ℕ). z ∷ l) e)
+      go (yes e) m ih = rw (place-here x y l e) (ap (λ (z : ℕ). z ∷ l) e)
       go (no e) (inl q) ih = absurd (e (sym q))
-      go (no e) (inr n) ih = rw (place-past y l e) (ap (λ (z : List ℕ). y ∷ z) (ih n))
+      go (no e) (inr n) ih = rw (place-past x y l e) (ap (λ (z : List ℕ). y ∷ z) (ih n))
 
 -- ---- up the ranks of a flag
 

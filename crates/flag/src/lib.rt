@@ -4,12 +4,10 @@ ghost use mathlib.Core.Path.{_≡_};
 ghost use mathlib.Core.List.{_++_};
 ghost use Prim.Native.Nat.{suc, _+_, _-_, _*_, _≤_, _<_};
 ghost use lib.ListN.{getD, take, drop};
-ghost use lib.Dec.{eqb};
-ghost use Rattle.spec.specs.Lists.{place};
 ghost use Rattle.spec.specs.Types.{subs};
 ghost use Rattle.spec.specs.Solid.{between};
 ghost use Rattle.spec.specs.Flags.{IsFlag, firstTo, firstFlag, change};
-ghost use Rattle.ranked.specs.Words.{sizeAt, listAt, absIn, Held};
+ghost use Rattle.ranked.specs.Words.{sizeAt, absIn, Held};
 ghost use Rattle.ranked.specs.Reading.{Lies, Each, holding};
 ghost use Rattle.flag.specs.Reading.{flagIn, otherIn, otherOf, moreOf, Follows, Moved};
 use ranked::Shape;
@@ -17,6 +15,7 @@ use ranked::lists::count_at;
 use ranked::lists::entry_at;
 use ranked::lists::holds_at;
 use ranked::lists::list_word;
+use ranked::lists::place_at;
 use ranked::lists::sub;
 use spec::MAX_RANK;
 
@@ -108,22 +107,6 @@ fn down(lists: &[u32], sh: Shape, start: [usize; RANKS], from: usize) -> [usize;
         elements[r] = e;
     }
     elements
-}
-
-// Counts the entries of the list at a word that stand before x, which is the length of the list where x is absent.
-fn place_at(lists: &[u32], word: usize, x: usize) -> usize
-    requires { ⌜ Lies (now lists) word ⌝ }
-    ensures { λ res. ⌜ res ≡ place eqb x (listAt (now (lists .entry)) word) ⌝ }
-{
-    let n = count_at(lists, word);
-    let mut k: usize = 0;
-    while k < n {
-        if entry_at(lists, word, k) == x {
-            return k;
-        }
-        k += 1;
-    }
-    k
 }
 
 // Returns the flag in which the element at rank r has moved on to the next sub of the one above, with first subs below it. Where that element is the

@@ -2,15 +2,16 @@
 -- Assumes nothing.
 use mathlib.Core.Path.{_≡_, sym, _∙_, ap}
 use mathlib.Core.Bool.{Bool, true, false}
-use mathlib.Core.List.{List, _∷_}
-use Prim.Native.Nat.{ℕ, _+_, _≤_, _<_}
+use mathlib.Core.List.{List, [], _∷_}
+use Prim.Native.Nat.{ℕ, suc, _+_, _≤_, _<_, compare·suc-suc}
 use native.Mathlib.Numerals.{add-one}
 use native.Mathlib.Omega.{arith}
+use native.Mathlib.Decide.{ℕ-discrete}
 use lib.ListN.{length, getD, drop, drop-of-length-le}
 use lib.Seq.{drop-cons}
 use lib.Dec.{eqb, ltb}
 use borrow.Author.Tests.{eq-eqb, ne-eqb, lt-ltb, le-ltb}
-use Rattle.spec.specs.Lists.{In, range, every, holds, keep}
+use Rattle.spec.specs.Lists.{In, range, every, holds, place, keep}
 use Rattle.laws.proofs.Lists.{length-range, getD-range, in-getD}
 
 -- ---- what a reader finds
@@ -65,29 +66,40 @@ module _ (p : ℕ → Bool) (a n k x : ℕ) (at : x ≡ a + k) (more : k < n) (i
 pub range-end : (p : ℕ → Bool) (a n k : ℕ) → n ≤ k → Every p (range a n) k → true ≡ every p (range a n)
 range-end p a n k h inv = every-end p (range a n) k (rw length-range h) inv
 
--- ---- some element is x
+-- ---- where x stands
 
 module _ (x : ℕ) where
-  holds-here : (y : ℕ) (l : List ℕ) → y ≡ x → holds eqb x (y ∷ l) ≡ true
-  unfolding holds
-  holds-here y l e = rw (eq-eqb y x e, holds)
+  pub place-here : (y : ℕ) (l : List ℕ) → y ≡ x → place eqb x (y ∷ l) ≡ 0
+  unfolding place
+  place-here y l e = rw (eq-eqb y x e, place)
 
-  holds-past : (y : ℕ) (l : List ℕ) → (y ≡ x → ⊥) → holds eqb x (y ∷ l) ≡ holds eqb x l
-  unfolding holds
-  holds-past y l e = rw (ne-eqb y x e, holds)
+  pub place-past : (y : ℕ) (l : List ℕ) → (y ≡ x → ⊥) → place eqb x (y ∷ l) ≡ suc (place eqb x l)
+  unfolding place
+  place-past y l e = rw (ne-eqb y x e, place)
 
-  abbrev pub Holds : List ℕ → ℕ → Type 0
-  Holds l k = holds eqb x (drop k l) ≡ holds eqb x l
+  -- What was passed, and the place in what is left, are the place in the whole.
+  abbrev pub Place : List ℕ → ℕ → Type 0
+  Place l k = k + place eqb x (drop k l) ≡ place eqb x l
 
-  pub holds-yes : (l : List ℕ) (k : ℕ) → k < length l → Holds l k → getD l k 0 ≡ x → true ≡ holds eqb x l
-  holds-yes l k h inv e = sym (ap (holds eqb x) (drop-cons l k 0 h) ∙ holds-here _ _ e) ∙ inv
+  pub place-yes : (l : List ℕ) (k : ℕ) → k < length l → Place l k → getD l k 0 ≡ x → k ≡ place eqb x l
+  place-yes l k h inv e = omega (arith, inv, ap (place eqb x) (drop-cons l k 0 h) ∙ place-here _ _ e)
 
-  pub holds-no : (l : List ℕ) (k : ℕ) → k < length l → Holds l k → (getD l k 0 ≡ x → ⊥) → Holds l (k + 1)
-  holds-no l k h inv e = rw add-one (sym (ap (holds eqb x) (drop-cons l k 0 h) ∙ holds-past _ _ e) ∙ inv)
+  pub place-no : (l : List ℕ) (k : ℕ) → k < length l → Place l k → (getD l k 0 ≡ x → ⊥) → Place l (k + 1)
+  place-no l k h inv e = rw (add-one k) (omega (arith, inv, ap (place eqb x) (drop-cons l k 0 h) ∙ place-past _ _ e))
 
-  pub holds-end : (l : List ℕ) (k : ℕ) → length l ≤ k → Holds l k → false ≡ holds eqb x l
-  unfolding holds
-  holds-end l k h inv = rw (drop-of-length-le l h) at inv
+  pub place-end : (l : List ℕ) (k : ℕ) → length l ≤ k → Place l k → k ≡ place eqb x l
+  unfolding place
+  place-end l k h inv = let q : k + 0 ≡ place eqb x l = rw (drop-of-length-le l h) at inv in omega arith
+
+  -- The list holds x exactly if the place of x is below its length.
+  pub place-holds : (l : List ℕ) → ltb (place eqb x l) (length l) ≡ holds eqb x l
+  unfolding place holds
+  place-holds [] = le-ltb 0 0 (omega arith)
+  place-holds (y ∷ l) = go (ℕ-discrete y x) (place-holds l)
+    where
+      go : Dec (y ≡ x) → ltb (place eqb x l) (length l) ≡ holds eqb x l → ltb (place eqb x (y ∷ l)) (suc (length l)) ≡ holds eqb x (y ∷ l)
+      go (yes e) ih = rw (eq-eqb y x e, place, holds) (lt-ltb 0 (suc (length l)) (omega arith))
+      go (no e) ih = rw (ne-eqb y x e, place, holds, compare·suc-suc) ih
 
 -- ---- how many pass
 

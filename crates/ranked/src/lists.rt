@@ -4,7 +4,7 @@ ghost use mathlib.Core.Path.{_≡_};
 ghost use Prim.Native.Nat.{_+_, _*_, _^_, _≤_, _<_};
 ghost use lib.ListN.{length, getD};
 ghost use lib.Dec.{eqb};
-ghost use Rattle.spec.specs.Lists.{holds};
+ghost use Rattle.spec.specs.Lists.{holds, place};
 ghost use Rattle.spec.specs.Types.{subs};
 ghost use Rattle.ranked.specs.Words.{sizeAt, listAt, absIn, Held};
 ghost use Rattle.ranked.specs.Reading.{Lies};
@@ -67,20 +67,28 @@ pub fn list_word(base: usize, e: usize) -> usize
     base + 4 * e
 }
 
-// Tells whether the list at word i holds x.
-pub fn holds_at(lists: &[u32], i: usize, x: usize) -> bool
+// Counts the entries of the list at word i that stand before x, which is the length of the list where x is absent.
+pub fn place_at(lists: &[u32], i: usize, x: usize) -> usize
     requires { ⌜ Lies (now lists) i ⌝ }
-    ensures { λ r. ⌜ r ≡ holds eqb x (listAt (now (lists .entry)) i) ⌝ }
+    ensures { λ r. ⌜ r ≡ place eqb x (listAt (now (lists .entry)) i) ⌝ }
 {
     let n = count_at(lists, i);
     let mut k: usize = 0;
     while k < n {
         if entry_at(lists, i, k) == x {
-            return true;
+            return k;
         }
         k += 1;
     }
-    false
+    k
+}
+
+// Tells whether the list at word i holds x.
+pub fn holds_at(lists: &[u32], i: usize, x: usize) -> bool
+    requires { ⌜ Lies (now lists) i ⌝ }
+    ensures { λ r. ⌜ r ≡ holds eqb x (listAt (now (lists .entry)) i) ⌝ }
+{
+    place_at(lists, i, x) < count_at(lists, i)
 }
 
 // Returns sub k of element e of rank r.

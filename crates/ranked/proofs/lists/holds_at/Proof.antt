@@ -1,35 +1,15 @@
--- What is left of the list holds x exactly if the whole does.
+-- The list holds x exactly if x has a place in it.
 -- Assumes nothing.
 use borrow.Author.Needs.{needs}
-use native.Mathlib.Omega.{arith}
-use mathlib.Core.Path.{_≡_, refl, sym, _∙_}
-use Prim.Native.Nat.{_≤_, _-_}
-use lib.ListN.{length}
-use Rattle.ranked.specs.Words.{listAt}
-use Rattle.ranked.proofs.Turns.{Holds, holds-yes, holds-no, holds-end}
+use Rattle.ranked.proofs.Turns.{place-holds}
 use Rattle.ranked.proofs.lists.holds_at.Statement.{statement}
 use Rattle.ranked.proofs.lists.holds_at.Tie as tie
-
-abbrev Inv : tie.InvT-loop
-Inv w i x n k₀ k = (k ≤ n) × (n ≡ length (listAt w i)) × Holds x (listAt w i) k
-
-abbrev μ : tie.MeasureT-loop
-μ w i x n k₀ k = n - k
 
 pub holds-at-spec : {M : Type 1} → statement M
 holds-at-spec =
     tie.close
-    (tie.spec Inv μ
+    (tie.spec
+    -- The needs are place-at-requires, count-at-requires and returns.
     (λ c κs. search needs)
-    -- The needs are loop-holds and entry-at-requires.
-    (λ c. (search needs, c .count-at .ensures, refl))
-    (λ c κs. (search needs, search needs))
-    -- The needs are returns, add-k, loop-less, loop-again and returns-2.
-    (λ c. let l = c .before .before .before in
-    holds-yes _ _ (l .loop .k) (omega (arith, c .before .before .loop-test .taken, l .loop .inv .1)) (l .loop .inv .2) (sym (c .before .entry-at .ensures) ∙ c .if1 .taken))
-    (λ c. search needs)
-    (λ c. search needs)
-    (λ c. let l = c .before .before .before in
-    (search needs, l .loop .inv .1, holds-no _ _ (l .loop .k) (omega (arith, c .before .before .loop-test .taken, l .loop .inv .1)) (l .loop .inv .2) (λ e. c .if1 .left (c .before .entry-at .ensures ∙ e))))
-    (λ c. let l = c .before in
-    holds-end _ _ (l .loop .k) (omega (arith, c .loop-test .left, l .loop .inv .1)) (l .loop .inv .2)))
+    (λ c κs. search needs)
+    (λ c. rw (c .before .place-at .ensures, c .count-at .ensures) (place-holds _ _)))

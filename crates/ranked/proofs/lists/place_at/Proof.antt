@@ -5,16 +5,16 @@ use native.Mathlib.Omega.{arith}
 use mathlib.Core.Path.{_≡_, sym, _∙_}
 use Prim.Native.Nat.{_≤_, _-_}
 use lib.ListN.{length}
 use Rattle.ranked.specs.Words.{listAt}
-use Rattle.flag.proofs.Steps.{Place, place-yes, place-no, place-end}
-use Rattle.flag.proofs.place_at.Statement.{statement}
-use Rattle.flag.proofs.place_at.Tie as tie
+use Rattle.ranked.proofs.Turns.{Place, place-yes, place-no, place-end}
+use Rattle.ranked.proofs.lists.place_at.Statement.{statement}
+use Rattle.ranked.proofs.lists.place_at.Tie as tie
 
 abbrev Inv : tie.InvT-loop
-Inv w word x n k₀ k = (k ≤ n) × (n ≡ length (listAt w word)) × Place x (listAt w word) k
+Inv w i x n k₀ k = (k ≤ n) × (n ≡ length (listAt w i)) × Place x (listAt w i) k
 
 abbrev μ : tie.MeasureT-loop
-μ w word x n k₀ k = n - k
+μ w i x n k₀ k = n - k
 
 pub place-at-spec : {M : Type 1} → statement M
 place-at-spec =
