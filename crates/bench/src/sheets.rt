@@ -19,7 +19,7 @@ fn print(run: Run, sheet: &[u8], words: &mut [u32], floats: &mut [f64]) -> Run {
     let verdict = ready.verdict;
     let sh = ready.shape;
     let a = writing::bytes(writing::verdict(run, verdict), b" ");
-    writing::bytes(writing::decimal(a, sh.low as u64), b"\n")
+    writing::bytes(writing::decimal(a, sh.words() as u64), b"\n")
 }
 
 fn repeat(sheet: &[u8], words: &mut [u32], floats: &mut [f64], times: u64) -> usize {
@@ -28,7 +28,7 @@ fn repeat(sheet: &[u8], words: &mut [u32], floats: &mut [f64], times: u64) -> us
     while left > 0 {
         let ready = preflight::preflight(sheet, words, floats);
         let sh = ready.shape;
-        last = sh.low;
+        last = sh.words();
         left -= 1;
     }
     last

@@ -17,7 +17,8 @@ use Rattle.ranked.specs.Words.{absIn}
 use Rattle.ranked.specs.Layout.{subEntries}
 use Rattle.ranked.proofs.Low.{entries-0, entries-1}
 use Rattle.ranked.proofs.Low.{sub-entries-is}
-use Rattle.preflight.specs.Derive.{pairsTo, pairs, running}
+use Rattle.ranked.specs.Shapes.{running}
+use Rattle.preflight.specs.Derive.{pairsTo, pairs}
 use Rattle.ranked.proofs.Solids.{top-is, size-is}
 use Rattle.preflight.proofs.store.Flat.{rank-length}
 use Rattle.preflight.proofs.store.SheetSolid.{sum-lengths}

@@ -1,14 +1,13 @@
 -- This file has refusals 1 to 7 of a sheet as one answer, and says where the solid of a sheet that passes lies.
 -- Assumes nothing.
 use mathlib.Core.Path.{_≡_}
-use Prim.Native.Nat.{ℕ, _+_}
+use Prim.Native.Nat.{ℕ}
 use mathlib.Core.Bool.{true, false}
 use mathlib.Core.List.{List}
-use lib.ListN.{length, replicate}
+use lib.ListN.{length}
 use lib.Ieee.{Float}
 use Rattle.spec.specs.declared.Refusal.{Refusal}
 use Rattle.spec.specs.declared.Refusal.the-variants.{Loose, Mitre}
-use Rattle.spec.specs.Limits.{maxStarts}
 use Rattle.spec.specs.Types.{Solid}
 use Rattle.spec.specs.Judged.{Judged, refused, passed}
 use Rattle.spec.specs.Sheet.{Parsed}
@@ -17,9 +16,10 @@ use Rattle.spec.specs.declared.Verdict.{Verdict}
 use Rattle.spec.specs.declared.Verdict.the-variants.{Accepted, Refused}
 use Rattle.ranked.specs.declared.Shape.{Shape}
 use Rattle.preflight.specs.declared.Ready.{Ready}
-use Rattle.preflight.specs.Store.{shapeOf, StoredSheet}
+use Rattle.preflight.specs.Store.{StoredSheet}
 use Rattle.preflight.specs.Bench.{Bench}
 use Rattle.ranked.specs.Layout.{solidIn}
+use Rattle.ranked.specs.Shapes.{shapeOf, noShape}
 
 -- Gives the verdict by itself.
 unfoldable pub verdictOf : Judged Concrete → Verdict
@@ -28,7 +28,7 @@ verdictOf (passed c) = Accepted
 
 -- Gives the answer of a refusal: no solid lies in the workspace, and the shape is of zeros.
 abbrev pub unreadyOf : Refusal → Ready
-unreadyOf why = record { verdict = Refused why; shape = record { rank = 0; dimension = 0; first = replicate (maxStarts) 0; low = 0 } }
+unreadyOf why = record { verdict = Refused why; shape = noShape }
 
 -- Gives the whole answer, which for a solid that passes has its shape and how many words it takes.
 unfoldable pub readyOf : Judged Concrete → Ready

@@ -2,22 +2,21 @@
 -- Assumes nothing.
 use mathlib.Core.Path.{_≡_}
 use Prim.Native.Nat.{ℕ, zero, suc, _+_, _-_, _*_, _≤_, _<_}
-use mathlib.Core.Bool.{true, false}
 use mathlib.Core.List.{List, [], _∷_, _++_, map}
 use lib.ListN.{length, getD, take, replicate}
-use lib.Dec.{leb, ltb}
 use lib.Ieee.{Float, binary64, ofBits}
-use Rattle.spec.specs.Limits.{maxRank, maxStarts, maxElements}
+use Rattle.spec.specs.Limits.{maxRank, maxElements}
 use Rattle.spec.specs.Lists.{join, range}
 use Rattle.spec.specs.Bits.{field}
-use Rattle.spec.specs.Types.{Solid, top, size}
+use Rattle.spec.specs.Types.{size}
 use Rattle.spec.specs.Judged.{refused, passed}
 use Rattle.spec.specs.Sheet.{Parsed, readSheet}
 use Rattle.spec.specs.Solid.{solidOf, entries, Concrete}
 use Rattle.ranked.specs.declared.Shape.{Shape}
 use Rattle.ranked.specs.Words.{firstAt, sizeAt, total, listsOf, listAt, absIn, Held}
-use Rattle.preflight.specs.Derive.{running, Stored}
-use Rattle.ranked.specs.Layout.{lowOf, baseOf, sized}
+use Rattle.ranked.specs.Layout.{lowOf, baseOf}
+use Rattle.ranked.specs.Shapes.{shapeOf}
+use Rattle.preflight.specs.Derive.{Stored}
 
 -- ---- fields
 
@@ -97,34 +96,9 @@ upperLists b i sh (suc k) = rawRanks b i (listSizes sh) k ++ (range 0 (sizeAt sh
 unfoldable pub subLists : List ℕ → ℕ → Shape → List (List ℕ)
 subLists b i sh = elim (sh .rank) [ zero ↦ [] ∷ [] | suc q ↦ [] ∷ (replicate (sizeAt sh 1) (0 ∷ []) ++ upperLists b i sh q) ]
 
--- ---- the shape
-
--- Counts the elements of rank r: one in ranks 0 and R, and in the proper ranks as many as the sheet counts.
-unfoldable pub sizeIn : ℕ → List ℕ → ℕ → ℕ
-sizeIn R counts zero = 1
-sizeIn R counts (suc k) = elim (ltb (suc k) R) [ true ↦ getD counts k 0 | false ↦ 1 ]
-
 -- Gives the bit at which the coordinates start: "R, 3 bits; dimension D, 3; for each proper rank its count, 12".
 abbrev pub pointsBit : ℕ → ℕ
 pointsBit R = 6 + 12 * (R - 1)
-
--- The shape is that of a sheet with this R, this D and these counts.
-pub record ShapeCounted (R D : ℕ) (counts : List ℕ) (sh : Shape) : Type 0 where
-  pub rank : sh .rank ≡ R
-  pub dimension : sh .dimension ≡ D
-  pub ranks : length (sh .first) ≡ maxStarts
-  pub firsts : (r : ℕ) → r ≤ suc R → firstAt sh r ≡ running 0 (sizeIn R counts) r
-  pub rest : (r : ℕ) → suc R < r → firstAt sh r ≡ 0
-
--- Counts the elements of s in the ranks below r, up to the rank above the top. The starts after that one are 0.
-unfoldable pub startIn : Solid → ℕ → ℕ
-startIn s r = elim (leb r (suc (top s))) [ true ↦ running 0 (λ q. size s q) r | false ↦ 0 ]
-
--- Gives the shape of a solid.
-unfoldable pub shapeOf : Concrete → Shape
-shapeOf c =
-    let first = map (startIn (c .abs)) (range 0 (maxStarts)) in
-    sized (record { rank = top (c .abs); dimension = c .dimension; first = first; low = 0 }) (entries (c .abs))
 
 -- ---- a whole sheet
 

@@ -3,7 +3,6 @@
 use crate::check::is_bound;
 use crate::check::is_diamond;
 use crate::store::store;
-use ranked::STARTS;
 use ranked::Shape;
 use sheet::Header;
 use spec::Refusal;
@@ -36,12 +35,7 @@ fn unready(why: Refusal) -> Ready
 {
     Ready {
         verdict: Verdict::Refused(why),
-        shape: Shape {
-            rank: 0,
-            dimension: 0,
-            first: [0usize; STARTS],
-            low: 0,
-        },
+        shape: Shape::none(),
     }
 }
 

@@ -2,6 +2,7 @@ pub mod Numbered
 pub mod Starts
 pub mod Turns
 pub mod Low
+pub mod Shaping
 pub mod Solids
 pub mod Counted
 pub mod Parts

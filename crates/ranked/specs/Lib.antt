@@ -1,4 +1,5 @@
 pub mod Words
 pub mod Layout
+pub mod Shapes
 pub mod Reading
 pub mod Marks

@@ -21,6 +21,10 @@ sizeAt sh r = firstAt sh (suc r) - firstAt sh r
 abbrev pub total : Shape → ℕ
 total sh = firstAt sh (suc (sh .rank))
 
+-- The shape has a start for every rank that there can be.
+abbrev pub FullStarts : Shape → Type 0
+FullStarts sh = length (sh .first) ≡ maxStarts
+
 -- Gives the words that hold the lists of the solid. What is free of the workspace lies behind them.
 abbrev pub listsOf : Shape → List ℕ → List ℕ
 listsOf sh ws = take (sh .low) ws
@@ -55,7 +59,7 @@ Inside w i = getD w i 0 + getD w (suc i) 0 ≤ length w
 pub record Held (sh : Shape) (w : List ℕ) : Type 0 where
   pub tall : sh .rank ≤ maxRank
   pub wide : sh .dimension ≤ maxDimension
-  pub ranks : length (sh .first) ≡ maxStarts
+  pub ranks : FullStarts sh
   -- No rank is empty, and none has more elements than the limit.
   pub start : firstAt sh 0 ≡ 0
   pub some : (r : ℕ) → r ≤ sh .rank → firstAt sh r < firstAt sh (suc r)

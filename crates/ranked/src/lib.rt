@@ -10,6 +10,7 @@ ghost use Prim.Native.Nat.{ℕ, suc, _+_, _*_, _^_, _≤_, _<_};
 ghost use lib.ListN.{length};
 ghost use Rattle.spec.specs.Limits.{maxRank, maxStarts};
 ghost use Rattle.ranked.specs.Words.{firstAt, sizeAt, total, listsOf, subsWord, supsWord};
+ghost use Rattle.ranked.specs.Shapes.{CountsFit, sizeIn, Started, ShapeCounted, noShape};
 ghost use Rattle.ranked.specs.Layout.{proper, before, subEntries, sized as sizedAs, subEntriesAt, supEntriesAt, typesAt, scratchAt, fingerprintsAt, coordinates, classesAt, classAt};
 
 // This many ranks have a start: those from 0 to the greatest R, and the one above, at which the top rank ends.
@@ -29,7 +30,71 @@ pub struct Shape {
     pub low: usize,
 }
 
+// Counts the elements of rank r, by the counts of ranks 1 to R - 1.
+fn rank_size(rank: usize, counts: [usize; MAX_RANK - 1], r: usize) -> usize
+    requires { ⌜ rank ≤ maxRank ⌝ }
+    ensures { λ n. ⌜ n ≡ sizeIn rank counts r ⌝ }
+{
+    if r == 0 {
+        return 1;
+    }
+    if r < rank {
+        return counts[r - 1];
+    }
+    1
+}
+
+// Returns where the ranks of a solid of rank R start, by the counts of ranks 1 to R - 1.
+fn starts_of(rank: usize, counts: [usize; MAX_RANK - 1]) -> [usize; STARTS]
+    requires { ⌜ rank ≤ maxRank ⌝ }
+    requires { ⌜ CountsFit rank counts ⌝ }
+    ensures { λ first. ⌜ Started rank counts first ⌝ }
+{
+    let mut first = [0usize; STARTS];
+    let mut r: usize = 0;
+    while r <= rank {
+        first[r + 1] = first[r] + rank_size(rank, counts, r);
+        r += 1;
+    }
+    first
+}
+
 impl Shape {
+    // Returns the shape of a solid of rank R in D dimensions, by the counts of ranks 1 to R - 1 and the number of entries that its stored lists have.
+    pub fn of(rank: usize, dimension: usize, counts: [usize; MAX_RANK - 1], entries: usize) -> Shape
+        requires { ⌜ (rank ≤ maxRank) × (entries < 2 ^ 32) ⌝ }
+        requires { ⌜ CountsFit rank counts ⌝ }
+        ensures { λ sh. ⌜ ShapeCounted rank dimension counts entries sh ⌝ }
+    {
+        let first = starts_of(rank, counts);
+        let ranks = Shape {
+            rank,
+            dimension,
+            first,
+            low: 0,
+        };
+        ranks.sized(entries)
+    }
+
+    // Returns the shape of zeros, where there is no solid.
+    pub fn none() -> Shape
+        ensures { λ sh. ⌜ sh ≡ noShape ⌝ }
+    {
+        Shape {
+            rank: 0,
+            dimension: 0,
+            first: [0usize; STARTS],
+            low: 0,
+        }
+    }
+
+    // Counts the words that the solid takes with all its lists. Those behind them are free.
+    pub fn words(self) -> usize
+        ensures { λ n. ⌜ n ≡ self .low ⌝ }
+    {
+        self.low
+    }
+
     // Counts the elements that lie in the ranks below rank r. Element e of rank r has the number first + e over all ranks.
     pub fn start(self, r: usize) -> usize
         requires { ⌜ r ≤ suc maxRank ⌝ }
@@ -135,7 +200,7 @@ impl Shape {
     }
 
     // Returns the shape with the number of its words, where the sheet's lists have so many entries.
-    pub fn sized(self, entries: usize) -> Shape
+    fn sized(self, entries: usize) -> Shape
         requires { ⌜ (self .rank ≤ maxRank) × (total self < 2 ^ 32) × (entries < 2 ^ 32) ⌝ }
         requires { ⌜ ((r : ℕ) → r ≤ self .rank → firstAt self r < firstAt self (suc r)) ⌝ }
         ensures { λ sh. ⌜ sh ≡ sizedAs self entries ⌝ }

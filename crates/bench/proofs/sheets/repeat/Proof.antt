@@ -19,6 +19,7 @@ repeat-spec =
     μ-loop
     (λ c. search needs)
     (λ c κs. search needs)
+    (λ c κs. search needs)
     (λ c. search needs)
     (λ c. search needs)
     (λ c. search needs)

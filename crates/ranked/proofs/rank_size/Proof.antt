@@ -1,8 +1,8 @@
--- `preflight::store::rank_size` meets its contract. Assumes nothing.
+-- `ranked::rank_size` meets its contract. Assumes nothing.
 use borrow.Author.Needs.{needs}
-use Rattle.preflight.proofs.store.Shaping.{size-first, proper-at, past-at}
-use Rattle.preflight.proofs.store.rank_size.Statement.{statement}
-use Rattle.preflight.proofs.store.rank_size.Tie as tie
+use Rattle.ranked.proofs.Shaping.{size-first, proper-at, past-at}
+use Rattle.ranked.proofs.rank_size.Statement.{statement}
+use Rattle.ranked.proofs.rank_size.Tie as tie
 
 pub rank-size-spec : {M : Type 1} → statement M
 rank-size-spec = tie.close (tie.spec
