@@ -5,16 +5,18 @@ use Prim.Native.Nat.{ℕ, _≤_, _<_}
 use mathlib.Core.List.{List, map}
 use lib.ListN.{length, getD}
 use lib.Ieee.{Float}
-use Rattle.spec.specs.Lists.{parts}
+use Rattle.spec.specs.Solid.{Concrete}
+use Rattle.spec.specs.Classes.{classTable, byTable}
+use Rattle.spec.specs.Search.{markOf}
 use Rattle.spec.specs.Demand3Calls.{rowAt}
 use Rattle.ranked.specs.declared.Shape.{Shape}
-use Rattle.ranked.specs.Words.{sizeAt, total, Held}
-use Rattle.marks.specs.Rows.{markOn, ClassesIn}
+use Rattle.ranked.specs.Words.{total, Held}
+use Rattle.marks.specs.Rows.{ClassesIn}
 use Rattle.marks.specs.Products.{composed}
 
--- Gives the marks of the first n rows, each of which has an entry for each vertex.
-abbrev pub marksOn : Shape → List ℕ → List Float → List ℕ → ℕ → List ℕ
-marksOn sh w fs rows n = map (markOn sh w fs) (parts n (sizeAt sh 1) rows)
+-- Gives the marks of some rows in the solid c.
+abbrev pub marksIn : Concrete → List (List ℕ) → List ℕ
+marksIn c = map (markOf (c .abs) (byTable (classTable c)))
 
 -- The rows of the solid that the lists w hold can be marked: its classes stand in the floats fs, and n cells are enough for where its elements go.
 pub record Markable (sh : Shape) (w : List ℕ) (fs : List Float) (n : ℕ) : Type 0 where

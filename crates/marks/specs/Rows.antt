@@ -12,7 +12,6 @@ use Rattle.spec.specs.Types.{size, Classes}
 use Rattle.spec.specs.Mark.{setsApart, goes, carriesElement}
 use Rattle.spec.specs.Hull.{classes}
 use Rattle.spec.specs.Classes.{distances, classTable, byTable}
-use Rattle.spec.specs.Search.{markOf}
 use Rattle.ranked.specs.declared.Shape.{Shape}
 use Rattle.ranked.specs.Words.{firstAt, sizeAt, total, absIn, Held}
 use Rattle.ranked.specs.Layout.{proper, classesAt, solidOn, classesIn}
@@ -29,10 +28,6 @@ classesOn sh w fs = byTable (classTable (solidOn sh w fs))
 -- Tells whether the row carries every element of rank r of that solid.
 abbrev pub carriesRank : Shape → List ℕ → List Float → List ℕ → ℕ → Bool
 carriesRank sh w fs row r = every (carriesElement (absIn sh w) (classesOn sh w fs) row r) (range 0 (size (absIn sh w) r))
-
--- Gives the mark of a row in that solid.
-abbrev pub markOn : Shape → List ℕ → List Float → List ℕ → ℕ
-markOn sh w fs = markOf (absIn sh w) (classesOn sh w fs)
 
 -- The class of each proper element stands in the floats, behind the coordinates and the list of distances.
 pub record ClassesIn (sh : Shape) (w : List ℕ) (fs : List Float) : Type 0 where

@@ -11,10 +11,11 @@ ghost use Rattle.spec.specs.Limits.{maxCount};
 ghost use Rattle.spec.specs.Lists.{In, holds, keep, every};
 ghost use Rattle.spec.specs.Types.{properRanks, Classes};
 ghost use Rattle.spec.specs.Mark.{setsApart};
+ghost use Rattle.spec.specs.Search.{markOf};
 ghost use Rattle.ranked.specs.Words.{firstAt, sizeAt, total, listAt, absIn, Held};
 ghost use Rattle.ranked.specs.Reading.{Lies, Each};
 ghost use Rattle.marks.specs.Rises.{onto, risesTo, Reached, Landed};
-ghost use Rattle.marks.specs.Rows.{permutes, carriesRank, markOn, ClassesIn, ClassesOf, Row, Images, Rank};
+ghost use Rattle.marks.specs.Rows.{permutes, classesOn, carriesRank, ClassesIn, ClassesOf, Row, Images, Rank};
 use geometry::classes;
 use points::Found;
 use points::cell;
@@ -212,7 +213,7 @@ pub fn mark(
     requires { ⌜ Held sh (now lists) × ClassesIn sh (now lists) (now floats) ⌝ }
     requires { ⌜ apart ≡ setsApart (absIn sh (now lists)) ⌝ }
     requires { ⌜ (length (now row) ≡ sizeAt sh 1) × (total sh ≤ length (now goes)) ⌝ }
-    ensures { λ m. ⌜ m ≡ markOn sh (now (lists .entry)) (now (floats .entry)) (now (row .entry)) ⌝ }
+    ensures { λ m. ⌜ m ≡ markOf (absIn sh (now (lists .entry))) (classesOn sh (now (lists .entry)) (now (floats .entry))) (now (row .entry)) ⌝ }
 {
     if !apart {
         return 0;

@@ -14,13 +14,15 @@ ghost use Prim.Native.Nat.{_+_, _*_, _≤_, _<_};
 ghost use lib.ListN.{length};
 ghost use Rattle.spec.specs.Limits.{maxCount, maxElements};
 ghost use Rattle.spec.specs.Mark.{setsApart};
-ghost use Rattle.spec.specs.Lists.{written};
+ghost use Rattle.spec.specs.Lists.{parts, written};
+ghost use Rattle.spec.specs.Search.{markOf};
 ghost use Rattle.spec.specs.Demand3Calls.{rowAt};
 ghost use Rattle.ranked.specs.Words.{sizeAt, absIn};
-ghost use Rattle.marks.specs.Rows.{markOn};
+ghost use Rattle.ranked.specs.Layout.{solidOn};
+ghost use Rattle.marks.specs.Rows.{classesOn};
 ghost use Rattle.marks.specs.Products.{composed};
 ghost use Rattle.marks.specs.Table.{tablePlaces, slots, mixedLimit, SlotFound};
-ghost use Rattle.marks.specs.Marking.{marksOn, Markable, Factored};
+ghost use Rattle.marks.specs.Marking.{marksIn, Markable, Factored};
 
 // The table has this many places.
 const PLACES: usize = 16384;
@@ -260,9 +262,9 @@ fn mark_next(
 ) -> u8
     requires { ⌜ Markable sh (now lists) (now floats) (length (now goes)) × (setsApart (absIn sh (now lists)) ≡ true) ⌝ }
     requires { ⌜ length (now done) * sizeAt sh 1 + sizeAt sh 1 ≤ length (now rows) ⌝ }
-    requires { ⌜ now done ≡ marksOn sh (now lists) (now floats) (now rows) (length (now done)) ⌝ }
-    ensures { λ m. ⌜ m
-        ≡ markOn sh (now (lists .entry)) (now (floats .entry)) (rowAt (sizeAt sh 1) (length (now (done .entry))) (now (rows .entry))) ⌝ }
+    requires { ⌜ now done ≡ marksIn (solidOn sh (now lists) (now floats)) (parts (length (now done)) (sizeAt sh 1) (now rows)) ⌝ }
+    ensures { λ m. ⌜ m ≡ markOf (absIn sh (now (lists .entry))) (classesOn sh (now (lists .entry)) (now (floats .entry)))
+        (rowAt (sizeAt sh 1) (length (now (done .entry))) (now (rows .entry))) ⌝ }
 {
     let v = sh.vertices();
     if is_known(rows, v, done, guesses, cells) {
@@ -295,7 +297,8 @@ fn mark_few(
 )
     requires { ⌜ Markable sh (now lists) (now floats) (length (now goes)) × (apart ≡ setsApart (absIn sh (now lists))) ⌝ }
     requires { ⌜ length (now marks) * sizeAt sh 1 ≤ length (now rows) ⌝ }
-    ensures { λ _. ⌜ now (marks .exit) ≡ marksOn sh (now (lists .entry)) (now (floats .entry)) (now (rows .entry)) (length (now (marks .entry))) ⌝ }
+    ensures { λ _. ⌜ now (marks .exit)
+        ≡ marksIn (solidOn sh (now (lists .entry)) (now (floats .entry))) (parts (length (now (marks .entry))) (sizeAt sh 1) (now (rows .entry))) ⌝ }
 {
     let v = sh.vertices();
     let n = marks.len();
@@ -318,7 +321,8 @@ fn mark_many(
 )
     requires { ⌜ Markable sh (now lists) (now floats) (length (now goes)) × (setsApart (absIn sh (now lists)) ≡ true) ⌝ }
     requires { ⌜ length (now marks) * sizeAt sh 1 ≤ length (now rows) ⌝ }
-    ensures { λ _. ⌜ now (marks .exit) ≡ marksOn sh (now (lists .entry)) (now (floats .entry)) (now (rows .entry)) (length (now (marks .entry))) ⌝ }
+    ensures { λ _. ⌜ now (marks .exit)
+        ≡ marksIn (solidOn sh (now (lists .entry)) (now (floats .entry))) (parts (length (now (marks .entry))) (sizeAt sh 1) (now (rows .entry))) ⌝ }
 {
     let v = sh.vertices();
     let n = marks.len();
@@ -354,7 +358,8 @@ pub fn mark_rows(
 )
     requires { ⌜ Markable sh (now lists) (now floats) maxElements × (apart ≡ setsApart (absIn sh (now lists))) ⌝ }
     requires { ⌜ length (now marks) * sizeAt sh 1 ≤ length (now rows) ⌝ }
-    ensures { λ _. ⌜ now (marks .exit) ≡ marksOn sh (now (lists .entry)) (now (floats .entry)) (now (rows .entry)) (length (now (marks .entry))) ⌝ }
+    ensures { λ _. ⌜ now (marks .exit)
+        ≡ marksIn (solidOn sh (now (lists .entry)) (now (floats .entry))) (parts (length (now (marks .entry))) (sizeAt sh 1) (now (rows .entry))) ⌝ }
 {
     let mut goes = [0u16; ELEMENTS];
     if apart {

@@ -23,7 +23,7 @@ use Rattle.symmetry.specs.declared.listing.Members.{Members}
 use Rattle.symmetry.specs.Tails.{callFrom, outOf}
 use Rattle.symmetry.specs.Listing.{MembersListed, answerOf}
 use Rattle.symmetry.specs.Searching.{settingIn, SolidListed}
-use Rattle.search.specs.Marking.{marksIn}
+use Rattle.marks.specs.Marking.{marksIn}
 use Rattle.search.proofs.Tested.{solid-kept}
 use Rattle.search.proofs.Benched.{lists-kept, state-kept}
 use Rattle.search.proofs.Steps.{marks-in, ended}

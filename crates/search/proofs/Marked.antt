@@ -24,7 +24,7 @@ use Rattle.laws.proofs.Shapes.{RoomHolds, none-held, fits-holds}
 use Rattle.points.proofs.Parts.{length-parts}
 use Rattle.symmetry.specs.Tails.{wantedOf}
 use Rattle.symmetry.specs.Listing.{membersGiven, rowCells, keptIn}
-use Rattle.search.specs.Marking.{marksIn}
+use Rattle.marks.specs.Marking.{marksIn}
 
 -- Rows of v cells each, one after another, are cut where they were joined.
 parts-join : {A : Type 0} (d : ℕ) (ls : List (List A)) (rest : List A) → ((x : List A) → In x ls → length x ≡ d) → parts (length ls) d (join ls ++ rest) ≡ ls

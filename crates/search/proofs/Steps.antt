@@ -52,7 +52,7 @@ use Rattle.symmetry.proofs.Running.{listed-call}
 use Rattle.search.specs.declared.judging.Far.{Far}
 use Rattle.search.specs.declared.judging.Far.the-variants.{Facet, Nothing}
 use Rattle.search.specs.Reading.{farOf, regular, callOf}
-use Rattle.search.specs.Marking.{marksIn}
+use Rattle.marks.specs.Marking.{marksIn}
 use Rattle.search.proofs.Tested.{solid-kept, full-is, facets-are, far-low}
 use Rattle.search.proofs.Benched.{exchanged-back, classes-in}
 use Rattle.search.proofs.Marked.{kept-room, kept-marks}

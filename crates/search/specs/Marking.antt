@@ -1,11 +1,8 @@
--- This file says what the marks of the listed rows are, and what the workspace holds when they are written.
+-- This file says what the workspace holds when the marks of the listed rows are written.
 -- Assumes nothing.
 use Prim.Native.Nat.{ℕ}
-use mathlib.Core.List.{List, map}
+use mathlib.Core.List.{List}
 use lib.Ieee.{Float}
-use Rattle.spec.specs.Solid.{Concrete}
-use Rattle.spec.specs.Classes.{classTable, byTable}
-use Rattle.spec.specs.Search.{markOf}
 use Rattle.ranked.specs.declared.Shape.{Shape}
 use Rattle.ranked.specs.Words.{listsOf}
 use Rattle.preflight.specs.Bench.{Bench}
@@ -17,7 +14,3 @@ pub record MarksReady (sh : Shape) (ws : List ℕ) (fs : List Float) : Type 0 wh
   pub bench : Bench sh ws fs
   pub classes : ClassesIn sh (listsOf sh ws) fs
   pub fingerprints : Fingerprinted sh ws
-
--- Gives the marks of some rows in the solid c.
-abbrev pub marksIn : Concrete → List (List ℕ) → List ℕ
-marksIn c = map (markOf (c .abs) (byTable (classTable c)))

@@ -12,7 +12,8 @@ ghost use Rattle.spec.specs.Lists.{parts, written};
 ghost use Rattle.spec.specs.Search.{exchanged};
 ghost use Rattle.ranked.specs.Words.{sizeAt};
 ghost use Rattle.ranked.specs.Layout.{solidIn};
-ghost use Rattle.search.specs.Marking.{MarksReady, marksIn};
+ghost use Rattle.marks.specs.Marking.{marksIn};
+ghost use Rattle.search.specs.Marking.{MarksReady};
 
 // Lets facet f and facet 0, which changed places for the search, go back, and works out the distance classes and the fingerprints of the solid as
 // read. Where f is 0 the solid as read was searched, and both are there already.
