@@ -63,37 +63,20 @@ abbrev crossedSquare : List ℕ
 crossedSquare =
     104 ∷ 1 ∷ 0 ∷ 16 ∷ 255 ∷ 192 ∷ 0 ∷ 0 ∷ 0 ∷ 0 ∷ 0 ∷ 0 ∷ 255 ∷ 192 ∷ 0 ∷ 0 ∷ 0 ∷ 0 ∷ 0 ∷ 2 ∷ 255 ∷ 192 ∷ 0 ∷ 0 ∷ 0 ∷ 0 ∷ 0 ∷ 2 ∷ 255 ∷ 192 ∷ 0 ∷ 0 ∷ 0 ∷ 0 ∷ 0 ∷ 0 ∷ 255 ∷ 192 ∷ 0 ∷ 0 ∷ 0 ∷ 0 ∷ 0 ∷ 2 ∷ 255 ∷ 192 ∷ 0 ∷ 0 ∷ 0 ∷ 0 ∷ 0 ∷ 2 ∷ 255 ∷ 192 ∷ 0 ∷ 0 ∷ 0 ∷ 0 ∷ 0 ∷ 0 ∷ 255 ∷ 192 ∷ 0 ∷ 0 ∷ 0 ∷ 0 ∷ 0 ∷ 0 ∷ 0 ∷ 128 ∷ 0 ∷ 1 ∷ 0 ∷ 32 ∷ 2 ∷ 0 ∷ 128 ∷ 8 ∷ 1 ∷ 0 ∷ 48 ∷ 2 ∷ 0 ∷ 0 ∷ 12 ∷ []
 
-pub nearTwo-text : kitText nearTwo ≡ ascii "types 6\n1 0 0 1\n1 1 1 1\n1 2 2 1\n2 0 0 1\n2 1 1 1\n2 2 2 1\nrefused 8\n"
-unfolding evaluate
-nearTwo-text = refl
+-- ---- what `kit` prints for each of these
 
-pub listedOnce-text : kitText listedOnce ≡ ascii "types 4\n1 0 0 2\n1 1 2 1\n2 0 0 1\n2 1 1 2\nrefused 8\n"
+pub difference-texts : map kitText (nearTwo ∷ listedOnce ∷ nearTwoVertices ∷ nearOnAxis ∷ nearSquare ∷ notFinite ∷ doubleCorner ∷ crossedSquare ∷ [])
+    ≡ ascii "types 6\n1 0 0 1\n1 1 1 1\n1 2 2 1\n2 0 0 1\n2 1 1 1\n2 2 2 1\nrefused 8\n"
+    ∷ ascii "types 4\n1 0 0 2\n1 1 2 1\n2 0 0 1\n2 1 1 2\nrefused 8\n"
+    ∷ ascii "types 1\n1 0 0 2\nmembers 2 confirmed 2 rotations 1\n"
+    ∷ ascii "types 4\n1 0 0 2\n1 1 1 1\n2 0 0 2\n2 1 2 1\nmembers 2 confirmed 2 rotations 1\n"
+    ∷ ascii "types 2\n1 0 0 4\n2 0 0 4\nmembers 6 confirmed 6 rotations 3\n"
+    ∷ ascii "types 2\n1 0 0 1\n1 1 1 1\nrefused 11\n"
+    ∷ ascii "types 1\n1 0 0 2\nrefused 9\n"
+    ∷ ascii "types 3\n1 0 0 4\n2 0 0 2\n2 1 1 2\nmembers 4 confirmed 4 rotations 2\n"
+    ∷ []
 unfolding evaluate
-listedOnce-text = refl
-
-pub nearTwoVertices-text : kitText nearTwoVertices ≡ ascii "types 1\n1 0 0 2\nmembers 2 confirmed 2 rotations 1\n"
-unfolding evaluate
-nearTwoVertices-text = refl
-
-pub nearOnAxis-text : kitText nearOnAxis ≡ ascii "types 4\n1 0 0 2\n1 1 1 1\n2 0 0 2\n2 1 2 1\nmembers 2 confirmed 2 rotations 1\n"
-unfolding evaluate
-nearOnAxis-text = refl
-
-pub nearSquare-text : kitText nearSquare ≡ ascii "types 2\n1 0 0 4\n2 0 0 4\nmembers 6 confirmed 6 rotations 3\n"
-unfolding evaluate
-nearSquare-text = refl
-
-pub notFinite-text : kitText notFinite ≡ ascii "types 2\n1 0 0 1\n1 1 1 1\nrefused 11\n"
-unfolding evaluate
-notFinite-text = refl
-
-pub doubleCorner-text : kitText doubleCorner ≡ ascii "types 1\n1 0 0 2\nrefused 9\n"
-unfolding evaluate
-doubleCorner-text = refl
-
-pub crossedSquare-text : kitText crossedSquare ≡ ascii "types 3\n1 0 0 4\n2 0 0 2\n2 1 1 2\nmembers 4 confirmed 4 rotations 2\n"
-unfolding evaluate
-crossedSquare-text = refl
+difference-texts = refl
 
 -- The second row of the solid with R = 2 at 1.1e-7, −0.5e-7 is 1 0.
 pub nearTwoVertices-rows : searchCall nearTwoVertices 96 80 (record { matrices = replicate 2 (ofBits binary64 0); rows = replicate 4 7; marks = replicate 2 7 }) .1 .rows ≡ 0 ∷ 1 ∷ 1 ∷ 0 ∷ []
