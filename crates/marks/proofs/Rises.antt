@@ -24,7 +24,7 @@ use Rattle.points.specs.declared.Found.the-variants.{At}
 use Rattle.points.specs.Finding.{firstOf}
 use Rattle.ranked.proofs.Between.{sup-means, means-sup}
 use Rattle.marks.specs.Rises.{onto, risesTo, Reached}
-use Rattle.marks.proofs.Sets.{not-passed, order-self, SameSet, sets-same, onto-same, same-onto}
+use Rattle.marks.proofs.Sets.{not-passed, order-self, SameNumbers, sets-same, onto-same, same-onto}
 
 -- ---- vertices of an element and of its subs
 
@@ -112,7 +112,7 @@ module _ (s : Solid) (ok : Sound s) (filled : (r e : ℕ) → e < size s (suc r)
 
   module _ (q : ℕ) (p : Proper s (suc q)) (low : (f : ℕ) → f < size s (suc q) → goes s row (suc q) f < size s (suc q)) where
     -- Where the subs of g are the images of e's, its vertices are the image of e's.
-    up : (e g : ℕ) → SameSet (subs s (suc (suc q)) g) (map (goes s row (suc q)) (subs s (suc (suc q)) e)) → vertices s (suc (suc q)) g ≡ image s row (suc (suc q)) e
+    up : (e g : ℕ) → SameNumbers (subs s (suc (suc q)) g) (map (goes s row (suc q)) (subs s (suc (suc q)) e)) → vertices s (suc (suc q)) g ≡ image s row (suc (suc q)) e
     unfolding vertices image
     up e g h = sets-same (size s 1) (reach s (suc (suc q)) g) (map (λ v. getD row v 0) (vertices s (suc (suc q)) e)) (λ v. (to v, from v))
       where
@@ -146,7 +146,7 @@ module _ (s : Solid) (ok : Sound s) (filled : (r e : ℕ) → e < size s (suc r)
 
       found : (g : ℕ) → g < size s (suc (suc q)) → onto to (subs s (suc (suc q)) e) (subs s (suc (suc q)) g) ≡ true → Reached s cls row (suc (suc q)) e (At g)
       found g k t =
-          let h : SameSet (subs s (suc (suc q)) g) (map (goes s row (suc q)) (subs s (suc (suc q)) e)) = rw images at (onto-same to (subs s (suc (suc q)) e) (subs s (suc (suc q)) g) once t) in
+          let h : SameNumbers (subs s (suc (suc q)) g) (map (goes s row (suc q)) (subs s (suc (suc q)) e)) = rw images at (onto-same to (subs s (suc (suc q)) e) (subs s (suc (suc q)) g) once t) in
           let z : goes s row (suc (suc q)) e ≡ g = goes-proper s row (suc (suc q)) e p′ ∙ ap (λ (l : List ℕ). place eqList l (vertexSets s (suc (suc q)))) (sym (up e g h)) ∙ set-place s (suc (suc q)) o′ g k in
           let l : subs s (suc (suc q)) g ≡ inOrder (size s (suc q)) (map (goes s row (suc q)) (subs s (suc (suc q)) e)) =
           sym (order-self (size s (suc q)) (subs s (suc (suc q)) g) (ok .rising (suc (suc q)) g) (λ x m. ok .below (suc q) g x m))
@@ -154,7 +154,7 @@ module _ (s : Solid) (ok : Sound s) (filled : (r e : ℕ) → e < size s (suc r)
           (sym z, k, class-left (suc q) e g k z l)
 
       -- What a carried element goes to passes the test.
-      passes : carriesElement s cls row (suc (suc q)) e ≡ true → (g : ℕ) × (g < size s (suc (suc q))) × SameSet (subs s (suc (suc q)) g) (map to (subs s (suc (suc q)) e))
+      passes : carriesElement s cls row (suc (suc q)) e ≡ true → (g : ℕ) × (g < size s (suc (suc q))) × SameNumbers (subs s (suc (suc q)) g) (map to (subs s (suc (suc q)) e))
       passes c =
           let f = fit-of s cls row (suc (suc q)) e c in
           let es = subs s (suc (suc q)) e in (

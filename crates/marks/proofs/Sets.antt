@@ -74,10 +74,10 @@ order-self n l r b = keep-self (λ v. holds eqb v l) 0 n l r (λ x m. let k = b 
 
 -- ---- lists that hold the same
 
-abbrev pub SameSet : List ℕ → List ℕ → Type 0
-SameSet l m = (x : ℕ) → (In x l → In x m) × (In x m → In x l)
+abbrev pub SameNumbers : List ℕ → List ℕ → Type 0
+SameNumbers l m = (x : ℕ) → (In x l → In x m) × (In x m → In x l)
 
-pub sets-same : (n : ℕ) (l m : List ℕ) → SameSet (inOrder n l) (inOrder n m) → inOrder n l ≡ inOrder n m
+pub sets-same : (n : ℕ) (l m : List ℕ) → SameNumbers (inOrder n l) (inOrder n m) → inOrder n l ≡ inOrder n m
 sets-same n l m h =
     order-same n l m (λ v b k. of-order n m v (h v .0 (in-order n l v b k)) .1) (λ v b k. of-order n l v (h v .1 (in-order n m v b k)) .1)
 
@@ -96,7 +96,7 @@ full l m o n h x k = go (in? eqb numbers x l)
 -- ---- onto
 
 module _ (to : ℕ → ℕ) (es gs : List ℕ) (once : Once (map to es)) where
-  pub onto-same : onto to es gs ≡ true → SameSet gs (map to es)
+  pub onto-same : onto to es gs ≡ true → SameNumbers gs (map to es)
   unfolding onto
   onto-same e x =
       let b = both (eqb (length es) (length gs)) (every (λ f. holds eqb (to f) gs) es) e in
@@ -104,7 +104,7 @@ module _ (to : ℕ → ℕ) (es gs : List ℕ) (once : Once (map to es)) where
       let lands : (y : ℕ) → In y (map to es) → In y gs = λ y m. let u = in-map to y es m in rw (u .2) (in-holds (to (u .0)) gs (every-in (λ f. holds eqb (to f) gs) es (b .1) (u .0) (u .1))) in
       (full (map to es) gs once (omega (arith, length-map es to)) lands x, lands x)
 
-  pub same-onto : Once gs → SameSet gs (map to es) → onto to es gs ≡ true
+  pub same-onto : Once gs → SameNumbers gs (map to es) → onto to es gs ≡ true
   unfolding onto
   same-onto o h =
       let n : length es ≡ length gs = sym (length-map es to) ∙ le-antisymm (pigeons eqb numbers (map to es) gs once (λ t m. h t .1 m)) (pigeons eqb numbers gs (map to es) o (λ t m. h t .0 m)) in

@@ -19,7 +19,7 @@ use Rattle.laws.proofs.Lists.{getD-table, length-table}
 use Rattle.ranked.specs.declared.Shape.{Shape}
 use Rattle.ranked.specs.Words.{firstAt, total, FullStarts}
 use Rattle.ranked.specs.Layout.{subEntries, lowOf, sized}
-use Rattle.ranked.specs.Shapes.{running, CountsFit, sizeIn, Started, ShapeCounted, startIn, shapeOf}
+use Rattle.ranked.specs.Shapes.{running, CountsFit, sizeIn, StartsCounted, ShapeCounted, startIn, shapeOf}
 use Rattle.ranked.proofs.Starts.{lt-or-le}
 
 -- ---- how many elements a rank has
@@ -113,7 +113,7 @@ module _ (R : ℕ) (counts : List ℕ) where
               rw e (getD-set-same first (r + 1) (getD first r 0 + n) 0 (omega (arith, s .len, s .tall)) ∙ rw (add-one r, s .at r (omega arith), en))
           go q h (no e) = getD-set-other first (r + 1) q (getD first r 0 + n) 0 e ∙ s .at q (omega arith)
 
-    pub firsts-all : R < r → Started R counts first
+    pub firsts-all : R < r → StartsCounted R counts first
     firsts-all h = record { cells = s .len; at = λ q k. s .at q (omega (arith, s .bound)); rest = λ q k. s .rest q (omega (arith, s .bound)) }
 
 -- ---- the shape
@@ -123,7 +123,7 @@ low-same : (sh : Shape) (n I : ℕ) → lowOf (record { rank = sh .rank; dimensi
 unfolding lowOf subEntries
 low-same sh n I = refl
 
-module _ (R D : ℕ) (counts first : List ℕ) (I : ℕ) (tall : R ≤ maxRank) (small : I < 2 ^ 32) (fit : CountsFit R counts) (st : Started R counts first) where
+module _ (R D : ℕ) (counts first : List ℕ) (I : ℕ) (tall : R ≤ maxRank) (small : I < 2 ^ 32) (fit : CountsFit R counts) (st : StartsCounted R counts first) where
   abbrev ranks : Shape
   ranks = record { rank = R; dimension = D; first = first; low = 0 }
 

@@ -78,16 +78,16 @@ module _ (x : ℕ) where
   place-past y l e = rw (ne-eqb y x e, place)
 
   -- What was passed, and the place in what is left, are the place in the whole.
-  abbrev pub Place : List ℕ → ℕ → Type 0
-  Place l k = k + place eqb x (drop k l) ≡ place eqb x l
+  abbrev pub PlaceFrom : List ℕ → ℕ → Type 0
+  PlaceFrom l k = k + place eqb x (drop k l) ≡ place eqb x l
 
-  pub place-yes : (l : List ℕ) (k : ℕ) → k < length l → Place l k → getD l k 0 ≡ x → k ≡ place eqb x l
+  pub place-yes : (l : List ℕ) (k : ℕ) → k < length l → PlaceFrom l k → getD l k 0 ≡ x → k ≡ place eqb x l
   place-yes l k h inv e = omega (arith, inv, ap (place eqb x) (drop-cons l k 0 h) ∙ place-here _ _ e)
 
-  pub place-no : (l : List ℕ) (k : ℕ) → k < length l → Place l k → (getD l k 0 ≡ x → ⊥) → Place l (k + 1)
+  pub place-no : (l : List ℕ) (k : ℕ) → k < length l → PlaceFrom l k → (getD l k 0 ≡ x → ⊥) → PlaceFrom l (k + 1)
   place-no l k h inv e = rw (add-one k) (omega (arith, inv, ap (place eqb x) (drop-cons l k 0 h) ∙ place-past _ _ e))
 
-  pub place-end : (l : List ℕ) (k : ℕ) → length l ≤ k → Place l k → k ≡ place eqb x l
+  pub place-end : (l : List ℕ) (k : ℕ) → length l ≤ k → PlaceFrom l k → k ≡ place eqb x l
   unfolding place
   place-end l k h inv = let q : k + 0 ≡ place eqb x l = rw (drop-of-length-le l h) at inv in omega arith
 

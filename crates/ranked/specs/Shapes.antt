@@ -30,7 +30,7 @@ sizeIn R counts zero = 1
 sizeIn R counts (suc k) = elim (ltb (suc k) R) [ true ↦ getD counts k 0 | false ↦ 1 ]
 
 -- The ranks of a solid with this R and these counts start as `first` says.
-pub record Started (R : ℕ) (counts first : List ℕ) : Type 0 where
+pub record StartsCounted (R : ℕ) (counts first : List ℕ) : Type 0 where
   pub cells : length first ≡ maxStarts
   pub at : (r : ℕ) → r ≤ suc R → getD first r 0 ≡ running 0 (sizeIn R counts) r
   pub rest : (r : ℕ) → suc R < r → getD first r 0 ≡ 0
@@ -39,7 +39,7 @@ pub record Started (R : ℕ) (counts first : List ℕ) : Type 0 where
 pub record ShapeCounted (R D : ℕ) (counts : List ℕ) (I : ℕ) (sh : Shape) : Type 0 where
   pub rank : sh .rank ≡ R
   pub dimension : sh .dimension ≡ D
-  pub starts : Started R counts (sh .first)
+  pub starts : StartsCounted R counts (sh .first)
   pub low : sh .low ≡ lowOf sh I
 
 -- ---- by the solid

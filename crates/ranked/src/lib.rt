@@ -10,7 +10,7 @@ ghost use Prim.Native.Nat.{ℕ, suc, _+_, _*_, _^_, _≤_, _<_};
 ghost use lib.ListN.{length};
 ghost use Rattle.spec.specs.Limits.{maxRank, maxStarts};
 ghost use Rattle.ranked.specs.Words.{firstAt, sizeAt, total, listsOf, subsWord, supsWord};
-ghost use Rattle.ranked.specs.Shapes.{CountsFit, sizeIn, Started, ShapeCounted, noShape};
+ghost use Rattle.ranked.specs.Shapes.{CountsFit, sizeIn, StartsCounted, ShapeCounted, noShape};
 ghost use Rattle.ranked.specs.Layout.{proper, before, subEntries, sized as sizedAs, subEntriesAt, supEntriesAt, typesAt, scratchAt, fingerprintsAt, coordinates, classesAt, classAt};
 
 // This many ranks have a start: those from 0 to the greatest R, and the one above, at which the top rank ends.
@@ -48,7 +48,7 @@ fn rank_size(rank: usize, counts: [usize; MAX_RANK - 1], r: usize) -> usize
 fn starts_of(rank: usize, counts: [usize; MAX_RANK - 1]) -> [usize; STARTS]
     requires { ⌜ rank ≤ maxRank ⌝ }
     requires { ⌜ CountsFit rank counts ⌝ }
-    ensures { λ first. ⌜ Started rank counts first ⌝ }
+    ensures { λ first. ⌜ StartsCounted rank counts first ⌝ }
 {
     let mut first = [0usize; STARTS];
     let mut r: usize = 0;

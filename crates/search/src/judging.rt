@@ -5,7 +5,7 @@ use float::tolerance::Tolerance;
 use geometry::elements::element_distance;
 use ranked::Shape;
 use symmetry::candidates::all_finite;
-use symmetry::candidates::columns;
+use symmetry::candidates::vertex_sequence;
 ghost use mathlib.Core.Path.{_≡_};
 ghost use mathlib.Core.Bool.{true, _&&_};
 ghost use Prim.Native.Nat.{_-_, _≤_};
@@ -73,7 +73,7 @@ pub fn first_inverse(
 {
     let d = sh.dimension;
     let first = Flag::first(lists, sh);
-    matrix::inverse(columns(lists, sh, floats, first), d, found)
+    matrix::inverse(vertex_sequence(lists, sh, floats, first), d, found)
 }
 
 // Tells whether refusal 11, "first columns singular, or a non-finite inverse", does not apply.

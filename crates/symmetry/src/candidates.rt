@@ -124,8 +124,8 @@ fn turned(lists: &[u32], sh: Shape, flag: Flag) -> Flag
     f
 }
 
-// "A flag's columns: its vertex; then, D−1 times, change ranks 1 to R−1 in turn and take the vertex."
-pub fn columns(
+// Returns "A flag's columns: its vertex; then, D−1 times, change ranks 1 to R−1 in turn and take the vertex."
+pub fn vertex_sequence(
     lists: &[u32],
     sh: Shape,
     floats: &[f64],
@@ -171,5 +171,5 @@ pub fn candidate(
         ≡ mulMat (flagColumns (solidOn sh (now (lists .entry)) (now (floats .entry))) (flagIn (sh .rank) flag)) (corner (sh .dimension) inv) ⌝ }
 {
     let d = sh.dimension;
-    matrix::product(columns(lists, sh, floats, flag), inv, d)
+    matrix::product(vertex_sequence(lists, sh, floats, flag), inv, d)
 }

@@ -6,12 +6,12 @@ use mathlib.Core.Path.{_≡_, sym, _∙_}
 use Prim.Native.Nat.{_≤_, _-_}
 use lib.ListN.{length}
 use Rattle.ranked.specs.Words.{listAt}
-use Rattle.ranked.proofs.Turns.{Place, place-yes, place-no, place-end}
+use Rattle.ranked.proofs.Turns.{PlaceFrom, place-yes, place-no, place-end}
 use Rattle.ranked.proofs.lists.place_at.Statement.{statement}
 use Rattle.ranked.proofs.lists.place_at.Tie as tie
 
 abbrev Inv : tie.InvT-loop
-Inv w i x n k₀ k = (k ≤ n) × (n ≡ length (listAt w i)) × Place x (listAt w i) k
+Inv w i x n k₀ k = (k ≤ n) × (n ≡ length (listAt w i)) × PlaceFrom x (listAt w i) k
 
 abbrev μ : tie.MeasureT-loop
 μ w i x n k₀ k = n - k

@@ -21,7 +21,7 @@ pub first-inverse-spec : {M : Type 1} → statement M
 first-inverse-spec =
     tie.close
     (tie.spec
-    -- The needs are first-requires, columns-requires and inverse-requires.
+    -- The needs are first-requires, vertex-sequence-requires and inverse-requires.
     (λ c κs. search needs)
     (λ c κs. let s = c .before .before .before in (s .pre .0, (s .pre .1 .0, (is-flag c, (omega (arith, s .pre .1 .1 .0), s .pre .1 .1 .1)))))
     (λ c κs. c .before .before .before .before .before .pre .0 .wide)
@@ -29,4 +29,4 @@ first-inverse-spec =
     (λ c. let f = c .before .before .before in
     let a = f .before .before .before .args in
     let C = solidOn (a .sh) (a .lists .now) (a .floats .now) in
-    c .inverse .ensures .0 ∙ ap inverse (c .before .before .columns .ensures ∙ ap (flagColumns C) (f .first .ensures))))
+    c .inverse .ensures .0 ∙ ap inverse (c .before .before .vertex-sequence .ensures ∙ ap (flagColumns C) (f .first .ensures))))

@@ -21,7 +21,7 @@ candidate-spec =
     (λ c. let a = c .before .before .before .before .args in
     let d = a .sh .dimension in
     let wide = c .before .before .before .before .pre .0 .wide in
-    let long : length (c .before .columns .result) ≡ maxDimension = search needs in
+    let long : length (c .before .vertex-sequence .result) ≡ maxDimension = search needs in
     let long₂ : length (a .inv) ≡ maxDimension = search needs in
-    corner-product d (corner d (c .before .columns .result)) (length-corner d (c .before .columns .result) (omega arith)) (corner d (a .inv)) _ (length-corner d (a .inv) (omega arith)) (c .product .ensures)
-    ∙ ap (λ (m : Matrix). mulMat m (corner (a .sh .dimension) (a .inv))) (c .before .columns .ensures)))
+    corner-product d (corner d (c .before .vertex-sequence .result)) (length-corner d (c .before .vertex-sequence .result) (omega arith)) (corner d (a .inv)) _ (length-corner d (a .inv) (omega arith)) (c .product .ensures)
+    ∙ ap (λ (m : Matrix). mulMat m (corner (a .sh .dimension) (a .inv))) (c .before .vertex-sequence .ensures)))

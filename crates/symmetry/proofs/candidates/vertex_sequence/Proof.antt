@@ -12,8 +12,8 @@ use Rattle.matrix.proofs.Corner.{length-corner}
 use Rattle.matrix.proofs.Padded.{corner-columns}
 use Rattle.flag.specs.Reading.{flagIn}
 use Rattle.symmetry.proofs.candidates.Rounds.{Walking, vertex-in, walk-first, walk-next, columns-are}
-use Rattle.symmetry.proofs.candidates.columns.Statement.{statement}
-use Rattle.symmetry.proofs.candidates.columns.Tie as tie
+use Rattle.symmetry.proofs.candidates.vertex_sequence.Statement.{statement}
+use Rattle.symmetry.proofs.candidates.vertex_sequence.Tie as tie
 
 abbrev Inv : tie.InvT-loop
 Inv lists sh floats d rows₀ f₀ i₀ rows f i = Walking sh lists floats (flagIn (sh .rank) f₀) (flagIn (sh .rank) f) rows₀ rows i
@@ -21,8 +21,8 @@ Inv lists sh floats d rows₀ f₀ i₀ rows f i = Walking sh lists floats (flag
 abbrev μ : tie.MeasureT-loop
 μ lists sh floats d rows₀ f₀ i₀ rows f i = d - i
 
-pub columns-spec : {M : Type 1} → statement M
-columns-spec =
+pub vertex-sequence-spec : {M : Type 1} → statement M
+vertex-sequence-spec =
     tie.close
     (tie.spec Inv μ
     (λ c. search needs)
