@@ -51,9 +51,9 @@ startIn s r = elim (leb r (suc (top s))) [ true ↦ running 0 (λ q. size s q) r
 -- Gives the shape of a solid.
 unfoldable pub shapeOf : Concrete → Shape
 shapeOf c =
-    let first = map (startIn (c .abs)) (range 0 (maxStarts)) in
+    let first = map (startIn (c .abs)) (range 0 maxStarts) in
     sized (record { rank = top (c .abs); dimension = c .dimension; first = first; low = 0 }) (entries (c .abs))
 
 -- Gives the shape of zeros, where there is no solid.
 abbrev pub noShape : Shape
-noShape = record { rank = 0; dimension = 0; first = replicate (maxStarts) 0; low = 0 }
+noShape = record { rank = 0; dimension = 0; first = replicate maxStarts 0; low = 0 }
