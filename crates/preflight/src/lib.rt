@@ -71,16 +71,7 @@ fn settle(sheet: &[u8], header: Header, words: &mut [u32], floats: &mut [f64]) -
     requires { ⌜ roomy (solidOf (parsedOf (now sheet))) (length (now words)) (length (now floats)) ≡ true ⌝ }
     ensures { λ r. ⌜ SheetJudged (parsedOf (now (sheet .entry))) r (now (words .exit)) (now (floats .exit)) ⌝ }
 {
-    let counts = header.counts;
-    let sh = store(
-        sheet,
-        header.rank,
-        header.dimension,
-        counts,
-        header.entries,
-        words,
-        floats,
-    );
+    let sh = store(sheet, header, words, floats);
     let verdict = checked(sh.lists(words), sh);
     match verdict {
         Verdict::Refused(why) => unready(why),
