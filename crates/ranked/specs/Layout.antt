@@ -48,6 +48,10 @@ sized sh I = record { rank = sh .rank; dimension = sh .dimension; first = sh .fi
 abbrev pub supEntriesAt : Shape → ℕ
 supEntriesAt sh = 2 * total sh + sh .low / 2
 
+-- Gives the words below the sups' entries, in which the solid stands with its subs alone.
+abbrev pub subListsOf : Shape → List ℕ → List ℕ
+subListsOf sh ws = take (supEntriesAt sh) ws
+
 -- Gives the word from which on the types of rank r's elements stand.
 abbrev pub typesAt : Shape → ℕ → ℕ
 typesAt sh r = sh .low + firstAt sh r

@@ -45,5 +45,5 @@ pub fn exchange(words: &mut [u32], sh: Shape, f: usize)
     let i = sh.subs(sh.rank - 1, 0);
     let j = sh.subs(sh.rank - 1, f);
     swap_lists(words, i, j);
-    derive_sups(words, sh, sh.sup_entries_at());
+    derive_sups(words, sh);
 }

@@ -22,8 +22,8 @@ use Rattle.laws.specs.Passed.{ExchangeKept}
 use Rattle.laws.proofs.Exchange.{swap-low, size-same, subs-n, subs-other, elements-same, entries-same, bound-same, every-exchange}
 use Rattle.ranked.specs.declared.Shape.{Shape}
 use Rattle.ranked.specs.Words.{firstAt, sizeAt, total, listsOf, listAt, subsIn, absIn, Held}
-use Rattle.ranked.specs.Layout.{supEntriesAt, solidIn, subEntries, lowOf, baseOf}
-use Rattle.preflight.specs.Derive.{pairs, Stored}
+use Rattle.ranked.specs.Layout.{supEntriesAt, subListsOf, abstractIn, solidIn, subEntries, lowOf, baseOf}
+use Rattle.preflight.specs.Derive.{pairs, Stored, storedIn, SupsRoom}
 use Rattle.preflight.specs.Bench.{Bench, Laid}
 use Rattle.ranked.proofs.Solids.{top-is, size-is, subs-is}
 use Rattle.preflight.proofs.store.Places.{first-le}
@@ -240,9 +240,6 @@ module _ (sh : Shape) (ws : List ℕ) (l : Laid sh ws) (f : ℕ) (asked : (2 ≤
   unfolding baseOf lowOf
   entries-at = omega (arith, b .low-is)
 
-  pub entries-small : supEntriesAt sh < 2 ^ 32
-  entries-small = omega (arith, entries-at, base-in b, low-small b)
-
   abbrev a : ℕ
   a = firstAt sh (sh .rank - 1)
 
@@ -260,12 +257,9 @@ module _ (sh : Shape) (ws : List ℕ) (l : Laid sh ws) (f : ℕ) (asked : (2 ≤
     pub lists-fit : (i + 1 < length ws) × (j + 1 < length ws)
     lists-fit = (omega (arith, first-is, facet-low, heads-fit, base-fits), omega (arith, ej, facet-low, heads-fit, base-fits))
 
-    module _ (ws₁ : List ℕ) (swapped₁ : ws₁ ≡ swappedLists ws i j) (x : ℕ) (ex : x ≡ supEntriesAt sh) where
+    module _ (ws₁ : List ℕ) (swapped₁ : ws₁ ≡ swappedLists ws i j) where
       e₁ : ws₁ ≡ swappedLists ws (4 * a) (4 * (a + f))
       e₁ = rw (first-is, ej) at swapped₁
-
-      base-is : x ≡ base
-      base-is = ex ∙ entries-at
 
       len₁ : length ws₁ ≡ length ws
       len₁ = rw e₁ (lists-length ws a (a + f))
@@ -285,30 +279,25 @@ module _ (sh : Shape) (ws : List ℕ) (l : Laid sh ws) (f : ℕ) (asked : (2 ≤
           let p : length (pairs sh (absIn sh (take base ws₁))) ≡ length (pairs sh whole) = rw low₁ (pairs-same sh v (b .stored) diamonds (asked .0) f (asked .1) ∙ ap (λ (t : Solid). length (pairs sh t)) alone) in
           omega (arith, base-pairs b)
 
-      pub derive-call : Stored sh (take x ws₁) × ((x + length (pairs sh (absIn sh (take x ws₁))) ≤ length ws₁)
-          × (x + length (pairs sh (absIn sh (take x ws₁))) < 2 ^ 32))
-      derive-call = rw base-is (stored₁, (omega (arith, low-is, b .words-in, len₁), omega (arith, low-is, low-small b)))
+      pub derive-call : Stored sh (subListsOf sh ws₁) × SupsRoom sh ws₁
+      derive-call = (rw entries-at stored₁, record { end = rw entries-at low-is; room = omega (arith, b .words-in, len₁); small = low-small b })
 
       -- The sups are derived.
       module _ (ws₂ : List ℕ) (len₂ : length ws₂ ≡ length ws₁)
-          (h′ : Held sh (take (x + length (pairs sh (absIn sh (take x ws₁)))) ws₂))
-          (s′ : absIn sh (take (x + length (pairs sh (absIn sh (take x ws₁)))) ws₂) ≡ absIn sh (take x ws₁))
-          (st′ : Stored sh (take x ws₂)) (a′ : absIn sh (take x ws₂) ≡ absIn sh (take x ws₁))
-          (p′ : drop (x + length (pairs sh (absIn sh (take x ws₁)))) ws₂ ≡ drop (x + length (pairs sh (absIn sh (take x ws₁)))) ws₁) where
-        held₂ : Held sh (listsOf sh ws₂)
-        held₂ = rw (base-is, low-is) at h′
-
+          (held₂ : Held sh (listsOf sh ws₂)) (s′ : abstractIn sh ws₂ ≡ storedIn sh ws₁)
+          (st′ : Stored sh (subListsOf sh ws₂)) (a′ : storedIn sh ws₂ ≡ storedIn sh ws₁)
+          (p′ : drop (sh .low) ws₂ ≡ drop (sh .low) ws₁) where
         pub solid₂ : absIn sh (listsOf sh ws₂) ≡ exchangedIn whole f
-        solid₂ = (rw (base-is, low-is) at s′) ∙ solid₁
+        solid₂ = (rw entries-at at s′) ∙ solid₁
 
         stored₂ : Stored sh (take base ws₂)
-        stored₂ = rw base-is at st′
+        stored₂ = rw entries-at at st′
 
         alone₂ : absIn sh (take base ws₂) ≡ exchangedIn whole f
-        alone₂ = (rw base-is at a′) ∙ solid₁
+        alone₂ = (rw entries-at at a′) ∙ solid₁
 
         pub past₂ : drop (sh .low) ws₂ ≡ drop (sh .low) ws
-        past₂ = (rw (base-is, low-is) at p′) ∙ rw e₁ (lists-drop ws a (a + f) (sh .low) (omega (arith, facet-low, heads-fit, base-in b)) (omega (arith, facet-low, heads-fit, base-in b)))
+        past₂ = p′ ∙ rw e₁ (lists-drop ws a (a + f) (sh .low) (omega (arith, facet-low, heads-fit, base-in b)) (omega (arith, facet-low, heads-fit, base-in b)))
 
         tests : ExchangeKept whole (exchangedIn whole f)
         tests = rw alone at (kept sh v (b .stored) diamonds (asked .0) f (asked .1))

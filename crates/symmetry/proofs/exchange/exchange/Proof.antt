@@ -6,7 +6,7 @@ use Prim.Native.Nat.{ℕ}
 use Rattle.spec.specs.Search.{exchangedIn}
 use Rattle.laws.proofs.Exchange.{exchange-none}
 use Rattle.ranked.specs.Words.{listsOf, absIn}
-use Rattle.symmetry.proofs.exchange.Exchanged.{tall, entries-small, facet-fits, lists-fit, derive-call, solid₂, laid₂, past₂}
+use Rattle.symmetry.proofs.exchange.Exchanged.{tall, facet-fits, lists-fit, derive-call, solid₂, laid₂, past₂}
 use Rattle.symmetry.proofs.exchange.exchange.Statement.{statement}
 use Rattle.symmetry.proofs.exchange.exchange.Tie as tie
 
@@ -29,27 +29,24 @@ exchange-spec = tie.close (tie.spec
     let i = j .before .before in
     let s = i .before .before .before .before in
     lists-fit _ (s .args .words .now) (s .pre .0) _ (s .pre .1) _ (i .subs .ensures) _ (j .subs2 .ensures))
-    -- The needs are sup-entries-at-requires and derive-sups-requires.
-    (λ c κs. let s = c .before .before .before .before .before .before .before .before .before .before .before in
-    (tall _ (s .args .words .now) (s .pre .0) _ (s .pre .1), omega (arith, entries-small _ (s .args .words .now) (s .pre .0) _ (s .pre .1))))
-    (λ c κs. let x = c .before .before .before .before in
+    -- The need is derive-sups-requires.
+    (λ c κs. let x = c .before .before .before in
     let j = x .before .before in
     let i = j .before .before in
     let s = i .before .before .before .before in
-    derive-call _ (s .args .words .now) (s .pre .0) _ (s .pre .1) _ (i .subs .ensures) _ (j .subs2 .ensures) _ (x .swap-lists .ensures) _ (c .sup-entries-at .ensures))
+    derive-call _ (s .args .words .now) (s .pre .0) _ (s .pre .1) _ (i .subs .ensures) _ (j .subs2 .ensures) _ (x .swap-lists .ensures))
     -- The needs are same-length and returns-2.
     (λ c. search needs)
     (λ c. let y = c .before .before in
     let e = y .derive-sups .ensures in
     let k = y .derive-sups .kept .0 in
-    let n = y .before in
-    let x = n .before .before .before .before in
+    let x = y .before .before .before .before in
     let j = x .before .before in
     let i = j .before .before in
     let s = i .before .before .before .before in (
-      solid₂ _ (s .args .words .now) (s .pre .0) _ (s .pre .1) _ (i .subs .ensures) _ (j .subs2 .ensures) _ (x .swap-lists .ensures) _ (n .sup-entries-at .ensures) _ k (e .0) (e .1 .0) (e .1 .1 .0) (e .1 .1 .1 .0) (e .1 .1 .1 .1),
+      solid₂ _ (s .args .words .now) (s .pre .0) _ (s .pre .1) _ (i .subs .ensures) _ (j .subs2 .ensures) _ (x .swap-lists .ensures) _ k (e .0) (e .1 .0) (e .1 .1 .0) (e .1 .1 .1 .0) (e .1 .1 .1 .1),
       (
-        laid₂ _ (s .args .words .now) (s .pre .0) _ (s .pre .1) _ (i .subs .ensures) _ (j .subs2 .ensures) _ (x .swap-lists .ensures) _ (n .sup-entries-at .ensures) _ k (e .0) (e .1 .0) (e .1 .1 .0) (e .1 .1 .1 .0) (e .1 .1 .1 .1),
-        past₂ _ (s .args .words .now) (s .pre .0) _ (s .pre .1) _ (i .subs .ensures) _ (j .subs2 .ensures) _ (x .swap-lists .ensures) _ (n .sup-entries-at .ensures) _ k (e .0) (e .1 .0) (e .1 .1 .0) (e .1 .1 .1 .0) (e .1 .1 .1 .1),
+        laid₂ _ (s .args .words .now) (s .pre .0) _ (s .pre .1) _ (i .subs .ensures) _ (j .subs2 .ensures) _ (x .swap-lists .ensures) _ k (e .0) (e .1 .0) (e .1 .1 .0) (e .1 .1 .1 .0) (e .1 .1 .1 .1),
+        past₂ _ (s .args .words .now) (s .pre .0) _ (s .pre .1) _ (i .subs .ensures) _ (j .subs2 .ensures) _ (x .swap-lists .ensures) _ k (e .0) (e .1 .0) (e .1 .1 .0) (e .1 .1 .1 .0) (e .1 .1 .1 .1),
       ),
     )))
