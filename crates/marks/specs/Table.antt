@@ -1,7 +1,7 @@
 -- This file has the numbers that the table of confirmed rows goes by, each of which stands once more in src/products.rt for the program. They decide
 -- how often a factor is found, and nothing else.
 -- Assumes nothing.
-use Prim.Native.Nat.{ℕ, _^_, _<_}
+use Prim.Native.Nat.{ℕ, _<_}
 use Rattle.points.specs.declared.Found.{Found}
 use Rattle.points.specs.declared.Found.the-variants.{At, Nothing}
 
@@ -20,10 +20,6 @@ firstEntries = 8
 -- There are this many slots, each but the first with room for one generator.
 abbrev pub slots : ℕ
 slots = 16
-
--- Numbers that entries are mixed into stay below this, so that no product wraps.
-abbrev pub mixedLimit : ℕ
-mixedLimit = 2 ^ 44
 
 -- A slot that is found is one of them, and nothing is said where none is found.
 abbrev pub SlotFound : Found → Type 0

@@ -3,6 +3,7 @@
 use crate::mark;
 use points::Found;
 use points::lookup::FREE;
+use points::lookup::mixed;
 use points::lookup::store;
 use points::wide;
 use ranked::ELEMENTS;
@@ -21,7 +22,7 @@ ghost use Rattle.ranked.specs.Words.{sizeAt, absIn};
 ghost use Rattle.ranked.specs.Layout.{solidOn};
 ghost use Rattle.marks.specs.Rows.{classesOn};
 ghost use Rattle.marks.specs.Products.{composed};
-ghost use Rattle.marks.specs.Table.{tablePlaces, slots, mixedLimit, SlotFound};
+ghost use Rattle.marks.specs.Table.{tablePlaces, slots, SlotFound};
 ghost use Rattle.marks.specs.Marking.{marksIn, Markable, Factored};
 
 // The table has this many places.
@@ -62,15 +63,6 @@ fn entry(row: &[u16], p: usize) -> u16 {
     0
 }
 
-// Mixes an entry into the number that decides a row's place.
-fn mixed(h: u64, x: u16) -> u64
-    requires { ⌜ h < mixedLimit ⌝ }
-    ensures { λ r. ⌜ r < mixedLimit ⌝ }
-{
-    let t = (h + x as u64) % 0x1_0000_0000;
-    t * 0x9e37_79b1 / 0x10_0000
-}
-
 // Returns the first place for the row whose first entries are those that this row has where slot j says.
 fn place(row: &[u16], cells: &[u16; CELLS], j: usize) -> usize
     requires { ⌜ j < slots ⌝ }
@@ -80,7 +72,7 @@ fn place(row: &[u16], cells: &[u16; CELLS], j: usize) -> usize
     let mut i: usize = 0;
     while i < ENTRIES {
         let p = wide(cells[WIDTH * j + 1 + i]);
-        h = mixed(h, entry(row, p));
+        h = mixed(h, entry(row, p) as u64) / 0x10_0000;
         i += 1;
     }
     (h % PLACES as u64) as usize

@@ -4,7 +4,7 @@ use mathlib.Core.Path.{_≡_}
 use mathlib.Core.Logic.{_⊎_}
 use mathlib.Core.Bool.{Bool, true, false}
 use mathlib.Core.List.{List, [], _∷_}
-use Prim.Native.Nat.{ℕ, _*_, _<_}
+use Prim.Native.Nat.{ℕ, _+_, _*_, _%_, _^_, _<_}
 use lib.ListN.{length, getD, set, take, drop}
 use lib.Ieee.{Float, binary64, ofBits, le}
 use Rattle.spec.specs.Limits.{maxCount}
@@ -43,6 +43,14 @@ tries = 16
 -- This is the number that stands in a free place. No point has it.
 abbrev pub free : ℕ
 free = 65535
+
+-- Mixes x into h, which decides how often a guess is right and nothing else.
+abbrev pub mixed : ℕ → ℕ → ℕ
+mixed h x = (h + x) % 2 ^ 32 * 0x9e37_79b1
+
+-- Numbers that are mixed stay below this, so that no sum of two wraps.
+abbrev pub mixedLimit : ℕ
+mixedLimit = 2 ^ 44
 
 -- One place at most has changed, and it has the number k.
 abbrev pub PlaceFilled : ℕ → List ℕ → List ℕ → Type 0

@@ -12,7 +12,7 @@ ghost use Rattle.spec.specs.Points.{find, rowOf};
 ghost use Rattle.spec.specs.Lists.{parts};
 ghost use Rattle.matrix.specs.Reading.{corner};
 ghost use Rattle.points.specs.Finding.{foundAt};
-ghost use Rattle.points.specs.Guesses.{places, free, wideF, within, Lone, Clear, PlaceFilled, Guesses, Guessed};
+ghost use Rattle.points.specs.Guesses.{places, free, mixed, mixedLimit, wideF, within, Lone, Clear, PlaceFilled, Guesses, Guessed};
 ghost use Rattle.points.specs.Cells.{Tabled};
 use crate::Found;
 use crate::find;
@@ -37,6 +37,15 @@ const WIDE: f64 = 0.0000002384185791015625;
 // This is added to a coordinate, so that a zero and the values that rounding turns it into have one exponent.
 const SHIFT: f64 = 3.1415926;
 
+// Mixes x into the number h that a place of a table is taken from. The lowest bits of the result say little of either, and each table drops as many
+// of them as suits it.
+pub fn mixed(h: u64, x: u64) -> u64
+    requires { ⌜ (h < mixedLimit) × (x < mixedLimit) ⌝ }
+    ensures { λ r. ⌜ r ≡ mixed h x ⌝ }
+{
+    (h + x) % 0x1_0000_0000 * 0x9e37_79b1
+}
+
 // Returns the first place for a point. Rounding errors change the low bits of a coordinate, so these are dropped, after an offset has been added that
 // keeps the usual coordinates far from the values at which a higher bit changes.
 fn place(q: [f64; DIMENSION], d: usize) -> usize
@@ -47,8 +56,7 @@ fn place(q: [f64; DIMENSION], d: usize) -> usize
     let mut i: usize = 0;
     while i < d {
         let b = (bits::pattern(q[i] + SHIFT) / 2 + 0x2b_c5a7) / 0x80_0000;
-        let t = (h + b) % 0x1_0000_0000;
-        h = t * 0x9e37_79b1 / 0x1000_0000;
+        h = mixed(h, b) / 0x1000_0000;
         i += 1;
     }
     (h % PLACES as u64) as usize

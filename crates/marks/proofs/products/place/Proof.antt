@@ -1,8 +1,9 @@
--- The loop's invariant is that h is below 2 ^ 44, so that no sum wraps. The measure is what is left of the entries.
+-- The loop's invariant is that h is below the limit for numbers that are mixed. The measure is what is left of the entries.
 -- Assumes nothing.
 use borrow.Author.Needs.{needs}
 use Prim.Native.Nat.{_≤_, _<_, _-_}
-use Rattle.marks.specs.Table.{firstEntries, mixedLimit}
+use Rattle.points.specs.Guesses.{mixedLimit}
+use Rattle.marks.specs.Table.{firstEntries}
 use Rattle.marks.proofs.products.place.Statement.{statement}
 use Rattle.marks.proofs.products.place.Tie as tie
 
@@ -26,6 +27,7 @@ place-spec =
     (λ c. search needs)
     (λ c κs. search needs)
     (λ c κs. search needs)
+    (λ c. search needs)
     (λ c κs. search needs)
     (λ c. search needs)
     (λ c. search needs)
