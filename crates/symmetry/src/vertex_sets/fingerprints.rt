@@ -1,5 +1,6 @@
 // The fingerprint of an element is the sum of the squares of its vertices' numbers; the fingerprints are kept in lent words. Vertex sets with different
 // fingerprints differ, so most sets are told apart without being listed.
+use points::wide;
 use ranked::Shape;
 use ranked::vertices::vertex_list;
 use spec::MAX_COUNT;
@@ -21,7 +22,7 @@ pub fn fingerprint_of(list: &[u16]) -> usize
     let mut p: usize = 0;
     let mut k: usize = 0;
     while k < n {
-        let v = list[k] as usize;
+        let v = wide(list[k]);
         p += v * v;
         k += 1;
     }

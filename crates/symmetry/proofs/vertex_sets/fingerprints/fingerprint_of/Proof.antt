@@ -15,23 +15,24 @@ abbrev μ : tie.MeasureT-loop
 μ list n p₀ k₀ p k = n - k
 
 -- An entry fits 16 bits.
-small : (c : tie.After-shared-slice-known Inv μ) → getD (c .before .before .before .args .list .now) (c .before .before .loop .k) 0 < 2 ^ 16
-small c = omega (arith, c .shared-slice-known .given (c .before .before .loop .k))
+small : (c : tie.After-shared-slice-known2 Inv μ) → getD (c .before .before .before .before .args .list .now) (c .before .before .loop .k) 0 < 2 ^ 16
+small c = omega (arith, c .shared-slice-known2 .given (c .before .before .loop .k))
 
 pub fingerprint-of-spec : {M : Type 1} → statement M
 fingerprint-of-spec =
     tie.close
     (tie.spec Inv μ
-    -- The needs are loop-holds, mul-v, shared-slice-read-v and cast-v.
+    -- The needs are loop-holds, mul-wide, shared-slice-read-wide and wide-requires.
     (λ c. summed-first _)
     (λ c. search needs)
     (λ c. search needs)
-    (λ c. omega (arith, small c))
+    (λ c κs. search needs)
     -- The needs are mul-p and add-p.
-    (λ c. omega (arith, square-fits _ (small c)))
-    (λ c. let l = c .before .before in omega (arith, sum-fits (l .loop .inv) (c .before .loop-test .taken) (l .before .pre) (small c)))
+    (λ c. rw (c .wide .ensures) (omega (arith, square-fits _ (small (c .before)))))
+    (λ c. let i = c .before .before in let l = i .before in
+    rw (c .wide .ensures) (omega (arith, sum-fits (l .loop .inv) (i .loop-test .taken) (l .before .before .pre) (small (c .before)))))
     -- The needs are add-k, loop-less, loop-again and returns.
     (λ c. search needs)
     (λ c. search needs)
-    (λ c. let l = c .before .before in summed-next (l .loop .inv) (c .before .loop-test .taken) (small c))
+    (λ c. let i = c .before .before in rw (c .wide .ensures) (summed-next (i .before .loop .inv) (i .loop-test .taken) (small (c .before))))
     (λ c. summed-end (c .before .loop .inv) (c .loop-test .left)))
