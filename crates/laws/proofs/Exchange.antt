@@ -1,4 +1,5 @@
--- The exchange of facets keeps a solid sound, its numbers of elements, entries and sups, and its diamonds; done twice, or of facet 0, it changes nothing.
+-- The exchange of facets keeps a solid sound, its numbers of elements, entries and sups, and its diamonds; done twice, or of facet 0, or
+-- where R = 2, it changes nothing.
 -- Assumes nothing.
 use mathlib.Core.Path.{_≡_, refl, sym, _∙_, ap, fun-ext}
 use mathlib.Core.Logic.{_≢_, inl, inr}
@@ -13,7 +14,7 @@ use lib.Seq.{getD-set-same, getD-set-other, set-set, set-getD, ext-getD}
 use lib.Dec.{eqb, ltb}
 use Rattle.spec.specs.Lists.{In, holds, range, keep, sum, every}
 use Rattle.spec.specs.Types.{Solid, top, size, subs, sups, properRanks, elements}
-use Rattle.spec.specs.Demand.{Sound}
+use Rattle.spec.specs.Demand.{Rising, Sound}
 use Rattle.spec.specs.Solid.{entries, bound, between, diamond}
 use Rattle.spec.specs.Search.{swapWithFirst, exchangedIn}
 use Rattle.laws.specs.SolidLaws.{swap}
@@ -169,6 +170,38 @@ exchange-none s =
     let n = top s - 1 in
     let l = getD s n [] in
     ap (set s n) (set-set l 0 (getD l 0 []) (getD l 0 []) ∙ set-getD l 0 []) ∙ set-getD s n []
+
+-- Where all lists are one list, nothing changes places.
+swap-alike : (l : List (List ℕ)) (x : List ℕ) → ((e : ℕ) → e < length l → getD l e [] ≡ x) → (f : ℕ) → f < length l → swapWithFirst l f ≡ l
+swap-alike l x same f h =
+    let n = swap-length l f in
+    ext-getD [] (swapWithFirst l f) l n λ e k.
+    let m : e < length l = omega (arith, n, k) in
+    swap-at l f h e ∙ same (swap f e) (swap-low f e (length l) h m) ∙ sym (same e m)
+
+-- A rising list that holds 0 alone has it once.
+zero-once : (l : List ℕ) → 0 < length l → Rising l → ((x : ℕ) → In x l → x < 1) → l ≡ 0 ∷ []
+zero-once [] h a b = absurd (omega arith)
+zero-once (x ∷ []) h a b = let z : x ≡ 0 = omega (arith, b x (inl refl)) in rw z
+zero-once (x ∷ y ∷ l) h a b = absurd (omega (arith, a .0, b y (inr (inl refl))))
+
+-- For R = 2 the facets are the vertices. The least element is the only sub of each, so no facet's list differs from another's, and nothing changes.
+pub exchange-vertices : (s : Solid) → Sound s → ((r e : ℕ) → e < size s (suc r) → 0 < length (subs s (suc r) e)) → top s ≡ 2 → (f : ℕ)
+    → f < size s (top s - 1) → exchangedIn s f ≡ s
+unfolding exchangedIn subs
+exchange-vertices s v full t f low =
+    ap (set s (top s - 1)) (swap-alike (getD s (top s - 1) []) (0 ∷ []) alike f low) ∙ set-getD s (top s - 1) []
+  where
+    facets : top s - 1 ≡ 1
+    facets = omega arith
+
+    one : size s 0 ≡ 1
+    one = ap length (v .least)
+
+    alike : (e : ℕ) → e < size s (top s - 1) → getD (getD s (top s - 1) []) e [] ≡ 0 ∷ []
+    alike e h =
+        ap (λ (r : ℕ). subs s r e) facets
+        ∙ zero-once (subs s 1 e) (full 0 e (rw facets at h)) (v .rising 1 e) (λ x m. omega (arith, one, v .below 0 e x m))
 
 module _ (s : Solid) (tall : 2 ≤ top s) (f : ℕ) (low : f < size s (top s - 1)) where
   abbrev t : Solid

@@ -12,12 +12,12 @@ use Rattle.spec.specs.Classes.{distances}
 use Rattle.spec.specs.Solid.{Concrete}
 use Rattle.spec.specs.Search.{exchangedIn, exchanged}
 use Rattle.laws.proofs.Lists.{map-same, of-range}
-use Rattle.laws.proofs.Exchange.{exchange-twice, exchange-none}
+use Rattle.laws.proofs.Exchange.{exchange-twice, exchange-none, exchange-vertices}
 use Rattle.ranked.specs.declared.Shape.{Shape}
 use Rattle.ranked.specs.Words.{sizeAt, listsOf, absIn}
 use Rattle.ranked.specs.Layout.{typesAt, scratchAt, fingerprintsAt, coordinates, solidIn, classesIn}
 use Rattle.preflight.specs.Bench.{Bench, Laid}
-use Rattle.ranked.proofs.Solids.{in-order, coordinates-are}
+use Rattle.ranked.proofs.Solids.{top-is, in-order, coordinates-are}
 use Rattle.preflight.proofs.Benches.{points-in, rows-in, bench-kept}
 use Rattle.geometry.specs.Listed.{Classed}
 use Rattle.geometry.proofs.elements.Room.{roomy-floats}
@@ -40,10 +40,20 @@ exchanged-back sh ws fs f t h =
     let c = solidIn sh ws fs in
     ap {B = Concrete} (λ s. record { dimension = c .dimension; points = c .points; abs = s }) (exchange-twice (c .abs) f (rw (facets-are sh (listsOf sh ws) t) h))
 
--- Where the first facet is exchanged with itself, the solid that was read is searched.
-pub exchanged-none : (c : Concrete) (f : ℕ) → f ≡ 0 → c ≡ exchanged c f
+-- Where the first facet is exchanged with itself, or the facets are vertices, the solid that was read is searched.
+abstract-kept : (c : Concrete) (f : ℕ) → exchangedIn (c .abs) f ≡ c .abs → c ≡ exchanged c f
 unfolding exchanged
-exchanged-none c f e = rw e (ap {B = Concrete} (λ s. record { dimension = c .dimension; points = c .points; abs = s }) (sym (exchange-none (c .abs))))
+abstract-kept c f e = ap {B = Concrete} (λ s. record { dimension = c .dimension; points = c .points; abs = s }) (sym e)
+
+pub exchanged-none : (c : Concrete) (f : ℕ) → f ≡ 0 → c ≡ exchanged c f
+exchanged-none c f e = abstract-kept c f (rw e (exchange-none (c .abs)))
+
+pub exchanged-vertices : {sh : Shape} {ws : List ℕ} {fs : List Float} → Bench sh ws fs → (f : ℕ) → (2 ≤ sh .rank) × (f < sizeAt sh (sh .rank - 1))
+    → sh .rank ≡ 2 → solidIn sh ws fs ≡ exchanged (solidIn sh ws fs) f
+exchanged-vertices {sh} {ws} {fs} b f asked two =
+    let w = listsOf sh ws in
+    abstract-kept (solidIn sh ws fs) f
+    (exchange-vertices (absIn sh w) (b .held .sound) (b .held .filled) (top-is sh w ∙ two) f (rw (facets-are sh w (asked .0)) (asked .1)))
 
 -- ---- the classes
 

@@ -16,14 +16,14 @@ ghost use Rattle.marks.specs.Marking.{marksIn};
 ghost use Rattle.search.specs.Marking.{MarksReady};
 
 // Lets facet f and facet 0, which changed places for the search, go back, and works out the distance classes and the fingerprints of the solid as
-// read. Where f is 0 the solid as read was searched, and both are there already.
+// read. Where f is 0, or R = 2, the exchange changed nothing: the solid as read was searched, and both are there already.
 fn restore(words: &mut [u32], sh: Shape, f: usize, floats: &mut [f64])
     requires { ⌜ MarksReady sh (now words) (now floats) ⌝ }
     requires { ⌜ (2 ≤ sh .rank) × (f < sizeAt sh (sh .rank - 1)) ⌝ }
     ensures { λ _. ⌜ MarksReady sh (now (words .exit)) (now (floats .exit)) ⌝ }
     ensures { λ _. ⌜ solidIn sh (now (words .exit)) (now (floats .exit)) ≡ exchanged (solidIn sh (now (words .entry)) (now (floats .entry))) f ⌝ }
 {
-    if f == 0 {
+    if f == 0 || sh.rank == 2 {
         return;
     }
     exchange(words, sh, f);

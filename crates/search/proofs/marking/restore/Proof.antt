@@ -1,15 +1,17 @@
--- Where facet 0 was searched from, nothing is to do; else the facets go back, and the classes and the fingerprints are worked out.
+-- Where facet 0 was searched from, or R = 2, nothing is to do; else the facets go back, and the classes and the fingerprints are worked out.
 -- Assumes nothing.
 use borrow.Author.Needs.{needs}
+use borrow.Author.Tests.{eqb-true}
+use mathlib.Core.Logic.{⊎-elim}
 use Rattle.preflight.specs.Bench.{Bench}
 use Rattle.preflight.proofs.Benches.{laid}
 use Rattle.geometry.proofs.elements.Room.{roomy-floats}
-use Rattle.search.proofs.Benched.{exchanged-none, fingerprints-in, back-bench, restored}
+use Rattle.search.proofs.Benched.{exchanged-none, exchanged-vertices, fingerprints-in, back-bench, restored}
 use Rattle.search.proofs.marking.restore.Statement.{statement}
 use Rattle.search.proofs.marking.restore.Tie as tie
 
 entry : (c : tie.After-exchange) → tie.Start
-entry c = c .before .before .before .before .before
+entry c = c .before .before .before .before .before .before .before
 
 -- After the exchange the solid as read lies in the workspace.
 back : (c : tie.After-exchange) → Bench (entry c .args .sh) (c .exchange .last .0) (entry c .args .floats .now)
@@ -22,8 +24,9 @@ restore-spec =
     tie.close
     (tie.spec
     -- The needs are returns and exchange-requires.
-    (λ c. let s = c .before .before .before in (s .pre .0, exchanged-none _ _ (c .if1 .taken)))
-    (λ c κs. let s = c .before .before .before .before in (laid (s .pre .0 .bench), s .pre .1))
+    (λ c. let s = c .before .before .before in
+    (s .pre .0, ⊎-elim (λ k. exchanged-none _ _ (k .taken)) (λ k. exchanged-vertices (s .pre .0 .bench) _ (s .pre .1) (eqb-true _ _ (k .2 .taken))) (c .if1 .came)))
+    (λ c κs. let s = c .before .before .before .before .before .before in (laid (s .pre .0 .bench), s .pre .1))
     -- The needs are lists-requires and all-classes-requires.
     (λ c κs. back (c .before .before .before) .words-in)
     (λ c κs. let l = c .before in
