@@ -15,7 +15,7 @@ use Rattle.spec.specs.Solid.{entries, floatsFor}
 use Rattle.ranked.specs.declared.Shape.{Shape}
 use Rattle.ranked.specs.Words.{total, listsOf, absIn, Held}
 use Rattle.preflight.specs.Derive.{pairs}
-use Rattle.ranked.specs.Layout.{subEntries, lowOf, baseOf}
+use Rattle.ranked.specs.Layout.{subEntries, lowOf, supEntriesAt, subListsOf}
 use Rattle.preflight.specs.Bench.{Bench, Laid}
 use Rattle.ranked.proofs.Low.{entries-0, entries-1, sub-entries-is}
 use Rattle.ranked.proofs.Solids.{size-is}
@@ -51,17 +51,14 @@ module _ {sh : Shape} {ws : List ℕ} {fs : List Float} (b : Bench sh ws fs) whe
   abbrev bench-solid : Solid
   bench-solid = absIn sh (listsOf sh ws)
 
-  abbrev base : ℕ
-  base = baseOf sh (entries bench-solid)
-
-  pub base-in : base ≤ sh .low
-  unfolding baseOf lowOf
-  base-in = omega (arith, b .low-is)
+  pub sups-in : supEntriesAt sh ≤ sh .low
+  unfolding lowOf
+  sups-in = omega (arith, b .low-is)
 
   -- All subs stand there, and as many sups after them.
-  pub base-pairs : base + length (pairs sh bench-solid) ≡ sh .low
-  unfolding baseOf lowOf
-  base-pairs = omega (arith, b .low-is, pairs-are sh (listsOf sh ws) (b .held .sound) (b .held .filled))
+  pub sups-end : supEntriesAt sh + length (pairs sh bench-solid) ≡ sh .low
+  unfolding lowOf
+  sups-end = omega (arith, b .low-is, pairs-are sh (listsOf sh ws) (b .held .sound) (b .held .filled))
 
   -- The coordinates lie in the floats.
   pub points-in : size bench-solid 1 * sh .dimension ≤ length fs
@@ -84,10 +81,10 @@ module _ {sh : Shape} {ws : List ℕ} {fs : List Float} (b : Bench sh ws fs) whe
   elements-few = b .stored .small
 
   pub low-small : sh .low < 2 ^ 32
-  unfolding baseOf
+  unfolding lowOf
   low-small =
       let p : length (pairs sh bench-solid) < 2 ^ 30 = rw (b .subs-alone) at (b .stored .entries) in
-      omega (arith, base-pairs, pairs-are sh (listsOf sh ws) (b .held .sound) (b .held .filled), elements-few)
+      omega (arith, b .low-is, pairs-are sh (listsOf sh ws) (b .held .sound) (b .held .filled), elements-few)
 
 -- The bench stays, whatever else changes.
 pub bench-kept : {sh : Shape} {ws vs : List ℕ} {fs gs : List Float} → Bench sh ws fs → listsOf sh vs ≡ listsOf sh ws → length vs ≡ length ws
@@ -96,7 +93,7 @@ bench-kept {sh} {ws} {vs} {fs} {gs} b e l m = record {
   held = rw e (b .held);
   low-is = rw e (b .low-is);
   words-in = rw l (b .words-in);
-  stored = rw (e, same) (b .stored);
+  stored = rw same (b .stored);
   subs-alone = rw (e, same) (b .subs-alone);
   joined = rw e (b .joined);
   diamonds = rw e (b .diamonds);
@@ -104,10 +101,10 @@ bench-kept {sh} {ws} {vs} {fs} {gs} b e l m = record {
   floats = rw (e, m) (b .floats);
 }
   where
-    same : take (baseOf sh (entries (absIn sh (listsOf sh ws)))) vs ≡ take (baseOf sh (entries (absIn sh (listsOf sh ws)))) ws
+    same : subListsOf sh vs ≡ subListsOf sh ws
     same =
-        let n = baseOf sh (entries (absIn sh (listsOf sh ws))) in
-        sym (take-take n (sh .low) vs (base-in b)) ∙ ap (take n) e ∙ take-take n (sh .low) ws (base-in b)
+        let n = supEntriesAt sh in
+        sym (take-take n (sh .low) vs (sups-in b)) ∙ ap (take n) e ∙ take-take n (sh .low) ws (sups-in b)
 
 -- ---- the words' part
 

@@ -190,7 +190,7 @@ module _ (b : List ℕ) (n m : ℕ) (r : Ready) (ws : List ℕ) (fs : List Float
             held = k .held;
             low-is = rw here (k .low);
             words-in = k .words-in;
-            stored = rw here (k .stored);
+            stored = k .stored;
             subs-alone = rw here (k .subs-alone);
             joined = rw here (v .joined);
             diamonds = rw here (v .diamonds);

@@ -5,14 +5,14 @@ use mathlib.Core.Path.{_≡_}
 use Prim.Native.Nat.{ℕ, _≤_}
 use mathlib.Core.Bool.{true}
 use mathlib.Core.List.{List}
-use lib.ListN.{length, take}
+use lib.ListN.{length}
 use lib.Ieee.{Float}
 use Rattle.spec.specs.Types.{elements}
 use Rattle.spec.specs.Solid.{entries, bound, diamond, wordsFor, floatsFor}
 use Rattle.ranked.specs.declared.Shape.{Shape}
 use Rattle.ranked.specs.Words.{listsOf, absIn, Held}
-use Rattle.preflight.specs.Derive.{Stored}
-use Rattle.ranked.specs.Layout.{lowOf, baseOf, abstractIn}
+use Rattle.preflight.specs.Derive.{Stored, storedIn}
+use Rattle.ranked.specs.Layout.{lowOf, subListsOf, abstractIn}
 
 -- The solid lies in the words and floats, and the workspace has the room that was asked for.
 pub record Bench (sh : Shape) (ws : List ℕ) (fs : List Float) : Type 0 where
@@ -20,8 +20,8 @@ pub record Bench (sh : Shape) (ws : List ℕ) (fs : List Float) : Type 0 where
   pub low-is : sh .low ≡ lowOf sh (entries (abstractIn sh ws))
   pub words-in : sh .low ≤ length ws
   -- The subs stand by themselves below the sups' entries, so that sups can be derived anew.
-  pub stored : Stored sh (take (baseOf sh (entries (abstractIn sh ws))) ws)
-  pub subs-alone : absIn sh (take (baseOf sh (entries (abstractIn sh ws))) ws) ≡ abstractIn sh ws
+  pub stored : Stored sh (subListsOf sh ws)
+  pub subs-alone : storedIn sh ws ≡ abstractIn sh ws
   -- Neither 5 nor 6 applies to the solid.
   pub joined : bound (abstractIn sh ws) ≡ true
   pub diamonds : diamond (abstractIn sh ws) ≡ true

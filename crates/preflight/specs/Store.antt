@@ -14,9 +14,9 @@ use Rattle.spec.specs.Sheet.{Parsed, readSheet}
 use Rattle.spec.specs.Solid.{solidOf, entries, Concrete}
 use Rattle.ranked.specs.declared.Shape.{Shape}
 use Rattle.ranked.specs.Words.{firstAt, sizeAt, total, listsOf, listAt, absIn, Held}
-use Rattle.ranked.specs.Layout.{lowOf, baseOf}
+use Rattle.ranked.specs.Layout.{lowOf, subListsOf}
 use Rattle.ranked.specs.Shapes.{shapeOf}
-use Rattle.preflight.specs.Derive.{Stored}
+use Rattle.preflight.specs.Derive.{Stored, storedIn}
 
 -- ---- fields
 
@@ -124,6 +124,6 @@ pub record StoredSheet (p : Parsed) (sh : Shape) (ws : List ℕ) (fs : List Floa
   pub held : Held sh (listsOf sh ws)
   pub solid : absIn sh (listsOf sh ws) ≡ solidOf p
   -- The subs stand by themselves below the sups' entries.
-  pub stored : Stored sh (take (baseOf sh (entries (solidOf p))) ws)
-  pub subs-alone : absIn sh (take (baseOf sh (entries (solidOf p))) ws) ≡ solidOf p
+  pub stored : Stored sh (subListsOf sh ws)
+  pub subs-alone : storedIn sh ws ≡ solidOf p
   pub points : take (size (solidOf p) 1 * p .dimension) fs ≡ join (p .points)

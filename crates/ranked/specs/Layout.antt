@@ -34,11 +34,6 @@ subEntriesAt sh = 4 * total sh
 unfoldable pub lowOf : Shape → ℕ → ℕ
 lowOf sh I = subEntriesAt sh + 2 * subEntries sh I
 
--- Gives the word from which on the sups' entries stand, after those of the subs. It goes by the sheet's entries and serves where `low` is not known yet;
--- supEntriesAt gives the same word by `low`.
-unfoldable pub baseOf : Shape → ℕ → ℕ
-baseOf sh I = subEntriesAt sh + subEntries sh I
-
 -- Gives the shape with the number of its words, where the sheet's lists have I entries.
 unfoldable pub sized : Shape → ℕ → Shape
 sized sh I = record { rank = sh .rank; dimension = sh .dimension; first = sh .first; low = lowOf sh I }

@@ -22,14 +22,14 @@ use Rattle.laws.specs.Passed.{ExchangeKept}
 use Rattle.laws.proofs.Exchange.{swap-low, size-same, subs-n, subs-other, elements-same, entries-same, bound-same, every-exchange}
 use Rattle.ranked.specs.declared.Shape.{Shape}
 use Rattle.ranked.specs.Words.{firstAt, sizeAt, total, listsOf, listAt, subsIn, absIn, Held}
-use Rattle.ranked.specs.Layout.{supEntriesAt, subListsOf, abstractIn, solidIn, subEntries, lowOf, baseOf}
+use Rattle.ranked.specs.Layout.{supEntriesAt, subListsOf, abstractIn, solidIn, subEntries, lowOf}
 use Rattle.preflight.specs.Derive.{pairs, Stored, storedIn, SupsRoom}
 use Rattle.preflight.specs.Bench.{Bench, Laid}
 use Rattle.ranked.proofs.Solids.{top-is, size-is, subs-is}
 use Rattle.preflight.proofs.store.Places.{first-le}
 use Rattle.preflight.proofs.store.Derived.{stored-on}
 use Rattle.preflight.proofs.Entries.{pairs-are}
-use Rattle.preflight.proofs.Benches.{base-in, base-pairs, low-small, some-bench}
+use Rattle.preflight.proofs.Benches.{sups-in, sups-end, low-small, some-bench}
 use Rattle.symmetry.specs.Swapping.{swappedLists}
 use Rattle.symmetry.proofs.exchange.Swaps.{CameFrom, lists-length, stays, comes-first, comes-second, lists-drop, lists-take}
 
@@ -213,7 +213,7 @@ module _ (sh : Shape) (ws : List ℕ) (l : Laid sh ws) (f : ℕ) (asked : (2 ≤
   whole = absIn sh (listsOf sh ws)
 
   abbrev base : ℕ
-  base = baseOf sh (entries whole)
+  base = supEntriesAt sh
 
   abbrev v : List ℕ
   v = take base ws
@@ -230,15 +230,11 @@ module _ (sh : Shape) (ws : List ℕ) (l : Laid sh ws) (f : ℕ) (asked : (2 ≤
   tall = b .held .tall
 
   base-fits : base ≤ length ws
-  base-fits = omega (arith, base-in b, b .words-in)
+  base-fits = omega (arith, sups-in b, b .words-in)
 
   heads-fit : 4 * total sh ≤ base
-  unfolding baseOf
-  heads-fit = omega arith
-
-  entries-at : supEntriesAt sh ≡ base
-  unfolding baseOf lowOf
-  entries-at = omega (arith, b .low-is)
+  unfolding lowOf
+  heads-fit = omega (arith, b .low-is)
 
   abbrev a : ℕ
   a = firstAt sh (sh .rank - 1)
@@ -277,27 +273,24 @@ module _ (sh : Shape) (ws : List ℕ) (l : Laid sh ws) (f : ℕ) (asked : (2 ≤
       low-is : base + length (pairs sh (absIn sh (take base ws₁))) ≡ sh .low
       low-is =
           let p : length (pairs sh (absIn sh (take base ws₁))) ≡ length (pairs sh whole) = rw low₁ (pairs-same sh v (b .stored) diamonds (asked .0) f (asked .1) ∙ ap (λ (t : Solid). length (pairs sh t)) alone) in
-          omega (arith, base-pairs b)
+          omega (arith, sups-end b)
 
       pub derive-call : Stored sh (subListsOf sh ws₁) × SupsRoom sh ws₁
-      derive-call = (rw entries-at stored₁, record { end = rw entries-at low-is; room = omega (arith, b .words-in, len₁); small = low-small b })
+      derive-call = (stored₁, record { end = low-is; room = omega (arith, b .words-in, len₁); small = low-small b })
 
       -- The sups are derived.
       module _ (ws₂ : List ℕ) (len₂ : length ws₂ ≡ length ws₁)
           (held₂ : Held sh (listsOf sh ws₂)) (s′ : abstractIn sh ws₂ ≡ storedIn sh ws₁)
-          (st′ : Stored sh (subListsOf sh ws₂)) (a′ : storedIn sh ws₂ ≡ storedIn sh ws₁)
+          (stored₂ : Stored sh (subListsOf sh ws₂)) (a′ : storedIn sh ws₂ ≡ storedIn sh ws₁)
           (p′ : drop (sh .low) ws₂ ≡ drop (sh .low) ws₁) where
         pub solid₂ : absIn sh (listsOf sh ws₂) ≡ exchangedIn whole f
-        solid₂ = (rw entries-at at s′) ∙ solid₁
-
-        stored₂ : Stored sh (take base ws₂)
-        stored₂ = rw entries-at at st′
+        solid₂ = s′ ∙ solid₁
 
         alone₂ : absIn sh (take base ws₂) ≡ exchangedIn whole f
-        alone₂ = (rw entries-at at a′) ∙ solid₁
+        alone₂ = a′ ∙ solid₁
 
         pub past₂ : drop (sh .low) ws₂ ≡ drop (sh .low) ws
-        past₂ = p′ ∙ rw e₁ (lists-drop ws a (a + f) (sh .low) (omega (arith, facet-low, heads-fit, base-in b)) (omega (arith, facet-low, heads-fit, base-in b)))
+        past₂ = p′ ∙ rw e₁ (lists-drop ws a (a + f) (sh .low) (omega (arith, facet-low, heads-fit, sups-in b)) (omega (arith, facet-low, heads-fit, sups-in b)))
 
         tests : ExchangeKept whole (exchangedIn whole f)
         tests = rw alone at (kept sh v (b .stored) diamonds (asked .0) f (asked .1))
@@ -316,8 +309,8 @@ module _ (sh : Shape) (ws : List ℕ) (l : Laid sh ws) (f : ℕ) (asked : (2 ≤
           held = held₂;
           low-is = rw (solid₂, entries₂) (b .low-is);
           words-in = omega (arith, len₂, len₁, b .words-in);
-          stored = rw (solid₂, entries₂) stored₂;
-          subs-alone = rw (solid₂, entries₂) alone₂;
+          stored = stored₂;
+          subs-alone = rw solid₂ alone₂;
           joined = rw (solid₂, bound₂) (b .joined);
           diamonds = rw solid₂ (tests .diamonds);
           words = rw (solid₂, entries₂, elements₂, len₂, len₁) (b .words);
