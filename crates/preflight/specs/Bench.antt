@@ -10,7 +10,7 @@ use lib.Ieee.{Float}
 use Rattle.spec.specs.Types.{elements}
 use Rattle.spec.specs.Solid.{entries, bound, diamond, wordsFor, floatsFor}
 use Rattle.ranked.specs.declared.Shape.{Shape}
-use Rattle.ranked.specs.Words.{listsOf, absIn, Held}
+use Rattle.ranked.specs.Words.{listsOf, Held}
 use Rattle.preflight.specs.Derive.{Stored, storedIn}
 use Rattle.ranked.specs.Layout.{lowOf, subListsOf, abstractIn}
 

@@ -38,8 +38,8 @@ lowOf sh I = subEntriesAt sh + 2 * subEntries sh I
 unfoldable pub sized : Shape → ℕ → Shape
 sized sh I = record { rank = sh .rank; dimension = sh .dimension; first = sh .first; low = lowOf sh I }
 
--- Gives the word from which on the sups' entries stand: low = 4 n + 2 s for n elements that have s subs together, and as many sups. It goes by
--- `low` and serves the code, which keeps the shape and not the number of the sheet's entries; baseOf gives the same word by that number.
+-- Gives the word from which on the sups' entries stand: low = 4 n + 2 s for n elements that have s subs together, and as many sups. It goes by `low`,
+-- since the shape does not keep the number of the sheet's entries.
 abbrev pub supEntriesAt : Shape → ℕ
 supEntriesAt sh = 2 * total sh + sh .low / 2
 
