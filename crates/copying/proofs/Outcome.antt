@@ -23,7 +23,7 @@ use Rattle.spec.specs.Copying.{copies, matrices, copyTable, judgeCopy, copyOut,
 use Rattle.laws.proofs.CopyLaws.{table-length}
 use Rattle.points.proofs.Parts.{length-parts}
 use Rattle.copying.proofs.Tables.{filled-is}
-use Rattle.points.specs.Cells.{Complete, Opened}
+use Rattle.points.specs.Cells.{AllFound, SomeMissing}
 use Rattle.copying.specs.Post.{Fitting, Overfull}
 
 module _ (n : ℕ) (ms : List Matrix) (cs : List Vector) (points : List Float) (table : List ℕ) where
@@ -82,14 +82,14 @@ module _ (n : ℕ) (ms : List Matrix) (cs : List Vector) (points : List Float) (
       room : (leb (length cs) n && leb cells (length table)) ≡ true
       room = rw (within, le-leb cells (length table) (omega (arith, h, size)))
 
-      pub answer-done : {t : List ℕ} → Complete m (copyTable ms cs) table t → (Done m, after, t) ≡ copyOut n ms cs points table
+      pub answer-done : {t : List ℕ} → AllFound m (copyTable ms cs) table t → (Done m, after, t) ≡ copyOut n ms cs points table
       answer-done {t} c =
           ap (λ (a : ℕ). (Done a, after, t)) (sym count)
           ∙ ap₂ (λ (a : List Float) (b : List ℕ). (Done (length cs), a, b)) points-are (c .is)
           ∙ done room (ap (λ (a : ℕ). holds eqb a (copyTable ms cs)) count ∙ c .none)
 
       -- The table is filled over whatever of it was written.
-      pub answer-open : {t : List ℕ} → Opened m (copyTable ms cs) table t → (Refused Open m, after, written (replicate (length ms * m) noImage) t) ≡ copyOut n ms cs points table
+      pub answer-open : {t : List ℕ} → SomeMissing m (copyTable ms cs) table t → (Refused Open m, after, written (replicate (length ms * m) noImage) t) ≡ copyOut n ms cs points table
       answer-open {t} o =
           ap (λ (a : ℕ). (Refused Open a, after, written (replicate (length ms * m) noImage) t)) kept-count
           ∙ ap₂ (λ (a : List Float) (b : List ℕ). (Refused Open (length (take n cs)), a, b)) points-are filled

@@ -1,6 +1,6 @@
 -- The table as its rows make it up, and a row back from the call that wrote it.
 -- Assumes nothing.
-use mathlib.Core.Path.{_≡_, refl, sym, ap, _∙_}
+use mathlib.Core.Path.{_≡_, sym, ap, _∙_}
 use mathlib.Core.List.{List, [], _∷_, _++_, map}
 use Prim.Native.Nat.{ℕ, zero, suc, _+_, _-_, _*_, _≤_, _<_}
 use native.Mathlib.Nat.{zero-mul, suc-mul, add-comm}
@@ -14,7 +14,7 @@ use Rattle.spec.specs.Points.{rowOf}
 use Rattle.spec.specs.Copying.{copyTable}
 use Rattle.laws.proofs.Lists.{getD-map}
 use Rattle.laws.proofs.CopyLaws.{Wide, wide-join}
-use Rattle.points.specs.Cells.{Complete, Opened}
+use Rattle.points.specs.Cells.{AllFound, SomeMissing}
 use Rattle.points.proofs.Parts.{part-end}
 use Rattle.points.proofs.Tails.{tail-is, tail-back, tail-written}
 use Rattle.points.proofs.Filled.{Piece, length-row}
@@ -54,10 +54,10 @@ module _ (cs : List Vector) where
 -- ---- a row, back from a call on the part from cell k to the end
 
 module _ (l ys : List ℕ) (k : ℕ) (h : k ≤ length l) (w : ℕ) {x : ℕ} {new : List ℕ} (n : length new ≡ w) where
-  pub closed-back : Complete x new (midOf k (length l - k) l) ys → putMid k (length l - k) l ys ≡ take k l ++ (new ++ drop w (drop k l))
+  pub closed-back : AllFound x new (midOf k (length l - k) l) ys → putMid k (length l - k) l ys ≡ take k l ++ (new ++ drop w (drop k l))
   closed-back c = tail-written l ys k h w new n (c .is)
 
-  pub opened-back : Opened x new (midOf k (length l - k) l) ys → drop (k + w) (putMid k (length l - k) l ys) ≡ drop (k + w) l
+  pub opened-back : SomeMissing x new (midOf k (length l - k) l) ys → drop (k + w) (putMid k (length l - k) l ys) ≡ drop (k + w) l
   opened-back o =
       let p : drop w ys ≡ drop w (drop k l) = rw n at (o .past ∙ ap (drop (length new)) (tail-is l ys k h)) in
       let e : length (take k l) + w ≡ k + w = ap (λ (y : ℕ). y + w) (length-take-le k l h) in

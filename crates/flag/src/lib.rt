@@ -2,7 +2,7 @@
 // at a rank.
 ghost use mathlib.Core.Path.{_≡_};
 ghost use mathlib.Core.List.{_++_};
-ghost use Prim.Native.Nat.{suc, _+_, _-_, _*_, _≤_, _<_};
+ghost use Prim.Native.Nat.{suc, _+_, _-_, _≤_, _<_};
 ghost use lib.ListN.{getD, take, drop};
 ghost use Rattle.spec.specs.Types.{subs};
 ghost use Rattle.spec.specs.Solid.{between};

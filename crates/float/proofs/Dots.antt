@@ -10,7 +10,7 @@ use native.Mathlib.Omega.{arith}
 use lib.Dec.{eqb}
 use lib.ListN.{getD, drop, length, drop-of-length-le}
 use lib.Seq.{drop-cons}
-use lib.Ieee.{Float, nan, inf, fin, binary64, up, down, round, unlike, mul, ofBits}
+use lib.Ieee.{Float, nan, inf, fin, binary64, up, down, unlike, mul, ofBits}
 use Rattle.spec.specs.Float.{zeroF, plus, times, zip, addOn, total, dot}
 
 -- The float t is the sum of the first i products.

@@ -318,7 +318,7 @@ module _ (s : Solid) (w : Stack 1 s) where
 
 -- ---- the sheet
 
--- The parts of a sheet that was read, each with the bit at which it starts.
+-- These are the parts of a sheet that was read, each with the bit at which it starts.
 pub record PartsRead (b : List ℕ) (p : Parsed) : Type 0 where
   pub dimension-at : ℕ
   pub counts-at : ℕ

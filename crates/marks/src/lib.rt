@@ -12,7 +12,7 @@ ghost use Rattle.spec.specs.Lists.{In, holds, keep, every};
 ghost use Rattle.spec.specs.Types.{properRanks, Classes};
 ghost use Rattle.spec.specs.Mark.{setsApart};
 ghost use Rattle.spec.specs.Search.{markOf};
-ghost use Rattle.ranked.specs.Words.{firstAt, sizeAt, total, listAt, absIn, Held};
+ghost use Rattle.ranked.specs.Words.{firstAt, sizeAt, total, listAt, absIn, Held, listWord};
 ghost use Rattle.ranked.specs.Reading.{Lies, Each};
 ghost use Rattle.marks.specs.Rises.{onto, risesTo, Reached, Landed};
 ghost use Rattle.marks.specs.Rows.{permutes, classesOn, carriesRank, ClassesIn, ClassesOf, Row, Images, Rank};
@@ -81,12 +81,13 @@ fn is_onto(lists: &[u32], goes: &[u16], base: usize, i: usize, j: usize) -> bool
     lands(lists, goes, base, i, j)
 }
 
-// Returns the first entry g of the list at word j such that the list at word i goes exactly onto the list at word up + 4 * g.
+// Returns the first entry g of the list at word j such that the list at word i goes exactly onto the list of g, which is found by the word `up` of the
+// first element of g's rank.
 fn first_onto(lists: &[u32], goes: &[u16], base: usize, i: usize, j: usize, up: usize) -> Found
     requires { ⌜ Lies (now lists) i × Lies (now lists) j × Each (now lists) j up ⌝ }
     requires { ⌜ ((f : ℕ) → In f (listAt (now lists) i) → base + f < length (now goes)) ⌝ }
     ensures { λ res. ⌜ res
-        ≡ firstOf (keep (λ g. onto (λ f. getD (now (goes .entry)) (base + f) 0) (listAt (now (lists .entry)) i) (listAt (now (lists .entry)) (up + 4 * g)))
+        ≡ firstOf (keep (λ g. onto (λ f. getD (now (goes .entry)) (base + f) 0) (listAt (now (lists .entry)) i) (listAt (now (lists .entry)) (listWord up g)))
         (listAt (now (lists .entry)) j)) ⌝ }
 {
     let n = lists::count_at(lists, j);

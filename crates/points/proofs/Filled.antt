@@ -16,7 +16,7 @@ use Rattle.spec.specs.Matrix.{Vector, Matrix, mulVec}
 use Rattle.spec.specs.Points.{find, found, rowOf}
 use Rattle.laws.proofs.Lists.{getD-map}
 use Rattle.laws.proofs.CopyLaws.{found-near, not-found}
-use Rattle.points.specs.Cells.{Complete, Opened, Tabled}
+use Rattle.points.specs.Cells.{AllFound, SomeMissing, Tabled}
 
 -- ---- a number in a list
 
@@ -92,7 +92,7 @@ module _ {x : ℕ} {new before : List ℕ} where
             none = rw more (none-append x (take k new) piece (f .none) o);
           }
 
-      pub filled-open : {after : List ℕ} → holds eqb x piece ≡ true → drop (k + w) after ≡ drop (k + w) buffer → Opened x new before after
+      pub filled-open : {after : List ℕ} → holds eqb x piece ≡ true → drop (k + w) after ≡ drop (k + w) buffer → SomeMissing x new before after
       filled-open {after} o e =
           let all : (take k new ++ piece) ++ drop (k + w) new ≡ new =
           ap (λ (y : List ℕ). (take k new ++ y) ++ drop (k + w) new) (p .is)
@@ -111,7 +111,7 @@ module _ {x : ℕ} {new before : List ℕ} where
                 ∙ beyond n (f .within);
           }
 
-  pub filled-end : {buffer : List ℕ} {k : ℕ} → length new ≤ k → CellsFilled x new before buffer k → Complete x new before buffer
+  pub filled-end : {buffer : List ℕ} {k : ℕ} → length new ≤ k → CellsFilled x new before buffer k → AllFound x new before buffer
   unfolding written
   filled-end {buffer} {k} h f =
       let e : k ≡ length new = omega (arith, f .within) in
@@ -168,6 +168,6 @@ module _ (cs : List Vector) (m : Matrix) where
   all-found n e before after false t = sym (every-below n (rowOf cs m) (rw e at below) ∙ ap not (t .some))
 
   -- The first cells hold the row.
-  pub row-read : (n : ℕ) → length cs ≡ n → {before after : List ℕ} → Complete n (rowOf cs m) before after → take n after ≡ rowOf cs m
+  pub row-read : (n : ℕ) → length cs ≡ n → {before after : List ℕ} → AllFound n (rowOf cs m) before after → take n after ≡ rowOf cs m
   unfolding written
   row-read n e t = ap (take n) (t .is) ∙ take-at (rowOf cs m) _ n (length-row cs m ∙ e)

@@ -44,7 +44,7 @@ tries = 16
 abbrev pub free : ℕ
 free = 65535
 
--- Mixes x into h, which decides how often a guess is right and nothing else.
+-- Mixes x into h. The result decides how often a guess is right, and nothing else.
 abbrev pub mixed : ℕ → ℕ → ℕ
 mixed h x = (h + x) % 2 ^ 32 * 0x9e37_79b1
 

@@ -7,11 +7,11 @@ use ranked::lists::holds_at;
 use ranked::lists::list_word;
 use ranked::lists::sups_beside;
 ghost use mathlib.Core.Path.{_≡_};
-ghost use Prim.Native.Nat.{ℕ, suc, _+_, _*_, _≤_, _<_};
+ghost use Prim.Native.Nat.{ℕ, suc, _+_, _≤_, _<_};
 ghost use lib.ListN.{length};
 ghost use Rattle.spec.specs.Lists.{In};
 ghost use Rattle.spec.specs.Solid.{bound, diamond};
-ghost use Rattle.ranked.specs.Words.{firstAt, sizeAt, listAt, absIn, Held};
+ghost use Rattle.ranked.specs.Words.{firstAt, sizeAt, listAt, absIn, Held, listWord};
 ghost use Rattle.ranked.specs.Reading.{Lies, Each, holding, Fork};
 ghost use Rattle.preflight.specs.Check.{boundIn, twoUnder, twoAt, twoRank, twoFrom};
 
@@ -47,7 +47,7 @@ pub fn is_bound(lists: &[u32], sh: Shape) -> bool
     true
 }
 
-// Counts the entries y of the list at word i that have x in their list at word base + 4 * y.
+// Counts the entries y of the list at word i that have x in their list, by the word `base` of the first element of their rank.
 fn counting(lists: &[u32], i: usize, base: usize, x: usize) -> usize
     requires { ⌜ Lies (now lists) i ⌝ }
     requires { ⌜ Each (now lists) i base ⌝ }
@@ -82,7 +82,7 @@ fn between(lists: &[u32], i: usize, j: usize, base: usize, g: usize, h: usize) -
 // word `below`.
 fn diamond_under(lists: &[u32], i: usize, j: usize, base: usize, below: usize, g: usize) -> bool
     requires { ⌜ Lies (now lists) j ⌝ }
-    requires { ⌜ ((h : ℕ) → In h (listAt (now lists) j) → Fork (now lists) i (below + 4 * h) base g h) ⌝ }
+    requires { ⌜ ((h : ℕ) → In h (listAt (now lists) j) → Fork (now lists) i (listWord below h) base g h) ⌝ }
     ensures { λ res. ⌜ res ≡ twoUnder (now (lists .entry)) i j base ⌝ }
 {
     let n = count_at(lists, j);

@@ -127,7 +127,7 @@ module _ (R D : ℕ) (counts first : List ℕ) (I : ℕ) (tall : R ≤ maxRank) 
   abbrev ranks : Shape
   ranks = record { rank = R; dimension = D; first = first; low = 0 }
 
-  -- What the number of words is worked out from.
+  -- The number of words is worked out from these.
   pub starts-fit : ((R ≤ maxRank) × (total ranks < 2 ^ 32) × (I < 2 ^ 32)) × ((r : ℕ) → r ≤ R → firstAt ranks r < firstAt ranks (suc r))
   unfolding running
   starts-fit = (

@@ -40,6 +40,10 @@ subsWord first e = 4 * (first + e)
 abbrev pub supsWord : ℕ → ℕ → ℕ
 supsWord first e = subsWord first e + 2
 
+-- This is the word that says where the list of element e is, by that word `base` of the first element of its rank.
+abbrev pub listWord : ℕ → ℕ → ℕ
+listWord base e = base + 4 * e
+
 -- These are the subs of an element, and then its sups.
 unfoldable pub subsIn : Shape → List ℕ → ℕ → ℕ → List ℕ
 subsIn sh w r e = listAt w (subsWord (firstAt sh r) e)

@@ -5,6 +5,7 @@ use crate::lists::subs_word;
 use crate::lists::sups_word;
 use spec::MAX_PROPER;
 use spec::MAX_RANK;
+use spec::PROPER_RANKS;
 ghost use mathlib.Core.Path.{_≡_};
 ghost use Prim.Native.Nat.{ℕ, suc, _+_, _*_, _^_, _≤_, _<_};
 ghost use lib.ListN.{length};
@@ -31,7 +32,7 @@ pub struct Shape {
 }
 
 // Counts the elements of rank r, by the counts of ranks 1 to R - 1.
-fn rank_size(rank: usize, counts: [usize; MAX_RANK - 1], r: usize) -> usize
+fn rank_size(rank: usize, counts: [usize; PROPER_RANKS], r: usize) -> usize
     requires { ⌜ rank ≤ maxRank ⌝ }
     ensures { λ n. ⌜ n ≡ sizeIn rank counts r ⌝ }
 {
@@ -45,7 +46,7 @@ fn rank_size(rank: usize, counts: [usize; MAX_RANK - 1], r: usize) -> usize
 }
 
 // Returns where the ranks of a solid of rank R start, by the counts of ranks 1 to R - 1.
-fn starts_of(rank: usize, counts: [usize; MAX_RANK - 1]) -> [usize; STARTS]
+fn starts_of(rank: usize, counts: [usize; PROPER_RANKS]) -> [usize; STARTS]
     requires { ⌜ rank ≤ maxRank ⌝ }
     requires { ⌜ CountsFit rank counts ⌝ }
     ensures { λ first. ⌜ StartsCounted rank counts first ⌝ }
@@ -61,7 +62,7 @@ fn starts_of(rank: usize, counts: [usize; MAX_RANK - 1]) -> [usize; STARTS]
 
 impl Shape {
     // Returns the shape of a solid of rank R in D dimensions, by the counts of ranks 1 to R - 1 and the number of entries that its stored lists have.
-    pub fn of(rank: usize, dimension: usize, counts: [usize; MAX_RANK - 1], entries: usize) -> Shape
+    pub fn of(rank: usize, dimension: usize, counts: [usize; PROPER_RANKS], entries: usize) -> Shape
         requires { ⌜ (rank ≤ maxRank) × (entries < 2 ^ 32) ⌝ }
         requires { ⌜ CountsFit rank counts ⌝ }
         ensures { λ sh. ⌜ ShapeCounted rank dimension counts entries sh ⌝ }

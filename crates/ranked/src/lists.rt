@@ -6,7 +6,7 @@ ghost use lib.ListN.{length, getD};
 ghost use lib.Dec.{eqb};
 ghost use Rattle.spec.specs.Lists.{holds, place};
 ghost use Rattle.spec.specs.Types.{subs};
-ghost use Rattle.ranked.specs.Words.{sizeAt, listAt, absIn, Held};
+ghost use Rattle.ranked.specs.Words.{sizeAt, listAt, absIn, Held, listWord};
 ghost use Rattle.ranked.specs.Reading.{Lies};
 
 // Returns the word at p.
@@ -61,8 +61,8 @@ pub fn sups_word(g: usize) -> usize
 
 // Returns the word that says where the list of element e starts, by that word `base` of the first element of its rank.
 pub fn list_word(base: usize, e: usize) -> usize
-    requires { ⌜ base + 4 * e < 2 ^ 64 ⌝ }
-    ensures { λ r. ⌜ r ≡ base + 4 * e ⌝ }
+    requires { ⌜ listWord base e < 2 ^ 64 ⌝ }
+    ensures { λ r. ⌜ r ≡ listWord base e ⌝ }
 {
     base + 4 * e
 }

@@ -1,6 +1,7 @@
 // This module has the digests of a search's outputs. A digest goes by pieces of 16 bits, a float as the four pieces of its pattern, highest first:
-// multiply by BASE, add the piece, take the remainder by PRIME, from 1 on. A step is one to one in the state, and two steps in their pieces a and b: b is below BASE, and a * BASE + b below PRIME. So a
-// change of one piece, or of two neighbours, always shows where all else is the same; that others show is likely, not certain.
+// multiply by BASE, add the piece, take the remainder by PRIME, from 1 on. A step is one to one in the state, and two steps in their pieces a and b:
+// b is below BASE, and a * BASE + b below PRIME. So a change of one piece, or of two neighbours, always shows where all else is the same; that others
+// show is likely, not certain.
 ghost use Prim.Native.Nat.{_<_, _^_};
 
 const BASE: u64 = 1_000_003;

@@ -40,7 +40,7 @@ enum SearchOutput {
     Marks,
 }
 
-// Writes a number, none of which is 100,000 or more, as five decimal digits.
+// Writes a number below 100,000 as five decimal digits.
 fn write_number(run: Run, n: u64) -> Run {
     let b = [
         writing::digit(n / 10000 % 10),

@@ -17,18 +17,16 @@ use spec::MAX_DIMENSION;
 use spec::MAX_ENTRIES;
 use spec::MAX_MAGNITUDE_PATTERN;
 use spec::MAX_RANK;
+use spec::PROPER_RANKS;
 use spec::Refusal;
 use spec::Verdict;
-
-// This is the greatest number of proper ranks that a solid can have.
-pub const PROPER: usize = MAX_RANK - 1;
 
 // This is what a sheet says beside its coordinates and lists: R, D, the counts of ranks 1 to R - 1 and zeros after them, the sum of the counts (E)
 // and the number of list entries (I).
 pub struct Header {
     pub rank: usize,
     pub dimension: usize,
-    pub counts: [usize; PROPER],
+    pub counts: [usize; PROPER_RANKS],
     pub elements: usize,
     pub entries: usize,
 }
@@ -48,7 +46,7 @@ enum Place {
 // This says where the reading of the counts ends, with the counts read and their sum; these are zeros where the sheet is refused.
 struct CountsRead {
     place: Place,
-    counts: [usize; PROPER],
+    counts: [usize; PROPER_RANKS],
     elements: usize,
 }
 
@@ -102,7 +100,7 @@ fn uncounted(why: Refusal) -> CountsRead
 {
     CountsRead {
         place: Place::Refused(why),
-        counts: [0usize; PROPER],
+        counts: [0usize; PROPER_RANKS],
         elements: 0,
     }
 }
@@ -112,7 +110,7 @@ fn counts(sheet: &[u8], start: usize, n: usize) -> CountsRead
     requires { ⌜ (start + 12 * n + 7 < 2 ^ 64) × (n ≤ proper) ⌝ }
     ensures { λ r. ⌜ r ≡ countedOf (form.times n (form.count (now (sheet .entry))) start) ⌝ }
 {
-    let mut counts = [0usize; PROPER];
+    let mut counts = [0usize; PROPER_RANKS];
     let mut elements: usize = 0;
     let mut at = start;
     let mut k = 0;
@@ -230,7 +228,7 @@ fn rank_lists(sheet: &[u8], start: usize, below: usize, n: usize) -> ListsRead
 }
 
 // Reads the lists of ranks 2 to n, by the counts of ranks 1 to n.
-fn lists(sheet: &[u8], start: usize, counts: [usize; PROPER], n: usize) -> ListsRead
+fn lists(sheet: &[u8], start: usize, counts: [usize; PROPER_RANKS], n: usize) -> ListsRead
     requires { ⌜ (start < 2 ^ 30) × (n ≤ proper) × ((k : ℕ) → getD counts k 0 ≤ maxCount) ⌝ }
     ensures { λ r. ⌜ r ≡ listedOf allEntries 0 (form.lists (now (sheet .entry)) (take n counts) start) ⌝ }
 {
@@ -277,7 +275,7 @@ fn proper_ranks(rank: usize) -> usize
 }
 
 // Returns V, the number of vertices: rank 1's count, but 1 where R = 1 and 0 where R = 0.
-fn vertices(rank: usize, counts: [usize; PROPER]) -> usize
+fn vertices(rank: usize, counts: [usize; PROPER_RANKS]) -> usize
     ensures { λ r. ⌜ r ≡ form.vertexCount rank (take (rank - 1) counts) ⌝ }
 {
     if rank < 2 {
@@ -292,7 +290,7 @@ fn body(
     start: usize,
     vertices: usize,
     dimension: usize,
-    counts: [usize; PROPER],
+    counts: [usize; PROPER_RANKS],
     n: usize,
 ) -> ListsRead
     requires { ⌜ (start < 2 ^ 16) × (vertices ≤ maxCount) × (dimension ≤ maxDimension) × (n ≤ proper) × ((k : ℕ) → getD counts k 0 ≤ maxCount) ⌝ }
@@ -322,7 +320,7 @@ fn refused(why: Refusal) -> Judgement
         header: Header {
             rank: 0,
             dimension: 0,
-            counts: [0usize; PROPER],
+            counts: [0usize; PROPER_RANKS],
             elements: 0,
             entries: 0,
         },

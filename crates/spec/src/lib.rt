@@ -17,8 +17,10 @@ pub const MAX_MAGNITUDE: f64 = 1048576.0;
 // This is the pattern of that magnitude, for a test of patterns that may be those of a NaN.
 pub const MAX_MAGNITUDE_PATTERN: u64 = 0x4130_0000_0000_0000;
 
-// These are the greatest numbers of proper elements and of stored list entries that a solid can have.
-pub const MAX_PROPER: usize = (MAX_RANK - 1) * MAX_COUNT;
+// These are the greatest numbers of proper ranks, of proper elements and of stored list entries that a solid can have.
+pub const PROPER_RANKS: usize = MAX_RANK - 1;
+
+pub const MAX_PROPER: usize = PROPER_RANKS * MAX_COUNT;
 
 pub const MAX_STORED: usize = (MAX_RANK - 2) * MAX_ENTRIES;
 

@@ -1,4 +1,4 @@
--- Where facet 0 was searched from, or R = 2, nothing is to do; else the facets go back, and the classes and the fingerprints are worked out.
+-- Where facet 0 was searched from, or R = 2, there is nothing to do; else the facets go back, and the classes and the fingerprints are worked out.
 -- Assumes nothing.
 use borrow.Author.Needs.{needs}
 use borrow.Author.Tests.{eqb-true}

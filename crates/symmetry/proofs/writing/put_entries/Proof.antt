@@ -1,9 +1,8 @@
 -- The loop's invariant is that the first i entries are in place. The measure is what is left of n.
 -- Assumes nothing.
-use mathlib.Core.Path.{_≡_, refl}
+use mathlib.Core.Path.{refl}
 use Prim.Native.Nat.{_≤_, _-_}
-use native.Mathlib.Omega.{arith}
-use lib.ListN.{length, getD}
+use lib.ListN.{getD}
 use borrow.Author.Needs.{needs}
 use Rattle.float.proofs.Written.{Written, none, next}
 use Rattle.points.proofs.Tails.{front-copied}
