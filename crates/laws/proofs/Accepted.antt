@@ -137,6 +137,8 @@ sized-length : (sizes : List ℕ) (lists : List (List (List ℕ))) → Sized siz
 unfolding Sized
 sized-length [] [] h = refl
 sized-length (n ∷ sizes) (ls ∷ more) h = ap suc (sized-length sizes more h.2)
+sized-length [] (ls ∷ more) h = elim h [ ]
+sized-length (n ∷ sizes) [] h = elim h [ ]
 
 pub times-read : {A : Type 0} (n : ℕ) (m : Reader A) (i : ℕ) (y : List A × ℕ) → times n m i ≡ passed y → length y.0 ≡ n
 unfolding times done
@@ -218,6 +220,7 @@ pub from_in : (low c : ℕ) (l : List ℕ) → From low c l → (x : ℕ) → In
 unfolding From
 from_in low c (y ∷ l) w x (inl q) = rw q w.1
 from_in low c (y ∷ l) w x (inr m) = from_in (suc y) c l w.2 x m
+from_in low c [] w x x4 = elim x4 [ ]
 
 from-above : (y c : ℕ) (l : List ℕ) → From (suc y) c l → RisingAbove y l
 unfolding From
@@ -239,6 +242,8 @@ stack_below : (c : ℕ) (s : Solid) → Stack c s → (r e x : ℕ) → In x (ge
 unfolding Stack
 stack_below c (a ∷ b ∷ s) w zero e x m = from_in 0 (length a) (get_or b e []) (all-at (length a) b w.1.0 e) x m
 stack_below c (a ∷ b ∷ s) w (suc r) e x m = stack_below (length a) (b ∷ s) w.1 r e x m
+stack_below c [] w r e x m = elim m [ ]
+stack_below c (a ∷ []) w r e x m = elim m [ ]
 
 stack_rising : (c : ℕ) (s : Solid) → Stack c s → (r e : ℕ) → Rising (get_or (get_or s r []) e [])
 unfolding Stack
@@ -409,6 +414,8 @@ module _ (p : Parsed) (w : Read p) where
   sized_fine [] [] h k ls m = absurd m
   sized_fine (n ∷ sizes) (a ∷ more) h k ls (inl q) = rw (q, h.0) (k n (inl refl), h.1)
   sized_fine (n ∷ sizes) (a ∷ more) h k ls (inr m) = sized_fine sizes more h.2 (λ n i. k n (inr i)) ls m
+  sized_fine [] (a ∷ more) h k ls m = elim h [ ]
+  sized_fine (n ∷ sizes) [] h k ls m = elim h [ ]
 
   filled_replicate : (n : ℕ) → NoneEmpty (replicate n (0 ∷ []))
   unfolding NoneEmpty
@@ -446,6 +453,7 @@ module _ (p : Parsed) (w : Read p) where
   more_filled ls m = go (in_either ls rest (crowned ∷ []) m)
     where
       go : In ls rest ⊎ In ls (crowned ∷ []) → NoneEmpty ls
+      go (inr (inr x'')) = elim x'' [ ]
       go (inl h) = (proper_fine p.counts refl ls h).1
       go (inr (inl q)) = rw q crown_filled
 
@@ -454,6 +462,7 @@ module _ (p : Parsed) (w : Read p) where
   all_fine ls m = go (in_either ls (([] ∷ []) ∷ rest) (crowned ∷ []) m)
     where
       go : In ls (([] ∷ []) ∷ rest) ⊎ In ls (crowned ∷ []) → Fine ls
+      go (inr (inr x'')) = elim x'' [ ]
       go (inl h) = under_fine ls h
       go (inr (inl q)) = rw q (omega arith, omega arith)
 
@@ -481,6 +490,7 @@ module _ (p : Parsed) (w : Read p) where
         where
           first : (ls : List (List ℕ)) → In ls (([] ∷ []) ∷ []) → Fine ls
           first ls (inl e) = rw e (omega arith, omega arith)
+          first ls (inr x'') = elim x'' [ ]
       go (suc q) r h = at (([] ∷ []) ∷ (rest ++ (crowned ∷ []))) (omega arith) all_fine r h
 
   filled_of : (r e : ℕ) → e < size (solid_of p) (suc r) → 0 < length (subs (solid_of p) (suc r) e)

@@ -24,6 +24,7 @@ use Rattle.laws.proofs.Result.{near-low}
 pub above : (x t : ℕ) (l : List ℕ) → RisingAbove x l → In t l → x < t
 above x t (y ∷ l) h (inl e) = omega arith
 above x t (y ∷ l) h (inr m) = omega (arith, above y t l h.1 m)
+above x t [] h x4 = elim x4 [ ]
 
 pub rising_once : (l : List ℕ) → Rising l → Once l
 rising_once [] h = tt
@@ -65,6 +66,8 @@ proper_is s r p = go (ltb 0 r) (ltb r (top s)) (lt→ltb 0 r p.0) (lt→ltb r (t
   where
     go : (a b : Bool) → T a → T b → a && b ≡ true
     go true true x y = refl
+    go false b x y = elim x [ ]
+    go true false x y = elim y [ ]
 
 module _ (s : Solid) (w : Sound s) (cls : Classes) (σ : ℕ → ℕ → ℕ) (c : Carries s cls σ) where
   abbrev pub TypesKept : State → Type 0

@@ -14,6 +14,7 @@ use Rattle.laws.proofs.Distinct.{Test, Once, Split, split, without_yes, without_
 
 pub T→true : (b : Bool) → T b → b ≡ true
 T→true true t = refl
+T→true false t = elim t [ ]
 
 true→T : (b : Bool) → b ≡ true → T b
 true→T true e = tt
@@ -117,6 +118,7 @@ pub sum_eq : (f g : ℕ → ℕ) (l : List ℕ) → ((r : ℕ) → In r l → f 
 unfolding sum
 sum_eq f g (r ∷ l) h e q (inl m) = rw m (omega (arith, h r (inl refl), sum-le f g l (λ q' m'. h q' (inr m'))))
 sum_eq f g (r ∷ l) h e q (inr m) = sum_eq f g l (λ q' m'. h q' (inr m')) (omega (arith, h r (inl refl), sum-le f g l (λ q' m'. h q' (inr m')))) q m
+sum_eq f g [] h e q x3 = elim x3 [ ]
 
 -- ---- members
 
@@ -124,6 +126,7 @@ module _ {A : Type 0} where
   pub in_left : (t : A) (l m : List A) → In t l → In t (l ++ m)
   in_left t (x ∷ l) m (inl e) = inl e
   in_left t (x ∷ l) m (inr h) = inr (in_left t l m h)
+  in_left t [] m x' = elim x' [ ]
 
   pub in_right : (t : A) (l m : List A) → In t m → In t (l ++ m)
   in_right t [] m h = h
@@ -136,6 +139,7 @@ module _ {A : Type 0} where
   aux_left : (t : A) (l m : List A) → In t l → In t (reverse_aux l m)
   aux_left t (x ∷ l) m (inl e) = aux_right t l (x ∷ m) (inl e)
   aux_left t (x ∷ l) m (inr h) = aux_left t l (x ∷ m) h
+  aux_left t [] m x' = elim x' [ ]
 
   pub in_reverse : (t : A) (l : List A) → In t l → In t (reverse l)
   in_reverse t l h = aux_left t l [] h
@@ -148,6 +152,7 @@ keep_in p t (x ∷ l) (inr h) q = go (p x) refl (keep_in p t l h q)
     go : (b : Bool) → p x ≡ b → In t (keep p l) → In t (keep p (x ∷ l))
     go true e ih = rw (e, keep) (inr ih)
     go false e ih = rw (e, keep) ih
+keep_in p t [] x'' q = elim x'' [ ]
 
 pub in_keep : (p : ℕ → Bool) (t : ℕ) (l : List ℕ) → In t (keep p l) → In t l × (p t ≡ true)
 unfolding keep
@@ -160,6 +165,7 @@ in_keep p t (x ∷ l) h = go (p x) refl (λ (m : In t (keep p l)). in_keep p t l
         last (inl q) = (inl q, ap p q ∙ e)
         last (inr m') = let r = ih m' in (inr r.0, r.1)
     go false e ih m = let r = ih (rw (e, keep) at m) in (inr r.0, r.1)
+in_keep p t [] h = elim h [ ]
 
 pub once_keep : (p : ℕ → Bool) (l : List ℕ) → Once l → Once (keep p l)
 unfolding keep
@@ -178,6 +184,7 @@ holds_in t (x ∷ l) m = go (split eqb numbers x t) m (λ (h : In t l). holds_in
     go (inl (p, e)) h ih = rw (e, holds)
     go (inr (p, e)) (inl q) ih = absurd (p (sym q))
     go (inr (p, e)) (inr h) ih = rw (e, holds) (ih h)
+holds_in t [] m = elim m [ ]
 
 pub in_holds : (t : ℕ) (l : List ℕ) → holds eqb t l ≡ true → In t l
 unfolding holds

@@ -48,6 +48,7 @@ module _ {A : Type 0} (same : A → A → Bool) (test : Test same) where
       go (inl (p, e)) (inr h) ih = rw (without_yes l e) (ih h)
       go (inr (p, e)) (inl q) ih = rw (without_no l e) (inl q)
       go (inr (p, e)) (inr h) ih = rw (without_no l e) (inr (ih h))
+  in_without {t = t} {k = k} [] m n = elim m [ ]
 
   pub out-without : {t k : A} (l : List A) → In t (without same k l) → In t l × (t ≢ k)
   unfolding without
@@ -60,6 +61,7 @@ module _ {A : Type 0} (same : A → A → Bool) (test : Test same) where
           last : In t (x ∷ without same k l) → In t (x ∷ l) × (t ≢ k)
           last (inl q) = (inl q, λ (z : t ≡ k). p (sym q ∙ z))
           last (inr h') = let r = ih h' in (inr r.0, r.1)
+  out-without {t = t} {k = k} [] m = elim m [ ]
 
   once_without : (k : A) (l : List A) → Once l → Once (without same k l)
   unfolding without
@@ -86,6 +88,7 @@ module _ {A : Type 0} (same : A → A → Bool) (test : Test same) where
       go (inl (p, e)) h ih = rw (without_yes l e) (omega (arith, length-without-le k l))
       go (inr (p, e)) (inl q) ih = absurd (p (sym q))
       go (inr (p, e)) (inr h) ih = rw (without_no l e) (omega (arith, ih h))
+  length_without k [] m = elim m [ ]
 
   -- ---- the pigeons: a list that repeats nothing is no longer than one that holds all that it holds
 
@@ -108,11 +111,13 @@ module _ {A : Type 0} (same : A → A → Bool) (test : Test same) where
       go : Split t x → In t (distinct same l) → In t (distinct same (x ∷ l))
       go (inl (p, e)) ih = inl p
       go (inr (p, e)) ih = inr (in_without (distinct same l) ih p)
+  in_distinct t [] x' = elim x' [ ]
 
   pub of-distinct : (t : A) (l : List A) → In t (distinct same l) → In t l
   unfolding distinct
   of-distinct t (x ∷ l) (inl e) = inl e
   of-distinct t (x ∷ l) (inr h) = inr (of-distinct t l (out-without (distinct same l) h).0)
+  of-distinct t [] x' = elim x' [ ]
 
   pub once_distinct : (l : List A) → Once (distinct same l)
   unfolding distinct
@@ -138,6 +143,7 @@ module _ {A : Type 0} (same : A → A → Bool) (test : Test same) where
       go (inl (p, e)) h ih = rw (place_yes l e) (omega arith, p)
       go (inr (p, e)) (inl q) ih = absurd (p (sym q))
       go (inr (p, e)) (inr h) ih = rw (place_no l e) (let r = ih h in (omega (arith, r.0), r.1))
+  place_at {k = k} d [] m = elim m [ ]
 
   -- No lower place holds it.
   pub place-low : {k : A} (d : A) (l : List A) (i : ℕ) → i < place same k l → get_or l i d ≢ k
@@ -183,6 +189,7 @@ module _ {A : Type 0} (same : A → A → Bool) (test : Test same) where
       go (inl (p, e)) h ih = count_yes l e ∙ ap suc (count-out k l (λ z. o.0 (subst (λ (y : A). In y l) (sym p) z)))
       go (inr (p, e)) (inl q) ih = absurd (p (sym q))
       go (inr (p, e)) (inr h) ih = count_no l e ∙ ih h
+  count_in_lem k [] o m = elim m [ ]
 
   -- Taking all the k away leaves no k, and changes no other count.
   pub count-without_same : (k : A) (l : List A) → count same k (without same k l) ≡ zero

@@ -83,6 +83,8 @@ two (a ∷ b ∷ []) o k x m = go m
         pick : (z : ℕ) → In z (a ∷ b ∷ []) → z ≢ a → z ≡ b
         pick z (inl q) u = absurd (u q)
         pick z (inr (inl q)) u = q
+        pick z (inr (inr x13)) u = elim x13 [ ]
+    go (inr (inr x11)) = elim x11 [ ]
     go (inr (inl p)) = (
       a,
       record {
@@ -95,6 +97,7 @@ two (a ∷ b ∷ []) o k x m = go m
     )
       where
         pick : (z : ℕ) → In z (a ∷ b ∷ []) → z ≢ b → z ≡ a
+        pick z (inr (inr x14)) u = elim x14 [ ]
         pick z (inl q) u = q
         pick z (inr (inl q)) u = absurd (u q)
 

@@ -22,6 +22,7 @@ module _ {A : Type 0} where
   pub in_left : (t : A) (a b : List A) → In t a → In t (a ++ b)
   in_left t (x ∷ a) b (inl q) = inl q
   in_left t (x ∷ a) b (inr m) = inr (in_left t a b m)
+  in_left t [] b x' = elim x' [ ]
 
   pub in_right : (t : A) (a b : List A) → In t b → In t (a ++ b)
   in_right t [] b m = m
@@ -65,12 +66,14 @@ module _ {A : Type 0} (R : A → A → Type 0) where
   ordered_at d l o i zero h k = absurd (omega arith)
   ordered_at d (x ∷ l) o zero (suc j) h k = o.0 (get_or l j d) (in_get_d d l j (omega arith))
   ordered_at d (x ∷ l) o (suc i) (suc j) h k = ordered_at d l o.1 i j (omega arith) (omega arith)
+  ordered_at d [] o i (suc j) h k = elim k [ ]
 
 module _ {A B : Type 0} (g : B → List A) where
   pub join_in : (t : A) (x : B) (l : List B) → In x l → In t (g x) → In t (join (map g l))
   unfolding join
   join_in t x (y ∷ l) (inl q) m = in_left t (g y) (join (map g l)) (rw (← q) m)
   join_in t x (y ∷ l) (inr h) m = in_right t (g y) (join (map g l)) (join_in t x l h m)
+  join_in t x [] x3 m = elim x3 [ ]
 
   pub in_join : (t : A) (l : List B) → In t (join (map g l)) → (x : B) × In x l × In t (g x)
   unfolding join
@@ -79,6 +82,7 @@ module _ {A B : Type 0} (g : B → List A) where
       go : In t (g y) ⊎ In t (join (map g l)) → (In t (join (map g l)) → (x : B) × In x l × In t (g x)) → (x : B) × In x (y ∷ l) × In t (g x)
       go (inl h) f = (y, inl refl, h)
       go (inr h) f = let r = f h in (r.0, inr r.1, r.2)
+  in_join t [] m = elim m [ ]
 
 module _ {A : Type 0} (g : ℕ → List A) where
   -- The joined lists are ordered where a lower number's list stands before a greater number's.
@@ -170,6 +174,7 @@ module _ (s : Solid) where
       let h = in_join (ups r e) F (subs s (suc r) e) m in
       let k = in_map (λ (G : Flag). G ++ (e ∷ [])) F (flags_to s r h.0) h.2 in
       rw k.2 (more r h.0 e k.0 (to_of r h.0 k.0 k.1) h.1)
+  to_of zero e F (inr x'') = elim x'' [ ]
 
   of_to : (r e : ℕ) (F : Flag) → To r e F → In F (flags_to s r e)
   unfolding flags_to ups
@@ -234,6 +239,7 @@ every_flag_once s v = record {
 
 some_in : {A : Type 0} (x : A) (l : List A) → In x l → 0 < length l
 some_in x (y ∷ l) m = omega arith
+some_in {A = A} x [] m = elim m [ ]
 
 module _ (s : Solid) (v : Sound s) (f : (r e : ℕ) → e < size s (suc r) → 0 < length (subs s (suc r) e)) where
   first_in_lem : (r e : ℕ) → e < size s (suc r) → In (get_or (subs s (suc r) e) 0 0) (subs s (suc r) e)

@@ -35,6 +35,7 @@ fitting_in m d v n (y ∷ l) x h = go (have_room m d v (suc n)) h (λ k. fitting
     go true (inl q) f = inl q
     go true (inr k) f = inr (f k)
     go false k f = absurd k
+fitting_in m d v n [] x h = elim h [ ]
 
 kept_in_lem : (l kept : List Member) (x : Member) → In x (kept_of l kept).members → In x kept
 unfolding kept_of
@@ -58,6 +59,7 @@ rotation_in (y ∷ l) x h = go (is_rotation y) h (λ k. rotation_in l x k)
     go true (inl q) f = inl q
     go true (inr k) f = inr (f k)
     go false k f = inr (f k)
+rotation_in [] x h = elim h [ ]
 
 -- ---- a member's mark is that of its row
 
@@ -83,6 +85,7 @@ member-mark w (F ∷ l) x h = go (same_types w F) (tested w (candidate w F)) ref
     go true none e k f = f k
     go true (some m) e (inl q) f = rw q (tested-mark w (candidate w F) m e)
     go true (some m) e (inr k) f = f k
+member-mark w [] x h = elim h [ ]
 
 pub one_means : (s : Solid) (cls : Classes) (row : List ℕ) → mark_of s cls row ≡ 1 → marked s cls row ≡ true
 unfolding mark_of

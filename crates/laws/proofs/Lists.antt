@@ -19,15 +19,18 @@ module _ {A : Type 0} where
   pub in_place : (d t : A) (l : List A) → In t l → (i : ℕ) × (i < length l) × (get_or l i d ≡ t)
   in_place d t (x ∷ l) (inl e) = (zero, omega arith, sym e)
   in_place d t (x ∷ l) (inr h) = let r = in_place d t l h in (suc r.0, omega (arith, r.1), r.2)
+  in_place d t [] x' = elim x' [ ]
 
 module _ {A B : Type 0} where
   pub map_in : (f : A → B) (t : A) (l : List A) → In t l → In (f t) (map f l)
   map_in f t (x ∷ l) (inl e) = inl (ap f e)
   map_in f t (x ∷ l) (inr h) = inr (map_in f t l h)
+  map_in f t [] x' = elim x' [ ]
 
   pub in_map : (f : A → B) (t : B) (l : List A) → In t (map f l) → (u : A) × In u l × (t ≡ f u)
   in_map f t (x ∷ l) (inl e) = (x, inl refl, e)
   in_map f t (x ∷ l) (inr h) = let r = in_map f t l h in (r.0, inr r.1, r.2)
+  in_map f t [] x' = elim x' [ ]
 
   pub map_same : (f g : A → B) (l : List A) → ((x : A) → In x l → f x ≡ g x) → map f l ≡ map g l
   map_same f g [] h = refl
@@ -79,6 +82,7 @@ pub of_range : (a n t : ℕ) → In t (range a n) → (a ≤ t) × (t < a + n)
 unfolding range
 of_range a (suc n) t (inl e) = (omega arith, omega arith)
 of_range a (suc n) t (inr h) = let r = of_range (suc a) n t h in (omega arith, omega arith)
+of_range a zero t x' = elim x' [ ]
 
 pub once_range : (a n : ℕ) → Once (range a n)
 unfolding range

@@ -42,6 +42,7 @@ pub every_in : {A : Type 0} (p : A → Bool) (l : List A) → every p l ≡ true
 unfolding every
 every_in p (y ∷ l) e x (inl q) = rw q (every_both p y l e).0
 every_in p (y ∷ l) e x (inr m) = every_in p l (every_both p y l e).1 x m
+every_in {A = A} p [] e x x4 = elim x4 [ ]
 
 module _ {A : Type 0} (same : A → A → Bool) (test : Test same) where
   pub holds_of : (t : A) (l : List A) → In t l → holds same t l ≡ true
@@ -52,6 +53,7 @@ module _ {A : Type 0} (same : A → A → Bool) (test : Test same) where
       go (inl (p, e)) h ih = rw (e, holds)
       go (inr (p, e)) (inl q) ih = absurd (p (sym q))
       go (inr (p, e)) (inr h) ih = rw (e, holds) (ih h)
+  holds_of t [] m = elim m [ ]
 
   pub no_repeats_lem : (l : List A) → no_repeats same l ≡ true → Once l
   unfolding no_repeats

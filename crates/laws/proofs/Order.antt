@@ -23,6 +23,7 @@ use Rattle.laws.proofs.SolidLaws.{every-sups}
 
 not_empty : (x : ℕ) (l : List ℕ) → In x l → ltb 0 (length l) ≡ true
 not_empty x (y ∷ l) m = T→true (ltb 0 (length (y ∷ l))) (lt→ltb 0 (length (y ∷ l)) (omega arith))
+not_empty x [] m = elim m [ ]
 
 module _ {s : Solid} where
   -- ---- ranks

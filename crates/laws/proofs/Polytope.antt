@@ -82,6 +82,7 @@ module _ (s : Solid) (r g h : ℕ) where
       go : (H : Element) → H ≡ element (suc r) H.number → In H.number (a ∷ b ∷ []) → (H ≡ element (suc r) a) ⊎ (H ≡ element (suc r) b)
       go H e (inl q) = inl (e ∙ ap (element (suc r)) q)
       go H e (inr (inl q)) = inr (e ∙ ap (element (suc r)) q)
+      go H e (inr (inr x8)) = elim x8 [ ]
 
   -- Exactly two elements between are counted as two.
   two-counted : Sound s → ExactlyTwo (Between s lower upper) → length (between s (suc r) g h) ≡ 2
@@ -104,8 +105,10 @@ module _ (s : Solid) (r g h : ℕ) where
           → (w.first ≡ element (suc r) w.first.number) × In w.first.number (between s (suc r) g h)
           → (w.second ≡ element (suc r) w.second.number) × In w.second.number (between s (suc r) g h) → ⊥
       apart (inl q) i j = w.differ (i.0 ∙ ap (element (suc r)) q ∙ sym j.0)
+      apart (inr x3) i j = elim x3 [ ]
 
       here : (x : ℕ) → In x (w.first.number ∷ w.second.number ∷ []) → In w.first.number (between s (suc r) g h) → In w.second.number (between s (suc r) g h) → In x (between s (suc r) g h)
+      here x (inr (inr x5)) i j = elim x5 [ ]
       here x (inl q) i j = rw q i
       here x (inr (inl q)) i j = rw q j
 

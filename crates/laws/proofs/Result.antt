@@ -156,6 +156,7 @@ module _ (s : Solid) (cls : Classes) where
   -- Steps that end no finer than they began part nothing on the way.
   pub idle : (S : State) (xs : List Step) → AllProper s xs → Good s cls S → PartsNoMore (play s S xs) S → (x : Step) → In x xs → step s (play s S xs) x ≡ play s S xs
   unfolding play
+  idle S [] a g b x m = elim m [ ]
   idle S (y ∷ ys) a g b x m = go m (λ (k : In x ys). idle S₁ ys a.1 g₁ b₁ x k)
     where
       S₁ : State

@@ -79,13 +79,22 @@ of_positive x r p q h = record { is_finite = whole r q; sign = inl (plus r q); v
   where
     whole : (y : Float) → T (positive y) → finite y ≡ true
     whole (fin false m e) k = refl
+    whole nan k = elim k [ ]
+    whole (inf _) k = elim k [ ]
+    whole (fin true m e) k = elim k [ ]
 
     plus : (y : Float) → T (positive y) → is_sign_minus y ≡ false
     plus (fin false m e) k = refl
+    plus nan k = elim k [ ]
+    plus (inf _) k = elim k [ ]
+    plus (fin true m e) k = elim k [ ]
 
     none : (y : Float) → T (positive y) → eq y zero_f ≡ true → ⊥
     none (fin false zero e) k z = k
     none (fin false (suc m) e) k z = not_zero false m e z
+    none nan k z = elim k [ ]
+    none (inf _) k z = elim k [ ]
+    none (fin true _ e) k z = elim k [ ]
 
 pub root_facts : EveryRootFacts
 unfolding root finite

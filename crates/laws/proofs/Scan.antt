@@ -48,6 +48,7 @@ module _ {A : Type 0} (same : A → A → Bool) (test : Test same) where
       go (no n) (inl e) ih =
           ap (λ (r : List A). y ∷ without same y r) (distinct_new l x n)
           ∙ ap (λ (r : List A). y ∷ r) (without-append y (distinct same l) (x ∷ []) ∙ rw (e, without_yes same test {x = y} {k = y} [] (test.pass y)) (append-nil (without same y (distinct same l))))
+  distinct_old [] x m = elim m [ ]
 
   -- What is not there would stand next.
   pub place_out : (l : List A) (x : A) → ¬ In x l → place same x l ≡ length l
@@ -66,6 +67,7 @@ module _ {A : Type 0} (same : A → A → Bool) (test : Test same) where
       go (inl (p, e)) k ih = place_yes same test (l ++ m) e ∙ sym (place_yes same test l e)
       go (inr (p, e)) (inl q) ih = absurd (p (sym q))
       go (inr (p, e)) (inr k) ih = place_no same test (l ++ m) e ∙ ap suc (ih k) ∙ sym (place_no same test l e)
+  place-append [] m x h = elim h [ ]
 
   place-last : (l : List A) (x : A) → ¬ In x l → place same x (l ++ x ∷ []) ≡ length l
   unfolding place
@@ -103,6 +105,7 @@ module _ {A : Type 0} (same : A → A → Bool) (test : Test same) where
       go : Split same test x (get_or l i d) → place same (get_or l i d) l ≡ i → place same (get_or l i d) (x ∷ l) ≡ suc i
       go (inl (p, e)) ih = absurd (o.0 (rw p (in_get_d d l i (omega arith))))
       go (inr (p, e)) ih = place_no same test l e ∙ ap suc ih
+  place_self d [] o i h = elim h [ ]
 
   pub numbers_used : (d : A) (l : List A) → distinct eqb (renumber same l) ≡ range 0 (length (distinct same l))
   unfolding renumber

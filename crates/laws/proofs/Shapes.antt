@@ -49,6 +49,7 @@ product-rows : (a b : Matrix) (r : Vector) → In r (mul_mat a b) → length r �
 unfolding mul_mat
 product-rows (x ∷ a) b r (inl q) = rw q (length-map (columns b) (dot x) ∙ columns-length b)
 product-rows (x ∷ a) b r (inr m) = product-rows a b r m
+product-rows [] b r x' = elim x' [ ]
 
 product-length : (a b : Matrix) → length (mul_mat a b) ≡ length a
 unfolding mul_mat
@@ -160,6 +161,7 @@ member_shape d v w s (F ∷ l) x h = go (same_types w F) (tested w (candidate w 
     go true none e k f = f k
     go true (some m) e (inl q) f = rw q (tested_shape d v w s (candidate w F) (candidate_shape d v w s F) m e)
     go true (some m) e (inr k) f = f k
+member_shape d v w s [] x h = elim h [ ]
 
 pub wanted_some : {A : Type 0} (why : Refusal) (o : Option A) (x : A) → Judging.wanted why o ≡ passed x → o ≡ some x
 unfolding Judging.wanted

@@ -43,6 +43,8 @@ sound s = bottom (get_or s 0 []) && low s && every (every rising) s && eqb (size
 in_list : (x e : ℕ) (ls : List (List ℕ)) → In x (get_or ls e []) → In (get_or ls e []) ls
 in_list x zero (l ∷ ls) m = inl refl
 in_list x (suc e) (l ∷ ls) m = inr (in_list x e ls m)
+in_list x zero [] m = elim m [ ]
+in_list x (suc e) [] m = elim m [ ]
 
 is_low : (s : Solid) → low s ≡ true → (r e x : ℕ) → In x (get_or (get_or s (suc r) []) e []) → x < length (get_or s r [])
 unfolding low
@@ -50,6 +52,8 @@ is_low (a ∷ b ∷ s) q zero e x m =
     let h = both (every (λ l. every (λ y. ltb y (length a)) l) b) (low (b ∷ s)) q in
     lt_test x (length a) (every_in (λ y. ltb y (length a)) (get_or b e []) (every_in (λ l. every (λ y. ltb y (length a)) l) b h.0 (get_or b e []) (in_list x e b m)) x m)
 is_low (a ∷ b ∷ s) q (suc r) e x m = is_low (b ∷ s) (both (every (λ l. every (λ y. ltb y (length a)) l) b) (low (b ∷ s)) q).1 r e x m
+is_low [] q r e x m = elim m [ ]
+is_low (a ∷ []) q r e x m = elim m [ ]
 
 every-at : {A : Type 0} (p : A → Bool) (d : A) → p d ≡ true → (l : List A) → every p l ≡ true → (i : ℕ) → p (get_or l i d) ≡ true
 unfolding every

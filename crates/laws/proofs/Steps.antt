@@ -23,6 +23,7 @@ use Rattle.laws.proofs.Counts.{numbers, lists}
 map_at : (f g : ℕ → ℕ) (l : List ℕ) → map f l ≡ map g l → (t : ℕ) → In t l → f t ≡ g t
 map_at f g (x ∷ l) e t (inl q) = rw q (ap (λ (r : List ℕ). get_or r 0 0) e)
 map_at f g (x ∷ l) e t (inr m) = map_at f g l (ap tail e) t m
+map_at f g [] e t x'' = elim x'' [ ]
 
 -- Lists the types that a rank's list has for the elements es.
 abbrev pub look : List ℕ → List ℕ → List ℕ

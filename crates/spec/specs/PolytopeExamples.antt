@@ -22,9 +22,12 @@ lone_chain = record { elements = elements; comparable = comparable }
   where
     elements : (F : Element) → In F (least_element ∷ []) → IsElement square F
     elements F (inl q) = rw q (omega arith, lit< tt)
+    elements F (inr x') = elim x' [ ]
 
     comparable : (F G : Element) → In F (least_element ∷ []) → In G (least_element ∷ []) → Comparable square F G
     comparable F G (inl q) (inl p) = rw (q, p) (inl itself)
+    comparable F G (inl q) (inr x') = elim x' [ ]
+    comparable F G (inr x') p = elim x' [ ]
 
 -- So the empty chain is not maximal.
 pub not_maximal : ¬ IsMaximal square []
