@@ -1,4 +1,6 @@
 // This crate has the numbers of document 01, section 1: 64-bit floats, each operation rounded once; the tolerance, the root and vectors.
+#![tactic(auto)]
+
 pub mod bits;
 pub mod root;
 pub mod tolerance;

@@ -1,5 +1,3 @@
--- `float::root::short_root` meets its contract. The invariant of its loop is that `root` is the root of the digits brought down, in as many digits as
--- turns are done, and that `rest` is what its square leaves of them. Assumes nothing.
 use mathlib.Core.Path.{◌≡◌, refl, sym, ap, ◌∙◌, subst}
 use mathlib.Core.Logic.{◌⊎◌, inl, inr}
 use Prim.Native.Nat.{ℕ, suc, ◌+◌, ◌-◌, ◌*◌, ◌/◌, ◌%◌, ◌^◌, ◌≤◌, ◌<◌}
@@ -9,18 +7,9 @@ use native.Mathlib.Omega.{arith}
 use lib.Pow.{shr-shr, shr_le}
 use Rattle.spec.specs.Float.{root_down}
 use Rattle.float.proofs.root.Digits.{Root, digit-one, digit-zero, parts-le}
-use Rattle.float.proofs.root.short_root.Statement.{statement}
-use Rattle.float.proofs.root.short_root.Tie as tie
-
--- These are the digits that are down after i turns.
-abbrev Brought : ℕ → ℕ → ℕ
-Brought n i = n / 2 ^ (54 - 2 * i)
-
-abbrev invariant-loop : tie.invariant-loop
-invariant-loop n root₀ rest₀ done₀ root rest done = (done ≤ 27) × Root done (Brought n done) root rest
-
-abbrev decreases-loop : tie.decreases-loop
-decreases-loop n root₀ rest₀ done₀ root rest done = 27 - done
+use Rattle.float.proofs.root.short_root.Goals.{In-loop-done}
+use Rattle.float.proofs.root.short_root.Invariants.{Brought}
+use Rattle.float.proofs.root.short_root.Goals as goal
 
 first : (n : ℕ) → n < 2 ^ 54 → Root 0 (Brought n 0) 0 0
 unfolding root_down
@@ -55,8 +44,8 @@ last n i q c h k r =
     let e : i ≡ 27 = omega arith in
     subst (λ (a : ℕ). Root 27 a q c) (div-one n) (subst (λ (j : ℕ). Root j (Brought n j) q c) e r)
 
-bounds : (c : tie.In-loop invariant-loop decreases-loop) → (c.before.loop.root < 2 ^ 54) × (c.before.loop.rest < 2 ^ 54)
-bounds c = small _ _ _ _ c.before.before.requires c.before.loop.invariant.1
+bounds : (c : In-loop-done) → (c.loop-done.root < 2 ^ 54) × (c.loop-done.rest < 2 ^ 54)
+bounds c = small _ _ _ _ c.requires c.loop-done.invariant.1
 
 -- This is what `at_most` answers of the test that a digit goes by.
 abbrev Digit : ℕ → ℕ → ℕ → Type 0
@@ -71,29 +60,35 @@ next : (n i q c d : ℕ) → i < 27 → Root i (Brought n i) q c → Digit (4 * 
 next n i q c d h r (inl (e, l)) = one n i q c h r _ _ l (ap (λ (x : ℕ). 2 * q + x) e) (rw e (omega arith))
 next n i q c d h r (inr (e, l)) = nought n i q c h r _ _ l (rw e (omega arith)) (rw e (omega arith))
 
-loop-again : tie.Need-loop-preserved invariant-loop decreases-loop
-loop-again c = next _ _ _ _ _ c.before.loop-test.true c.before.before.loop.invariant.1 c.at_most.ensures
+pub loop-done-init : goal.loop-done-init
+loop-done-init c = (omega arith, first c.args.n c.requires)
 
-pub short-root-spec : {M : Type 1} → statement M
-short-root-spec =
-    tie.close
-    (tie.spec
-    invariant-loop
-    decreases-loop
-    (λ c. (omega arith, first c.args.n c.requires))
-    (λ c. omega (arith, bounds c))
-    (λ c. omega arith)
-    (λ c. omega arith)
-    (λ c. omega arith)
-    (λ c. omega (arith, bounds c))
-    (λ c. omega (arith, bounds c))
-    (λ c. omega (arith, bounds c))
-    (λ c κs. tt)
-    (λ c. omega (arith, bounds c.before, digit-le _ _ _ c.at_most.ensures))
-    (λ c. omega (arith, bounds c.before, digit-le _ _ _ c.at_most.ensures))
-    (λ c. omega (arith, bounds c.before))
-    (λ c. omega (arith, bounds c.before, digit-le _ _ _ c.at_most.ensures))
-    (λ c. omega arith)
-    (λ c. omega arith)
-    loop-again
-    (λ c. last _ _ _ _ c.before.loop.invariant.0 c.loop-test.false c.before.loop.invariant.1))
+pub overflow_mul-with : goal.overflow_mul-with
+overflow_mul-with c = omega (arith, bounds c)
+
+pub overflow_add-with : goal.overflow_add-with
+overflow_add-with c = omega (arith, bounds c)
+
+pub overflow_mul-odd : goal.overflow_mul-odd
+overflow_mul-odd c = omega (arith, bounds c)
+
+pub overflow_add-odd : goal.overflow_add-odd
+overflow_add-odd c = omega (arith, bounds c)
+
+pub overflow_mul-rest : goal.overflow_mul-rest
+overflow_mul-rest c = omega (arith, bounds c.before, digit-le _ _ _ c.at_most-digit.ensures)
+
+pub overflow_sub-rest : goal.overflow_sub-rest
+overflow_sub-rest c = omega (arith, bounds c.before, digit-le _ _ _ c.at_most-digit.ensures)
+
+pub overflow_mul-root : goal.overflow_mul-root
+overflow_mul-root c = omega (arith, bounds c.before)
+
+pub overflow_add-root : goal.overflow_add-root
+overflow_add-root c = omega (arith, bounds c.before, digit-le _ _ _ c.at_most-digit.ensures)
+
+pub loop-done-preserved : goal.loop-done-preserved
+loop-done-preserved c = next _ _ _ _ _ c.loop-done-test.true c.loop-done.invariant.1 c.at_most-digit.ensures
+
+pub returns : goal.returns
+returns c = last _ _ _ _ c.loop-done.invariant.0 c.loop-done-test.false c.loop-done.invariant.1

@@ -1,0 +1,31 @@
+use mathlib.Core.Path.{refl, ◌∙◌}
+use mathlib.Core.List.{List}
+use Prim.Native.Nat.{ℕ, ◌≤◌, ◌-◌}
+use native.Mathlib.Omega.{arith}
+use lib.ListN.{get_or, length, replicate}
+use lib.Seq.{take-length}
+use lib.Ieee.{Float, nan, of_bits}
+use borrow.Author.Rules.{rules}
+use Rattle.spec.specs.Limits.{max_dimension}
+use Rattle.spec.specs.Float.{zero_f}
+use Rattle.float.specs.Reading.{padded}
+use Rattle.float.proofs.Written.{Written, none, next, copied}
+use Rattle.float.proofs.vector.load.Invariants.{cells}
+use Rattle.float.proofs.vector.load.Goals as goal
+
+pub loop-i-init : goal.loop-i-init
+unfolding of_bits zero_f
+loop-i-init c = (search rules, none)
+
+pub loop-i-preserved : goal.loop-i-preserved
+loop-i-preserved c =
+    let l = c.loop-i in
+    (search rules, next _ (omega arith) refl l.invariant.1)
+
+pub returns : goal.returns
+unfolding padded
+returns c =
+    let l = c.loop-i in
+    let p = c.args.p.now in
+    copied p l.r nan zero_f max_dimension l.i (length p) (omega arith) l.invariant.0 c.loop-i-test.false l.invariant.1
+    ∙ rw take-length
