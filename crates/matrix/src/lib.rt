@@ -1,5 +1,7 @@
 // This crate has matrices of a dimension d up to DIMENSION, as rows of rows. Of an argument, the first d entries of the first d rows are read. In a
 // result, every other cell holds 0.0.
+#![tactic(auto)]
+
 ghost use Rattle.std.specs.Prelude.{◌≡◌, map, ◌≤◌, ◌<◌, take, get_or};
 ghost use Rattle.spec.specs.Limits.{max_dimension};
 ghost use Rattle.spec.specs.Float.{zero_f};

@@ -1,0 +1,80 @@
+use mathlib.Core.Path.{◌≡◌, sym, ap, ◌∙◌}
+use mathlib.Core.Option.{some}
+use Prim.Native.Nat.{◌+◌, ◌≤◌, ◌-◌}
+use native.Mathlib.Omega.{arith}
+use lib.ListN.{length}
+use lib.Ieee.{of_bits}
+use borrow.Author.Rules.{rules}
+use Rattle.spec.specs.Float.{zero_f, one_f}
+use Rattle.spec.specs.Matrix.{entry}
+use Rattle.matrix.specs.Reading.{leading, padded_rows, if_regular, inverse_cells}
+use Rattle.matrix.proofs.Leading.{entry-leading}
+use Rattle.matrix.proofs.Columns.{ColumnsDone, first, stop, next, inverse-none, determinant-none, inverse-end, determinant-end}
+use Rattle.matrix.proofs.elimination.eliminate.Goals.{After-entry-x, Start}
+use Rattle.matrix.proofs.elimination.eliminate.Goals as goal
+
+long : (c : Start) → c.args.d ≤ length c.args.m
+long c = search rules
+
+-- The pivot is as it stands in the leading part.
+pivot-is : (c : After-entry-x) →
+    let l = c.before.before.before in
+    let d = l.args.d in
+    c.entry-x.result ≡ entry (leading d (d + d) l.loop-c.rows) c.pivot_row-p.result l.loop-c.c
+pivot-is c =
+    let l = c.before.before.before in
+    let d = l.args.d in
+    c.entry-x.ensures
+    ∙ sym (entry-leading d (d + d) l.loop-c.rows c.pivot_row-p.result l.loop-c.c c.pivot_row-p.ensures.1 (omega arith))
+
+pub loop-c-init : goal.loop-c-init
+unfolding of_bits one_f
+loop-c-init c = (search rules, first _ _)
+
+pub returns-then-x : goal.returns-then-x
+unfolding of_bits zero_f padded_rows if_regular inverse_cells
+returns-then-x c =
+    let e = c.before in
+    let l = e.before.before.before in
+    let s = l.before.before in
+    let h = e.loop-c-test.true in
+    let z = stop l.loop-c.invariant.1 h _ _ e.pivot_row-p.ensures.0 (pivot-is e) c.if-x.true in
+    let i = inverse-none s.args.d s.args.m (long s) _ l.beside_identity-rows.ensures z in
+    (i, ap inverse_cells i, determinant-none s.args.d s.args.m (long s) _ l.beside_identity-rows.ensures z)
+
+pub loop-c-preserved : goal.loop-c-preserved
+unfolding of_bits zero_f
+loop-c-preserved c =
+    let f = c.before.before.before in
+    let e = f.before in
+    let l = e.before.before.before in
+    let h = e.loop-c-test.true in (
+      search rules,
+      next
+          l.loop-c.invariant.1
+          h
+          _
+          _
+          e.pivot_row-p.ensures.0
+          (pivot-is e)
+          _
+          _
+          _
+          f.if-x.false
+          c.column-next.ensures
+          c.multiplied-t.ensures
+          c.parity-odd.ensures,
+    )
+
+pub returns : goal.returns
+unfolding if_regular inverse_cells
+returns c =
+    let g = c.before in
+    let l = g.before.before in
+    let s = l.before.before in
+    let k = g.loop-c-test.false in
+    let i = inverse-end s.args.d s.args.m (long s) _ l.beside_identity-rows.ensures k l.loop-c.invariant.1 in (
+      ap some c.right_halves.ensures.1 ∙ i,
+      c.right_halves.ensures.0 ∙ ap inverse_cells i,
+      g.signed.ensures ∙ determinant-end s.args.d s.args.m (long s) _ l.beside_identity-rows.ensures k l.loop-c.invariant.1,
+    )

@@ -1,0 +1,10 @@
+-- Each of the two cases of the test is a case of the definition.
+-- Assumes nothing.
+use borrow.Author.Tests.{eq-eqb, ne_eqb}
+use Rattle.matrix.proofs.elimination.multiplied.Goals as goal
+
+pub returns-then-c-eq0 : goal.returns-then-c-eq0
+returns-then-c-eq0 c = rw (eq-eqb _ _ c.if-c-eq0.true)
+
+pub returns : goal.returns
+returns c = rw (ne_eqb _ _ c.if-c-eq0.false)

@@ -1,0 +1,29 @@
+use mathlib.Core.Path.{◌≡◌, ap, ◌∙◌}
+use mathlib.Core.List.{map}
+use Prim.Native.Nat.{◌≤◌, ◌-◌}
+use native.Mathlib.Omega.{arith}
+use lib.ListN.{get_or, length}
+use lib.Ieee.{of_bits}
+use borrow.Author.Rules.{rules}
+use Rattle.spec.specs.Limits.{max_dimension}
+use Rattle.spec.specs.Float.{zero_f}
+use Rattle.float.specs.Reading.{padded}
+use Rattle.matrix.specs.Reading.{corner, padded_rows}
+use Rattle.float.proofs.Written.{Written, none, next}
+use Rattle.matrix.proofs.Corner.{columns-corner}
+use Rattle.matrix.proofs.Padded.{padded-rows_table}
+use Rattle.matrix.proofs.from_columns.Goals as goal
+
+pub loop-i-init : goal.loop-i-init
+loop-i-init c = (search rules, none)
+
+pub loop-i-preserved : goal.loop-i-preserved
+loop-i-preserved c = (search rules, next _ (omega arith) c.column_of.ensures c.loop-i.invariant.1)
+
+pub returns : goal.returns
+unfolding of_bits zero_f
+returns c =
+    let s = c.before.before in
+    let h : length s.args.c ≡ max_dimension = search rules in
+    padded-rows_table _ _ _ s.args.d c.loop-i.invariant.0 c.loop-i-test.false c.loop-i.invariant.1
+    ∙ ap padded_rows (columns-corner s.args.d s.args.c (omega arith))

@@ -1,0 +1,34 @@
+use mathlib.Core.Path.{◌≡◌, ap, ◌∙◌}
+use mathlib.Core.List.{[]}
+use Prim.Native.Nat.{◌≤◌, ◌-◌}
+use native.Mathlib.Omega.{arith}
+use lib.ListN.{get_or, take, length}
+use lib.Ieee.{of_bits}
+use borrow.Author.Rules.{rules}
+use Rattle.spec.specs.Limits.{max_dimension}
+use Rattle.spec.specs.Float.{zero_f, dot}
+use Rattle.spec.specs.Matrix.{mul_vec}
+use Rattle.float.specs.Reading.{padded}
+use Rattle.float.proofs.Written.{Written, none, next}
+use Rattle.matrix.proofs.Corner.{over-corner}
+use Rattle.float.proofs.Padded.{padded_table}
+use Rattle.matrix.proofs.image.Goals.{At-loop-i, Start}
+use Rattle.matrix.proofs.image.Goals as goal
+
+pub loop-i-init : goal.loop-i-init
+loop-i-init c = (search rules, none)
+
+pub loop-i-preserved : goal.loop-i-preserved
+loop-i-preserved c =
+    let s = (goal.at.loop-i-preserved c).At-loop-i in
+    (search rules, next _ (omega arith) c.dot_of.ensures s.loop-i.invariant.1)
+
+pub returns : goal.returns
+unfolding mul_vec of_bits zero_f
+returns c =
+    let s = (goal.at.returns c).Start in
+    let m = s.args.m in
+    let d = s.args.d in
+    let h : length m ≡ max_dimension = search rules in
+    padded_table _ _ _ d c.loop-i.invariant.0 c.loop-i-test.false c.loop-i.invariant.1
+    ∙ ap padded (over-corner (λ x. dot x (take d s.args.v)) d m (omega arith))
