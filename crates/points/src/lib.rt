@@ -1,5 +1,7 @@
 // This crate has points in a lent slice, d floats each, and finds one among them: "within EPS, EPS included, of a vertex on every axis (lowest number
 // taken)".
+#![tactic(auto)]
+
 ghost use Rattle.std.specs.Prelude.{◌≡◌, ◌+◌, ◌*◌, ◌≤◌, ◌<◌, length, get_or, take, drop};
 ghost use Rattle.spec.specs.Limits.{max_dimension};
 ghost use Rattle.spec.specs.Float.{in_range};

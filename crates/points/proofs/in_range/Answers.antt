@@ -4,12 +4,8 @@ use lib.Ieee.{of_bits}
 use borrow.Author.Rules.{rules}
 use Rattle.spec.specs.Limits.{max_magnitude}
 use Rattle.points.proofs.Nearness.{in_range_is}
-use Rattle.points.proofs.in_range.Statement.{statement}
-use Rattle.points.proofs.in_range.Tie as tie
+use Rattle.points.proofs.in_range.Goals as goal
 
-returns : tie.Need-returns
+pub returns : goal.returns
 unfolding of_bits max_magnitude
 returns c = rw c.magnitude.ensures (in_range_is _)
-
-pub in-range-spec : {M : Type 1} → statement M
-in-range-spec = tie.close (tie.spec (λ c κs. search rules) returns)

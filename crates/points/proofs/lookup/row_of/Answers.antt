@@ -1,0 +1,108 @@
+use mathlib.Core.Path.{◌≡◌, refl, sym, ap, ◌∙◌}
+use mathlib.Core.List.{List, [], ◌∷◌}
+use Prim.Native.Nat.{ℕ, ◌≤◌, ◌<◌, ◌-◌}
+use native.Mathlib.Omega.{arith}
+use lib.ListN.{length, get_or, length-set}
+use borrow.Author.Rules.{rules}
+use Rattle.spec.specs.Limits.{max_dimension}
+use Rattle.spec.specs.Matrix.{Vector, mul_vec}
+use Rattle.spec.specs.Points.{find, row_of}
+use Rattle.spec.specs.Lists.{parts}
+use Rattle.laws.proofs.CopyLaws.{not_found}
+use Rattle.matrix.specs.Reading.{corner}
+use Rattle.points.specs.Finding.{found_at}
+use Rattle.matrix.proofs.Corner.{length-corner}
+use Rattle.matrix.proofs.Padded.{take-image}
+use Rattle.points.proofs.Parts.{length-parts, part_at, part_end}
+use Rattle.points.proofs.Finding.{at-number, is_missing}
+use Rattle.points.proofs.Filled.{CellsFilled, Piece, filled_none, filled_next, filled_open, filled_end, cell, cell_set, cell_is, length-row, one_held, one-other}
+use Rattle.points.proofs.lookup.row_of.Goals.{After-found, In-At, Start}
+use Rattle.points.proofs.lookup.row_of.Goals as goal
+
+-- This is the row over the points.
+abbrev whole : (c : After-found) → List ℕ
+whole c =
+    let a = c.args in
+    row_of (parts a.n a.d a.points.now) (corner a.d a.m)
+
+-- This is the number of point k's image.
+abbrev image_of : (c : After-found) → ℕ
+image_of c =
+    let a = c.args in
+    find (parts a.n a.d a.points.now) (mul_vec (corner a.d a.m) (get_or (parts a.n a.d a.points.now) c.loop-k.k []))
+
+-- The image of copy k is what the code looked for.
+image-is : (c : After-found) → found_at c.args.n (image_of c) ≡ c.found.result
+image-is c =
+    let a = c.args in
+    let l = c.loop-k in
+    let cs = parts a.n a.d a.points.now in
+    let m = corner a.d a.m in
+    let wide = c.requires.le_d.1 in
+    let long : length a.m ≡ max_dimension = search rules in
+    sym
+    (c.found.ensures
+    ∙ ap
+    (λ (q : Vector). found_at a.n (find cs q))
+    (take-image a.d m (length-corner a.d a.m (omega arith)) _ _ c.image-q.ensures ∙ ap (mul_vec m) (c.loaded.ensures ∙ sym (part_at a.n a.d a.points.now l.k c.loop-k-test.true))))
+
+-- The number of copy k's image is the row's cell k.
+piece : (c : After-found) → (x : ℕ) → x ≡ image_of c → Piece (whole c) c.loop-k.k 1 (x ∷ [])
+piece c x e =
+    let a = c.args in
+    let l = c.loop-k in
+    let h = c.loop-k-test.true in
+    let cs = parts a.n a.d a.points.now in
+    let m = corner a.d a.m in
+    let n = length-parts a.n a.d a.points.now in
+    cell (whole c) l.k x (omega (arith, h, n, length-row cs m)) (e ∙ sym (cell_is cs m l.k (omega (arith, h, n))))
+
+-- The number that is found is that of the image.
+number : (c : In-At) →
+    (let w = (goal.at.overflow_cast-row c).After-found in (image_of w ≡ c.in-At.at) × (c.in-At.at < w.args.n))
+number c = let w = (goal.at.overflow_cast-row c).After-found in at-number (image-is w ∙ c.in-At.is)
+
+pub loop-k-init : goal.loop-k-init
+loop-k-init c = (search rules, refl, filled_none)
+
+pub loaded-requires : goal.loaded-requires
+loaded-requires c =
+    let s = (goal.at.loaded-requires c).Start in
+    (s.requires.le_d.1, omega (arith, part_end s.args.n s.args.d c.loop-k.k c.loop-k-test.true, s.requires.le_d.3))
+
+pub returns-in-Nothing : goal.returns-in-Nothing
+returns-in-Nothing c =
+    let w = (goal.at.returns-in-Nothing c).After-found in
+    let a = w.args in
+    let l = w.loop-k in
+    let cs = parts a.n a.d a.points.now in
+    let n = length-parts a.n a.d a.points.now in
+    let q = mul_vec (corner a.d a.m) (get_or cs l.k []) in
+    let e : image_of w ≡ a.n = not_found cs q (is_missing cs q n (image-is w ∙ c.in-Nothing.is)) ∙ n in
+    filled_open l.invariant.2 (piece w (image_of w) refl) (one_held _ (image_of w) e) refl
+
+pub overflow_cast-row : goal.overflow_cast-row
+overflow_cast-row c =
+    let s = (goal.at.overflow_cast-row c).Start in
+    omega (arith, number c, s.requires.le_d.2)
+
+pub loop-k-preserved : goal.loop-k-preserved
+loop-k-preserved c =
+    let w = (goal.at.loop-k-preserved c).After-found in
+    let s = (goal.at.loop-k-preserved c).Start in
+    let l = w.loop-k in
+    let h = w.loop-k-test.true in
+    let at = c.in-At.at in
+    let i = number c in (
+      omega (arith, h),
+      simp length-set l.invariant.1,
+      filled_next l.invariant.2 (piece w at (sym i.0)) (one-other _ at (λ z. omega (arith, i.1))) (cell_set l.row l.k at (omega (arith, h, l.invariant.1, s.requires.le_d.4))),
+    )
+
+pub returns : goal.returns
+returns c =
+    let a = c.args in
+    let l = c.loop-k in
+    filled_end
+    (omega (arith, c.loop-k-test.false, length-row (parts a.n a.d a.points.now) (corner a.d a.m), length-parts a.n a.d a.points.now))
+    l.invariant.2
