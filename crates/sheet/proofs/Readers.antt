@@ -49,9 +49,9 @@ after a (passed x) = passed (a ∷ x.0, x.1)
 
 then-after : {A : Type 0} (r : Reader (List A)) (a : A) (i : ℕ) → (r >>= λ l. done (a ∷ l)) i ≡ after a (r i)
 unfolding ◌>>=◌ done after
-then-after r a i = go (r i)
+then-after {A = A} r a i = go (r i)
   where
-    go : (o : Judged (List _ × ℕ)) → elim o as (λ z. Judged (List _ × ℕ)) [ refused why ↦ refused why | passed x ↦ passed (a ∷ x.0, x.1) ] ≡ after a o
+    go : (o : Judged (List A × ℕ)) → elim o as (λ z. Judged (List A × ℕ)) [ refused why ↦ refused why | passed x ↦ passed (a ∷ x.0, x.1) ] ≡ after a o
     go (refused why) = refl
     go (passed x) = refl
 
