@@ -11,7 +11,7 @@ use float::DIMENSION;
 use points::Found;
 
 // This says how many copies there are, or is the answer that there is no room for them all.
-#[derive(Drop)]
+#[derive(Clone, Copy)]
 pub enum CopyRoom {
     Fits(usize),
     Full,

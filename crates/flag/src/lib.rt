@@ -16,13 +16,13 @@ use spec::MAX_RANK;
 pub const RANKS: usize = MAX_RANK + 1;
 
 // "A flag has one element a rank", listed by rank from 0 to the solid's R. The cells past R are not read.
-#[derive(Drop)]
+#[derive(Clone, Copy)]
 pub struct Flag {
     pub elements: [usize; RANKS],
 }
 
 // This says whether there is a flag after the given one.
-#[derive(Drop)]
+#[derive(Clone, Copy)]
 pub enum Advance {
     More,
     Ended,
@@ -30,14 +30,14 @@ pub enum Advance {
 
 // This is the answer whether there is a flag after the given one, and beside it that flag, where there is one. An enum that held the flag's array
 // would leave every function over it to a proof by hand.
-#[derive(Drop)]
+#[derive(Clone, Copy)]
 pub struct Next {
     pub advance: Advance,
     pub flag: Flag,
 }
 
 // This is what a look for an element other than a given one finds: that element, or nothing.
-#[derive(Drop)]
+#[derive(Clone, Copy)]
 enum Other {
     Element(usize),
     Nothing,

@@ -9,14 +9,14 @@ ghost use Rattle.spec.specs.Root.{in_units};
 const INFINITY: u64 = 0x7ff0_0000_0000_0000;
 
 // These are the whole part of a number's root, and what its square leaves of the number.
-#[derive(Drop)]
+#[derive(Clone, Copy)]
 struct Whole {
     root: u64,
     rest: u64,
 }
 
 // This is the number digits * 2^zeros.
-#[derive(Drop)]
+#[derive(Clone, Copy)]
 struct Scaled {
     digits: u64,
     zeros: u64,

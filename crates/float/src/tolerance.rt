@@ -4,7 +4,7 @@ ghost use Rattle.std.specs.Float.Ieee.{le};
 ghost use Rattle.spec.specs.Float.{eps, abs_f};
 
 // This is the type that the constant belongs to.
-#[derive(Drop)]
+#[derive(Clone, Copy)]
 pub struct Tolerance {}
 
 impl Tolerance {

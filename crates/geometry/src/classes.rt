@@ -7,14 +7,14 @@ use float::tolerance;
 use float::tolerance::Tolerance;
 
 // This is what a distance finds in the list: a listed value, or nothing.
-#[derive(Drop)]
+#[derive(Clone, Copy)]
 pub enum Nearest {
     Listed(f64),
     Nothing,
 }
 
 // These are the value that a distance takes, and the length of the list afterwards.
-#[derive(Drop)]
+#[derive(Clone, Copy)]
 pub struct ListedValue {
     pub value: f64,
     pub count: usize,

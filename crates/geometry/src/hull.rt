@@ -13,7 +13,7 @@ use float::{DIMENSION, vector};
 const ROOM: usize = DIMENSION * DIMENSION;
 
 // "The hull holds an offset (first vertex) and a basis of floats." The first `count` vectors of the basis are there.
-#[derive(Drop)]
+#[derive(Clone, Copy)]
 pub struct Hull {
     pub offset: [f64; DIMENSION],
     pub basis: [f64; ROOM],
@@ -21,7 +21,7 @@ pub struct Hull {
 }
 
 // This is what adding a point answers: either a vector joined the basis, which had this length before it was divided by it, or nothing joined.
-#[derive(Drop)]
+#[derive(Clone, Copy)]
 pub enum Joined {
     Length(f64),
     Nothing,
@@ -29,7 +29,7 @@ pub enum Joined {
 
 // This is the hull after adding, with the answer beside it. An enum that held the hull's arrays would leave every function over it to a proof by
 // hand.
-#[derive(Drop)]
+#[derive(Clone, Copy)]
 pub struct Added {
     pub hull: Hull,
     pub joined: Joined,

@@ -16,7 +16,7 @@ use spec::MAX_MAGNITUDE;
 pub mod lookup;
 
 // This is what a look for a number finds: that number, or nothing.
-#[derive(Drop)]
+#[derive(Clone, Copy)]
 pub enum Found {
     At(usize),
     Nothing,

@@ -19,7 +19,7 @@ mod check;
 pub mod store;
 
 // This is the verdict, and for an accepted sheet how its solid lies in the workspace.
-#[derive(Drop)]
+#[derive(Clone, Copy)]
 pub struct Ready {
     pub verdict: Verdict,
     pub shape: Shape,

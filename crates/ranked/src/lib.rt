@@ -18,7 +18,7 @@ pub const ELEMENTS: usize = MAX_PROPER + 2;
 
 // This says how the words are laid out. An element is known by its rank r and its number e in it, or by its number over all ranks, first[r] + e. Word
 // 4 * g is where the list of g's subs starts, the next word its length; the two words after them say the same of its sups.
-#[derive(Drop)]
+#[derive(Clone, Copy)]
 pub struct Shape {
     pub rank: usize,
     pub dimension: usize,

@@ -9,7 +9,7 @@ ghost use Rattle.search.specs.Both.{BothCalls};
 use spec::Answer;
 
 // This is what the types call answered, and what the search or rotations call answered.
-#[derive(Drop)]
+#[derive(Clone, Copy)]
 pub struct Answers {
     pub types: Answer,
     pub members: Answer,

@@ -19,7 +19,7 @@ use ranked::Shape;
 use symmetry::candidates::{all_finite, vertex_sequence};
 
 // This is the first facet that is further than EPS from the origin, or the answer that there is none.
-#[derive(Drop)]
+#[derive(Clone, Copy)]
 pub enum Far {
     Facet(usize),
     Nothing,

@@ -20,7 +20,7 @@ use spec::{
 
 // This is what a sheet says beside its coordinates and lists: R, D, the counts of ranks 1 to R - 1 and zeros after them, the sum of the counts (E)
 // and the number of list entries (I).
-#[derive(Drop)]
+#[derive(Clone, Copy)]
 pub struct Header {
     pub rank: usize,
     pub dimension: usize,
@@ -30,21 +30,21 @@ pub struct Header {
 }
 
 // The header is all zeros where the sheet is refused.
-#[derive(Drop)]
+#[derive(Clone, Copy)]
 pub struct Judgement {
     pub verdict: Verdict,
     pub header: Header,
 }
 
 // This says where a reading ends: the bit at which the next field starts, or a refusal.
-#[derive(Drop)]
+#[derive(Clone, Copy)]
 enum Place {
     At(usize),
     Refused(Refusal),
 }
 
 // This says where the reading of the counts ends, with the counts read and their sum; these are zeros where the sheet is refused.
-#[derive(Drop)]
+#[derive(Clone, Copy)]
 struct CountsRead {
     place: Place,
     counts: [usize; PROPER_RANKS],
@@ -52,7 +52,7 @@ struct CountsRead {
 }
 
 // This says where the reading of lists ends, with the number of their entries.
-#[derive(Drop)]
+#[derive(Clone, Copy)]
 enum ListsRead {
     At(usize, usize),
     Refused(Refusal),

@@ -30,7 +30,7 @@ pub const MAX_WORDS: usize = 16 * (MAX_PROPER + MAX_STORED + 4);
 pub const MAX_FLOATS: usize = 8 * (MAX_PROPER + 8);
 
 // A refusal is named by its word in the table.
-#[derive(Drop)]
+#[derive(Clone, Copy)]
 pub enum Refusal {
     CutSheet,
     Format,
@@ -50,7 +50,7 @@ pub enum Refusal {
 }
 
 // A judgement accepts what it judges, or it refuses it.
-#[derive(Drop)]
+#[derive(Clone, Copy)]
 pub enum Verdict {
     Accepted,
     Refused(Refusal),
@@ -58,7 +58,7 @@ pub enum Verdict {
 
 // Either the call is done, and the number says how many types, members or copies there are; or it is refused, and the number says how many
 // members or points were kept.
-#[derive(Drop)]
+#[derive(Clone, Copy)]
 pub enum Answer {
     Done(usize),
     Refused(Refusal, usize),

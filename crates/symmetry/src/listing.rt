@@ -22,7 +22,7 @@ use ranked::Shape;
 use spec::MAX_COUNT;
 
 // This is what trying a flag came to: it gives no member that is listed, its member was written, or there is no room for it.
-#[derive(Drop)]
+#[derive(Clone, Copy)]
 pub enum Tried {
     Skipped,
     Added,
@@ -30,7 +30,7 @@ pub enum Tried {
 }
 
 // This says how many members are listed, and whether one more had no room.
-#[derive(Drop)]
+#[derive(Clone, Copy)]
 pub struct Members {
     pub count: usize,
     pub short: bool,
@@ -49,7 +49,7 @@ impl Members {
 
 // This is one turn of the search: the flag that is tried, the first flag, which it is compared with, whether rotations alone are listed, and how many
 // marks are left for members. The inverse goes beside it, since a field that is an array of arrays would leave every function over it to a proof by hand.
-#[derive(Drop)]
+#[derive(Clone, Copy)]
 struct Trial {
     shape: Shape,
     first: Flag,

@@ -7,7 +7,7 @@ use ranked::Shape;
 
 // This says how the sweeps ended: one of them left the number of types unchanged, or all that are allowed were done and the types were still
 // changing.
-#[derive(Drop)]
+#[derive(Clone, Copy)]
 pub enum Ending {
     Settled,
     Changing,
