@@ -1,5 +1,6 @@
 // This crate has solids as lists at offsets in lent words (abs/ranked.rs, abs/mod.rs): the shape of the workspace, the accessors over the lists, and
 // the vertices of an element.
+#![tactic(auto)]
 
 ghost use Rattle.std.specs.Prelude.{◌≡◌, ℕ, suc, ◌+◌, ◌*◌, ◌^◌, ◌≤◌, ◌<◌, length};
 ghost use Rattle.spec.specs.Limits.{max_rank, max_starts};

@@ -1,0 +1,37 @@
+-- `ranked::Shape::sub_entries` meets its contract. Assumes nothing.
+use mathlib.Core.Path.{◌≡◌, sym}
+use borrow.Author.Rules.{rules}
+use native.Mathlib.Omega.{arith}
+use Prim.Native.Nat.{◌+◌, ◌-◌, ◌^◌, ◌<◌}
+use Rattle.ranked.specs.Words.{size_at}
+use Rattle.ranked.specs.Layout.{sub_entries}
+use Rattle.ranked.proofs.Low.{entries_0, entries_1, entries_some, entries_small, last_fits}
+use Rattle.ranked.proofs.Shape.sub_entries.Goals.{After-vertices}
+use Rattle.ranked.proofs.Shape.sub_entries.Goals as goal
+
+-- What is summed at the end.
+module _ (v : After-vertices) where
+  parts : sub_entries v.args.self v.args.entries
+      ≡ size_at v.args.self 1 + v.args.entries + size_at v.args.self (v.args.self.rank - 1)
+  parts = entries_some v.args.self v.args.entries v.if-self-eq0.false v.if-self-eq1.false
+
+  few : sub_entries v.args.self v.args.entries < 2 ^ 34
+  few = entries_small v.args.self v.args.entries v.requires.rank_le_max_rank v.requires.by_index
+
+pub returns-then-self-eq0 : goal.returns-then-self-eq0
+returns-then-self-eq0 c = sym (entries_0 c.args.self _ c.if-self-eq0.true)
+
+pub returns-then-self-eq1 : goal.returns-then-self-eq1
+returns-then-self-eq1 c = sym (entries_1 c.args.self _ c.if-self-eq1.true)
+
+pub overflow_add-result : goal.overflow_add-result
+overflow_add-result c = omega (arith, c.vertices.ensures, parts c, few c)
+
+pub size-requires : goal.size-requires
+size-requires c = last_fits c.args.self _ c.requires.rank_le_max_rank c.requires.by_index
+
+pub overflow_add-result-2 : goal.overflow_add-result-2
+overflow_add-result-2 c = omega (arith, c.vertices.ensures, c.size.ensures, parts (goal.at.overflow_add-result-2 c).After-vertices, few (goal.at.overflow_add-result-2 c).After-vertices)
+
+pub returns : goal.returns
+returns c = omega (arith, c.vertices.ensures, c.size.ensures, parts (goal.at.returns c).After-vertices)
