@@ -15,6 +15,7 @@ use Rattle.ranked.specs.Words.{abs_in, Held}
 use Rattle.flag.specs.Reading.{Follows, Nth}
 
 some_in : {A : Type 0} (x : A) (l : List A) → In x l → 0 < length l
+some_in {A = A} x [] m = elim m [ ]
 some_in x (y ∷ l) m = omega arith
 
 module _ (sh : Shape) (w : List ℕ) (h : Held sh w) where

@@ -1,5 +1,7 @@
 // This crate has section 5 of document 01 (abs/flag.rs): the first flag of a solid that lies in lent words, the flag after a given one, and a change
 // at a rank.
+#![tactic(auto)]
+
 ghost use Rattle.std.specs.Prelude.{◌≡◌, ◌++◌, suc, ◌+◌, ◌-◌, ◌≤◌, ◌<◌, get_or, take, drop};
 ghost use Rattle.spec.specs.Types.{subs};
 ghost use Rattle.spec.specs.Solid.{between};

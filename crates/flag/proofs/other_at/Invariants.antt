@@ -1,0 +1,27 @@
+-- What is left of the list gives what the whole gives.
+-- Assumes nothing.
+use borrow.Author.Rules.{rules}
+use native.Mathlib.Omega.{arith}
+use mathlib.Core.Path.{◌≡◌, refl, sym, ap, ◌∙◌}
+use mathlib.Core.Bool.{Bool}
+use mathlib.Core.Option.{some}
+use mathlib.Core.List.{List}
+use Prim.Native.Nat.{ℕ, ◌+◌, ◌*◌, ◌≤◌, ◌-◌}
+use lib.ListN.{length}
+use lib.Dec.{eqb}
+use Rattle.spec.specs.Lists.{holds}
+use Rattle.ranked.specs.Words.{list_at}
+use Rattle.ranked.specs.Reading.{Lies, holding}
+use Rattle.ranked.proofs.Turns.{entry_in}
+use Rattle.flag.specs.Reading.{other_of}
+use Rattle.flag.proofs.Flags.{OtherFrom, other-kept, other_no, other_yes, other-end}
+use Rattle.flag.proofs.other_at.Given as goal
+
+abbrev pub p : List ℕ → ℕ → ℕ → ℕ → Bool
+p w base x y = holds eqb x (list_at w (base + 4 * y))
+
+abbrev pub invariant-loop-k : goal.invariant-loop-k
+invariant-loop-k l = (l.k ≤ l.n) × (l.n ≡ length (list_at l.lists l.word)) × OtherFrom l.e (p l.lists l.base l.x) (list_at l.lists l.word) l.k
+
+abbrev pub decreases-loop-k : goal.decreases-loop-k
+decreases-loop-k l = l.n - l.k
