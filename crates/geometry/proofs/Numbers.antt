@@ -99,6 +99,7 @@ module _ {A : Type 0} (same : A → A → Bool) (laws : Partial same) where
   -- ---- what the list of distinct elements holds
 
   holds-member : (k : A) (l : List A) → same k k ≡ true → In k l → holds same k l ≡ true
+  holds-member k [] e x'' = elim x'' [ ]
   holds-member k (x ∷ l) e (inl p) = holds_yes same k x l (ap (λ (y : A). same y k) (sym p) ∙ e)
   holds-member k (x ∷ l) e (inr m) = go (same x k) refl (holds-member k l e m)
     where

@@ -1,5 +1,7 @@
 // This crate judges refusals 1 to 7 of a sheet, and stores the solid of a sheet in lent words and floats. "Fields are judged as they come .., then 1
 // for the end, 7, 5, 6."
+#![tactic(auto)]
+
 ghost use Rattle.std.specs.Prelude.{◌≡◌, true, ◌&&◌, ◌+◌, ◌*◌, ◌^◌, ◌<◌, length, leb};
 ghost use Rattle.spec.specs.Judged.{passed};
 ghost use Rattle.spec.specs.Sheet.{read_sheet};

@@ -30,9 +30,11 @@ use Rattle.geometry.specs.Reading.{point_at}
 
 join_in : (g : ℕ → List ℕ) (t x : ℕ) (l : List ℕ) → In x l → In t (g x) → In t (join (map g l))
 unfolding join
+join_in g t x [] x3 h = elim x3 [ ]
 join_in g t x (y ∷ l) (inl e) h = left (g y) (rw (← e) h)
   where
     left : (a : List ℕ) → In t a → In t (a ++ join (map g l))
+    left [] x5 = elim x5 [ ]
     left (u ∷ a) (inl q) = inl q
     left (u ∷ a) (inr q) = inr (left a q)
 join_in g t x (y ∷ l) (inr m) h = right (g y) (join_in g t x l m h)
@@ -61,6 +63,7 @@ module _ (s : Solid) (sound : Sound s) (filled : (r e : ℕ) → e < size s (suc
       filled_by q.0 (vertices s (suc r) e) (keep_in (λ v. holds eqb v l) q.0 (range 0 (size s 1)) (in_range_lem 0 (size s 1) q.0 (omega arith) (omega (arith, q.2))) (holds_in q.0 l q.1))
     where
       filled_by : (t : ℕ) (l : List ℕ) → In t l → 0 < length l
+      filled_by t [] m = elim m [ ]
       filled_by t (x ∷ l) m = omega arith
 
 vertex_below : (s : Solid) (r e v : ℕ) → In v (vertices s r e) → v < size s 1

@@ -1,0 +1,31 @@
+use mathlib.Core.Path.{◌≡◌, refl, ◌∙◌}
+use Prim.Native.Nat.{◌≤◌, ◌-◌}
+use native.Mathlib.Omega.{arith}
+use lib.ListN.{get_or, length}
+use lib.Seq.{take-length}
+use lib.Ieee.{nan}
+use borrow.Author.Rules.{rules}
+use Rattle.spec.specs.Limits.{max_dimension}
+use Rattle.float.proofs.Written.{Written, none, next, end_plain, table_zip}
+use Rattle.geometry.proofs.Along.{by}
+use Rattle.geometry.proofs.hull.moved.Goals.{Start}
+use Rattle.geometry.proofs.hull.moved.Goals as goal
+
+long : (c : Start) → length c.args.q ≡ max_dimension
+long c = search rules
+
+pub loop-i-init : goal.loop-i-init
+loop-i-init c = (search rules, none)
+
+pub loop-i-preserved : goal.loop-i-preserved
+loop-i-preserved c =
+    let k = long (goal.at.loop-i-preserved c).Start in
+    (search rules, next _ (omega arith) refl c.loop-i.invariant.1)
+
+pub returns : goal.returns
+returns c =
+    let a = c.args in
+    let k = long (goal.at.returns c).Start in
+    end_plain (length a.b.now) c.loop-i.invariant.0 c.loop-i-test.false c.loop-i.invariant.1
+    ∙ table_zip (by a.s) nan nan a.q a.b.now (length a.b.now) (omega arith) (omega arith)
+    ∙ rw take-length

@@ -1,0 +1,24 @@
+-- What is left of the ranks passes exactly if all do.
+-- Assumes nothing.
+use borrow.Author.Rules.{rules}
+use borrow.Author.Tests.{not-true, not-false}
+use native.Mathlib.Omega.{arith}
+use mathlib.Core.Path.{◌≡◌, refl, sym, ◌∙◌}
+use mathlib.Core.Bool.{Bool}
+use mathlib.Core.List.{List}
+use Prim.Native.Nat.{ℕ, suc, ◌+◌, ◌≤◌, ◌-◌}
+use Rattle.spec.specs.Lists.{range}
+use Rattle.ranked.specs.declared.Shape.{Shape}
+use Rattle.ranked.specs.Words.{first_at, size_at}
+use Rattle.ranked.proofs.Turns.{Every, range_yes, range_no, range-end}
+use Rattle.preflight.specs.Check.{two_rank, two_from}
+use Rattle.preflight.proofs.check.diamond_from.Given as goal
+
+abbrev pub p : Shape → List ℕ → ℕ → Bool
+p sh w r = two_rank w (first_at sh r) (first_at sh (suc r)) (size_at sh (suc r))
+
+abbrev pub invariant-loop-r : goal.invariant-loop-r
+invariant-loop-r l = (l.from ≤ l.r) × (l.r ≤ l.rank) × Every (p l.sh l.lists) (range (suc l.from) (l.rank - 1 - l.from)) (l.r - l.from)
+
+abbrev pub decreases-loop-r : goal.decreases-loop-r
+decreases-loop-r l = l.rank - l.r
