@@ -1,4 +1,6 @@
 // This crate has section 7 of document 01: copying points under matrices, and the constant table of 48 signed axis orders.
+#![tactic(auto)]
+
 ghost use Rattle.std.specs.Prelude.{◌≡◌, ◌/◌, ◌≤◌, min, length};
 ghost use Rattle.spec.specs.Limits.{max_count};
 ghost use Rattle.spec.specs.Judged.{passed};

@@ -31,6 +31,7 @@ use Rattle.element_types.specs.State.{entries, needed, Sweepable}
 -- One of the summed numbers is at most their sum, and numbers under a bound have a sum under one.
 sum_has : (f : ℕ → ℕ) (l : List ℕ) (r : ℕ) → In r l → f r ≤ sum (map f l)
 unfolding sum
+sum_has f [] r x' = elim x' [ ]
 sum_has f (q ∷ l) r (inl e) = rw e (omega arith)
 sum_has f (q ∷ l) r (inr m) = omega (arith, sum_has f l r m)
 

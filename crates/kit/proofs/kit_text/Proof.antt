@@ -43,7 +43,7 @@ kit-text-spec =
     let e = a.before.before.before.before.before.before in
     let l = e.before.before.before.before.before in
     let d = done_text _ _ _ _ _ _ e.element-types.ensures.0 l.if1.false refl refl refl refl _ a.answer.given.1 in
-    puts_is (puts_then b.put-types.ensures.0 c.last_Line.ensures) d.1)
+    puts_is (puts_then b.put-types.ensures.0 c.last_line.ensures) d.1)
     -- The need is returns-3.
     (λ c. let a = c.before.before.before in
     let e = a.before.before.before.before.before.before in

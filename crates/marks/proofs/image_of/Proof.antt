@@ -44,6 +44,6 @@ image-of-spec =
     -- The needs are same-class-requires, returns-2 and returns-3.
     (λ c κs. search rules)
     (λ c cls q. let k = c.before.before.before.before in
-    its_class _ _ _ cls _ _ _ (gone k cls) _ (c.before.same_Class.ensures ∙ sym (q _ _ (start k).requires.1.1 (inside k))) c.if1.true)
+    its_class _ _ _ cls _ _ _ (gone k cls) _ (c.before.same_class.ensures ∙ sym (q _ _ (start k).requires.1.1 (inside k))) c.if1.true)
     (λ c cls q. let k = c.before.before.before.before in
-    other-class _ _ _ cls _ _ _ (gone k cls) _ (c.before.same_Class.ensures ∙ sym (q _ _ (start k).requires.1.1 (inside k))) c.if1.false))
+    other-class _ _ _ cls _ _ _ (gone k cls) _ (c.before.same_class.ensures ∙ sym (q _ _ (start k).requires.1.1 (inside k))) c.if1.false))

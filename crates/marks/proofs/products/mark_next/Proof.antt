@@ -21,7 +21,7 @@ mark-next-spec =
     -- The need is returns.
     (λ c. let v = c.before.before.before in let s = start v in let a = s.args in
     row_known a.sh a.lists.now a.floats.now a.rows.now _ (length a.done.now) v.vertices.ensures s.pre.1.0 s.pre.0.0.held a.done.now refl s.pre.1.1
-    (c.before.is_Known.ensures c.if1.true))
+    (c.before.is_known.ensures c.if1.true))
     -- The needs are row-at-requires, mark-requires and join-requires.
     (λ c κs. let v = c.before.before.before in let s = start v in let a = s.args in
     row_in a.sh a.lists.now a.floats.now a.rows.now _ (length a.done.now) v.vertices.ensures s.pre.1.0)
