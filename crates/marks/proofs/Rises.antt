@@ -75,6 +75,7 @@ module _ (s : Solid) (ok : Sound s) (filled : (r e : ℕ) → e < size s (suc r)
   alone v h = order_self (size s 1) (v ∷ []) tt low
     where
       low : (x : ℕ) → In x (v ∷ []) → x < size s 1
+      low x (inr x'') = elim x'' [ ]
       low x (inl q) = omega arith
 
   vertex_goes : Proper s 1 → Once (vertex_sets s 1) → (v : ℕ) → v < size s 1 → goes s row 1 v ≡ get_or row v 0
@@ -85,6 +86,7 @@ module _ (s : Solid) (ok : Sound s) (filled : (r e : ℕ) → e < size s (suc r)
       goes-proper s row 1 v p ∙ ap (λ (l : List ℕ). place eq_list l (vertex_sets s 1)) i ∙ set-place s 1 o (get_or row v 0) k
     where
       low : get_or row v 0 < size s 1 → (x : ℕ) → In x (get_or row v 0 ∷ []) → x < size s 1
+      low k x (inr x'') = elim x'' [ ]
       low k x (inl q) = omega arith
 
   -- "A vertex has the least element as sub."
@@ -106,6 +108,7 @@ module _ (s : Solid) (ok : Sound s) (filled : (r e : ℕ) → e < size s (suc r)
       (sym g, k, class_left 0 v (get_or row v 0) k g l)
     where
       low : (x : ℕ) → In x (0 ∷ []) → x < size s 0
+      low x (inr x'') = elim x'' [ ]
       low x (inl q) = let one : size s 0 ≡ 1 = ap length ok.least in omega arith
 
   -- ---- one rank up

@@ -1,6 +1,8 @@
 // This crate has section 6's mark and, in `products`, the marks of a list of rows. The mark says whether a row, which gives the vertex that each
 // vertex goes to, carries every element of the solid in lent lists to an element of its rank and distance class, subs exactly onto subs. An element's
 // image is found by the images of its subs, one rank after another, so that no vertex set has to be made.
+#![tactic(auto)]
+
 ghost use Rattle.std.specs.Prelude.{◌≡◌, true, ℕ, suc, ◌+◌, ◌*◌, ◌≤◌, ◌<◌, length, get_or, eqb};
 ghost use Rattle.points.specs.Finding.{first_of};
 ghost use Rattle.spec.specs.Limits.{max_count};

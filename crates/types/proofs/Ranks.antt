@@ -31,6 +31,7 @@ use Rattle.types.proofs.Rows.{order_low, cells_in, cells-append}
 
 of-join : {A B : Type 0} (g : A → List B) (x : B) (l : List A) → In x (join (map g l)) → (r : A) × In r l × In x (g r)
 unfolding join
+of-join {A = A} {B = B} g x [] h = elim h [ ]
 of-join {A} g x (r ∷ l) h = go (in_either x (g r) (join (map g l)) h) (λ (m : In x (join (map g l))). of-join g x l m)
   where
     go : In x (g r) ⊎ In x (join (map g l)) → (In x (join (map g l)) → (q : A) × In q l × In x (g q)) → (q : A) × In q (r ∷ l) × In x (g q)

@@ -99,6 +99,7 @@ module _ (l : List ℕ) (t : ℕ) where
       count-append q l (t ∷ []) ∙ ap (λ (k : ℕ). count eqb q l + k) (count-out eqb numbers q (t ∷ []) (λ m. none m)) ∙ omega arith
     where
       none : In q (t ∷ []) → ⊥
+      none (inr x') = elim x' [ ]
       none (inl e) = n e
 
 count_few : (k : ℕ) (l : List ℕ) → count eqb k l ≤ length l

@@ -1,4 +1,6 @@
 // This crate has the types call (conc/element_types.rs): a sheet's elements by their types, and the table of the types.
+#![tactic(auto)]
+
 ghost use Rattle.std.specs.Prelude.{◌≡◌, ℕ, length};
 ghost use Rattle.spec.specs.declared.Answer.TheVariants.{Done};
 ghost use Rattle.spec.specs.Calls.{types_call};

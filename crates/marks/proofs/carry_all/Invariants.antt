@@ -1,0 +1,15 @@
+-- One rank after another is carried.
+-- Assumes nothing.
+use borrow.Author.Rules.{rules}
+use borrow.Author.Tests.{not-true, not-false}
+use mathlib.Core.Path.{sym, ◌∙◌}
+use Prim.Native.Nat.{◌-◌}
+use Rattle.marks.specs.Rows.{classes_on}
+use Rattle.marks.proofs.Carried.{RanksCarried, ranks-first, rank_now, ranks_stop, ranks-next, ranks-end}
+use Rattle.marks.proofs.carry_all.Given as goal
+
+abbrev pub invariant-loop-r : goal.invariant-loop-r
+invariant-loop-r l = RanksCarried l.sh l.lists l.row (classes_on l.sh l.lists l.floats) l.initial.goes l.goes l.r
+
+abbrev pub decreases-loop-r : goal.decreases-loop-r
+decreases-loop-r l = l.rank - l.r

@@ -1,0 +1,25 @@
+-- What is left of the list gives what the whole gives.
+-- Assumes nothing.
+use borrow.Author.Rules.{rules}
+use native.Mathlib.Omega.{arith}
+use mathlib.Core.Path.{◌≡◌, refl, sym, ap, ◌∙◌}
+use mathlib.Core.Bool.{Bool}
+use mathlib.Core.List.{List}
+use Prim.Native.Nat.{ℕ, ◌+◌, ◌*◌, ◌≤◌, ◌-◌}
+use lib.ListN.{length, get_or}
+use Rattle.points.specs.declared.Found.TheVariants.{At}
+use Rattle.ranked.specs.Words.{list_at}
+use Rattle.ranked.specs.Reading.{Lies}
+use Rattle.ranked.proofs.Turns.{entry_in}
+use Rattle.marks.specs.Rises.{onto}
+use Rattle.marks.proofs.Found.{First, first_no, first_yes, first-end}
+use Rattle.marks.proofs.first_onto.Given as goal
+
+abbrev pub p : List ℕ → List ℕ → ℕ → ℕ → ℕ → ℕ → Bool
+p w goes base i up g = onto (λ f. get_or goes (base + f) 0) (list_at w i) (list_at w (up + 4 * g))
+
+abbrev pub invariant-loop-k : goal.invariant-loop-k
+invariant-loop-k l = (l.k ≤ l.n) × (l.n ≡ length (list_at l.lists l.j)) × First (p l.lists l.goes l.base l.i l.up) (list_at l.lists l.j) l.k
+
+abbrev pub decreases-loop-k : goal.decreases-loop-k
+decreases-loop-k l = l.n - l.k

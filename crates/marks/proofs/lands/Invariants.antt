@@ -1,0 +1,24 @@
+-- What is left of the list lands exactly if the whole does.
+-- Assumes nothing.
+use borrow.Author.Rules.{rules}
+use borrow.Author.Tests.{not-true, not-false}
+use native.Mathlib.Omega.{arith}
+use mathlib.Core.Path.{◌≡◌, refl, sym, ◌∙◌}
+use mathlib.Core.Bool.{Bool}
+use mathlib.Core.List.{List}
+use Prim.Native.Nat.{ℕ, ◌+◌, ◌≤◌, ◌<◌, ◌-◌}
+use lib.ListN.{length, get_or}
+use lib.Dec.{eqb}
+use Rattle.spec.specs.Lists.{holds}
+use Rattle.ranked.specs.Words.{list_at}
+use Rattle.ranked.proofs.Turns.{entry_in, Every, every_yes, every_no, every-end}
+use Rattle.marks.proofs.lands.Given as goal
+
+abbrev pub p : List ℕ → List ℕ → ℕ → ℕ → ℕ → Bool
+p w goes base j f = holds eqb (get_or goes (base + f) 0) (list_at w j)
+
+abbrev pub invariant-loop-k : goal.invariant-loop-k
+invariant-loop-k l = (l.k ≤ l.n) × (l.n ≡ length (list_at l.lists l.i)) × Every (p l.lists l.goes l.base l.j) (list_at l.lists l.i) l.k
+
+abbrev pub decreases-loop-k : goal.decreases-loop-k
+decreases-loop-k l = l.n - l.k

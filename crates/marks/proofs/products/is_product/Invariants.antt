@@ -1,0 +1,16 @@
+-- The loop's invariant is that the entries before p are the product's. The measure is what is left of the row.
+-- Assumes nothing.
+use borrow.Author.Rules.{rules}
+use native.Mathlib.Omega.{arith}
+use Prim.Native.Nat.{◌≤◌, ◌-◌}
+use mathlib.Core.Path.{◌≡◌}
+use mathlib.Core.Bool.{false≢true}
+use lib.ListN.{length, get_or}
+use Rattle.marks.proofs.products.Factors.{SameTo, same_none, same_next, same_end}
+use Rattle.marks.proofs.products.is_product.Given as goal
+
+abbrev pub invariant-loop-p : goal.invariant-loop-p
+invariant-loop-p l = (l.v ≡ length l.row) × (l.p ≤ l.v) × SameTo l.row l.a l.g l.p
+
+abbrev pub decreases-loop-p : goal.decreases-loop-p
+decreases-loop-p l = length l.row - l.p
