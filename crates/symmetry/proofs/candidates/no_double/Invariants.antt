@@ -1,0 +1,17 @@
+-- The loop's invariant is that no point before i is near a later one. The measure is what is left of n.
+-- Assumes nothing.
+use borrow.Author.Rules.{rules}
+use native.Mathlib.Omega.{arith}
+use mathlib.Core.Path.{refl}
+use Prim.Native.Nat.{◌+◌, ◌*◌, ◌≤◌, ◌-◌}
+use lib.ListN.{length}
+use Rattle.spec.specs.Lists.{parts}
+use Rattle.points.proofs.Parts.{length-parts, part_end}
+use Rattle.symmetry.proofs.candidates.Doubles.{Apart, apart-end, start_in_lem, later_in, double_not, double_next}
+use Rattle.symmetry.proofs.candidates.no_double.Given as goal
+
+abbrev pub invariant-loop-i : goal.invariant-loop-i
+invariant-loop-i l = (l.i ≤ l.n) × Apart (parts l.n l.d l.points) l.i
+
+abbrev pub decreases-loop-i : goal.decreases-loop-i
+decreases-loop-i l = l.n - l.i

@@ -1,0 +1,21 @@
+-- The loop's invariant is that the flag has gone through i - 1 rounds, and that the first i rows hold its vertices so far.
+-- The measure is what is left of d.
+-- Assumes nothing.
+use borrow.Author.Rules.{rules}
+use native.Mathlib.Omega.{arith}
+use Prim.Native.Nat.{◌-◌}
+use lib.ListN.{replicate}
+use lib.Ieee.{binary64, of_bits}
+use Rattle.spec.specs.Limits.{max_dimension}
+use Rattle.matrix.specs.Reading.{corner}
+use Rattle.matrix.proofs.Corner.{length-corner}
+use Rattle.matrix.proofs.Padded.{corner-columns}
+use Rattle.flag.specs.Reading.{flag_in}
+use Rattle.symmetry.proofs.candidates.Rounds.{Walking, vertex_in, walk_first, walk-next, columns_are}
+use Rattle.symmetry.proofs.candidates.vertex_sequence.Given as goal
+
+abbrev pub invariant-loop-i : goal.invariant-loop-i
+invariant-loop-i l = Walking l.sh l.lists l.floats (flag_in l.sh.rank l.initial.f) (flag_in l.sh.rank l.f) l.initial.rows l.rows l.i
+
+abbrev pub decreases-loop-i : goal.decreases-loop-i
+decreases-loop-i l = l.d - l.i

@@ -1,0 +1,42 @@
+use borrow.Author.Rules.{rules}
+use native.Mathlib.Omega.{arith}
+use mathlib.Core.Path.{sym, ◌∙◌}
+use Prim.Native.Nat.{◌-◌}
+use borrow.Author.Tests.{not-true, not-false}
+use Rattle.spec.specs.Lists.{eq_list, no_repeats}
+use Rattle.spec.specs.Types.{top, proper_ranks, vertex_sets}
+use Rattle.ranked.specs.Words.{lists_of, abs_in}
+use Rattle.ranked.proofs.Solids.{top_is}
+use Rattle.symmetry.proofs.vertex_sets.Ranks.{RanksPass, ranks-none, ranks_yes, ranks_no, ranks-all}
+use Rattle.symmetry.proofs.vertex_sets.apart.are_apart.Goals as goal
+
+pub loop-r-init : goal.loop-r-init
+unfolding proper_ranks
+loop-r-init c = ranks-none _ _ _
+
+pub rank_apart-requires : goal.rank_apart-requires
+unfolding proper_ranks
+rank_apart-requires c = record {
+      fingerprinted = c.requires;
+      le_r = (c.loop-r.invariant.low, c.loop-r-test.true);
+    }
+
+pub returns-then-not-rank_apart : goal.returns-then-not-rank_apart
+unfolding proper_ranks
+returns-then-not-rank_apart c = ranks_no c.loop-r.invariant (omega (arith, c.loop-r-test.true, (top_is c.args.sh (lists_of c.args.sh c.args.words.now)), c.loop-r.invariant.low)) (sym c.rank_apart.ensures ∙ c.if-not-rank_apart.true)
+
+pub overflow_add-r : goal.overflow_add-r
+unfolding proper_ranks
+overflow_add-r c = omega (arith, c.loop-r-test.true, c.requires.held.tall)
+
+pub loop-r-smaller : goal.loop-r-smaller
+unfolding proper_ranks
+loop-r-smaller c = search rules
+
+pub loop-r-preserved : goal.loop-r-preserved
+unfolding proper_ranks
+loop-r-preserved c = ranks_yes c.loop-r.invariant (omega (arith, c.loop-r-test.true, (top_is c.args.sh (lists_of c.args.sh c.args.words.now)), c.loop-r.invariant.low)) (sym c.rank_apart.ensures ∙ c.if-not-rank_apart.false)
+
+pub returns : goal.returns
+unfolding proper_ranks
+returns c = ranks-all c.loop-r.invariant (omega (arith, c.loop-r-test.false, (top_is c.args.sh (lists_of c.args.sh c.args.words.now)), c.loop-r.invariant.low))

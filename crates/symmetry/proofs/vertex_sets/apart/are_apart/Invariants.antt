@@ -1,0 +1,19 @@
+-- The ranks below r pass.
+-- Assumes nothing.
+use borrow.Author.Rules.{rules}
+use native.Mathlib.Omega.{arith}
+use mathlib.Core.Path.{sym, ◌∙◌}
+use Prim.Native.Nat.{◌-◌}
+use borrow.Author.Tests.{not-true, not-false}
+use Rattle.spec.specs.Lists.{eq_list, no_repeats}
+use Rattle.spec.specs.Types.{top, proper_ranks, vertex_sets}
+use Rattle.ranked.specs.Words.{lists_of, abs_in}
+use Rattle.ranked.proofs.Solids.{top_is}
+use Rattle.symmetry.proofs.vertex_sets.Ranks.{RanksPass, ranks-none, ranks_yes, ranks_no, ranks-all}
+use Rattle.symmetry.proofs.vertex_sets.apart.are_apart.Given as goal
+
+abbrev pub invariant-loop-r : goal.invariant-loop-r
+invariant-loop-r l = RanksPass (λ q. no_repeats eq_list (vertex_sets (abs_in l.sh (lists_of l.sh l.words)) q)) 1 (top (abs_in l.sh (lists_of l.sh l.words)) - 1) l.r
+
+abbrev pub decreases-loop-r : goal.decreases-loop-r
+decreases-loop-r l = l.rank - l.r

@@ -1,0 +1,23 @@
+-- The element's vertices are listed and compared.
+-- Assumes nothing.
+use borrow.Author.Rules.{rules}
+use mathlib.Core.Path.{ap, ◌∙◌}
+use mathlib.Core.List.{List}
+use Prim.Native.Nat.{ℕ}
+use Rattle.spec.specs.Lists.{eq_list}
+use Rattle.symmetry.proofs.vertex_sets.Looks.{can_list, list_is, list-room, list-part}
+use Rattle.symmetry.proofs.vertex_sets.finding.same_vertices.Goals as goal
+
+pub vertex_list-n-requires : goal.vertex_list-n-requires
+vertex_list-n-requires c =
+    let both = can_list c.requires.held _ _ c.requires.proper_element in
+    record { held = c.requires.held; r_le_rank = both.0; lists_in_bounds = both.1 }
+
+pub slice_bounds-own-end : goal.slice_bounds-own-end
+slice_bounds-own-end c = list-room c.requires.held c.requires.proper_element c.vertex_list-n.ensures
+
+pub slice_bounds-same_list-end : goal.slice_bounds-same_list-end
+slice_bounds-same_list-end c = list-part c.requires.held c.requires.proper_element c.vertex_list-n.ensures
+
+pub returns : goal.returns
+returns c = c.same_list.ensures ∙ ap (λ (l : List ℕ). eq_list l c.args.list.now) (list_is c.requires.held c.requires.proper_element c.vertex_list-n.ensures)

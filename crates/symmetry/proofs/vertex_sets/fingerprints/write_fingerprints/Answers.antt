@@ -1,0 +1,30 @@
+use borrow.Author.Rules.{rules}
+use native.Mathlib.Omega.{arith}
+use Prim.Native.Nat.{◌-◌}
+use Rattle.symmetry.proofs.vertex_sets.Rows.{RanksStand, ranks-first, ranks_held, ranks-next, ranks-end}
+use Rattle.symmetry.proofs.vertex_sets.fingerprints.write_fingerprints.Goals as goal
+
+pub loop-r-init : goal.loop-r-init
+loop-r-init c = ranks-first _ _
+
+pub write_rank-requires : goal.write_rank-requires
+write_rank-requires c = record {
+      held = ranks_held c.loop-r.invariant c.requires.held;
+      rank_in_bounds = omega (arith, c.loop-r.invariant.long, c.requires.rank_in_bounds);
+      le_r = (c.loop-r.invariant.proper, c.loop-r-test.true);
+    }
+
+pub overflow_add-r : goal.overflow_add-r
+overflow_add-r c = omega (arith, c.loop-r-test.true, c.requires.held.tall)
+
+pub loop-r-preserved : goal.loop-r-preserved
+loop-r-preserved c = ranks-next c.loop-r.invariant c.requires.held c.loop-r-test.true _ c.write_rank.auto.words c.write_rank.ensures.words_unchanged c.write_rank.ensures.by_index
+
+pub shape_of-words : goal.shape_of-words
+shape_of-words c = c.loop-r.invariant.long
+
+pub returns : goal.returns
+returns c = record {
+      words_unchanged = c.loop-r.invariant.kept;
+      fingerprinted = ranks-end c.loop-r.invariant c.requires.held c.loop-r-test.false c.requires.rank_in_bounds;
+    }

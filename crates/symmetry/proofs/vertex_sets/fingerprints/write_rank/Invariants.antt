@@ -1,0 +1,15 @@
+-- The fingerprints of the first e elements stand, and nothing before them changed.
+-- Assumes nothing.
+use borrow.Author.Rules.{rules}
+use native.Mathlib.Omega.{arith}
+use Prim.Native.Nat.{◌+◌, ◌-◌, ◌<◌}
+use lib.ListN.{length}
+use Rattle.symmetry.proofs.vertex_sets.Rows.{ElementsStand, elements-first, elements-low, elements_held, element_here, elements_in, elements-next, elements-end}
+use Rattle.symmetry.proofs.vertex_sets.Looks.{can_count, fingerprints_in}
+use Rattle.symmetry.proofs.vertex_sets.fingerprints.write_rank.Given as goal
+
+abbrev pub invariant-loop-e : goal.invariant-loop-e
+invariant-loop-e l = ElementsStand l.sh l.r l.first l.many l.initial.words l.words l.e
+
+abbrev pub decreases-loop-e : goal.decreases-loop-e
+decreases-loop-e l = l.many - l.e
