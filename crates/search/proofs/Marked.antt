@@ -58,6 +58,7 @@ marks_before c d n v rows ks old e h k =
 -- A member is what some flag's candidate gives.
 member-from : (w : Setting) (l : List Flag) (x : Member) → In x (members_of w l) → (F : Flag) × (tested w (candidate w F) ≡ some x)
 unfolding members_of
+member-from w [] x h = elim h [ ]
 member-from w (F ∷ l) x h = go (same_types w F) (tested w (candidate w F)) refl h (λ k. member-from w l x k)
   where
     go : (b : Bool) (o : Option Member) → tested w (candidate w F) ≡ o

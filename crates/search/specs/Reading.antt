@@ -2,7 +2,7 @@
 -- Assumes nothing.
 use Rattle.std.specs.Prelude.{◌≡◌, ℕ, Bool, true, false, List, Float}
 use Rattle.std.proofs.Math.Option.{Option, none, some}
-use Rattle.std.specs.Borrow.{Bor}
+use Rattle.std.specs.Borrow.{MutBor}
 use denote.Triple.Both.{Both}
 use Rattle.spec.specs.declared.Answer.{Answer}
 use Rattle.spec.specs.Judged.{Judged}
@@ -31,7 +31,7 @@ call_of true = rotations_call
 
 -- An output is a slice that is lent to a function, as it is at the function's entry and at its exit.
 abbrev pub Output : Type 0 → Type 0
-Output A = Both (Bor (List A)) (Bor (List A))
+Output A = Both (MutBor (List A)) (MutBor (List A))
 
 -- With the judgements that are left of the solid c as read, which the workspace holds, the call answers a and makes of the outputs what they are at
 -- the exit.

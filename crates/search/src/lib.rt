@@ -1,5 +1,7 @@
 // This crate has section 6's calls (conc/symmetry.rs: `get_symmetry_group`, `get_rotation_group`): a sheet's symmetries, each with its matrix, its
 // row and its mark.
+#![tactic(auto)]
+
 ghost use Rattle.std.specs.Prelude.{◌≡◌, length};
 ghost use Rattle.spec.specs.Refusal.{answer_count};
 ghost use Rattle.spec.specs.Calls.{search_call, rotations_call};

@@ -6,8 +6,7 @@ use Prim.Native.Nat.{ℕ, zero, suc}
 use Rattle.spec.specs.declared.Refusal.TheVariants.{Blank, ShortSheet}
 use Rattle.spec.specs.declared.Answer.TheVariants.{Done, Refused}
 use Rattle.symmetry.specs.Listing.{answer_of}
-use Rattle.search.proofs.driver.answer_of.Statement.{statement}
-use Rattle.search.proofs.driver.answer_of.Tie as tie
+use Rattle.search.proofs.driver.answer_of.Goals as goal
 
 short-is : (b : Bool) (n : ℕ) → b ≡ true → Refused ShortSheet n ≡ answer_of b n
 unfolding answer_of
@@ -22,10 +21,11 @@ unfolding answer_of
 done_is b zero e z = absurd (z refl)
 done_is b (suc n) e z = rw e refl
 
-pub answer-of-spec : {M : Type 1} → statement M
-answer-of-spec =
-    tie.close
-    (tie.spec
-    (λ c. short-is _ _ c.if1.true)
-    (λ c. blank-is _ _ c.before.if1.false c.if2.true)
-    (λ c. done_is _ _ c.before.if1.false c.if2.false))
+pub returns-then-members : goal.returns-then-members
+returns-then-members c = short-is _ _ c.if-members.true
+
+pub returns-then-n-eq0 : goal.returns-then-n-eq0
+returns-then-n-eq0 c = blank-is _ _ c.if-members.false c.if-n-eq0.true
+
+pub returns : goal.returns
+returns c = done_is _ _ c.if-members.false c.if-n-eq0.false

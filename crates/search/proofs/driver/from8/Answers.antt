@@ -1,0 +1,16 @@
+-- The judgement behind refusal 8 and what follows it give the rest of the call.
+-- Assumes nothing.
+use borrow.Author.Rules.{rules}
+use Rattle.search.proofs.Steps.{tall, not_full, is_full}
+use Rattle.search.proofs.driver.from8.Goals as goal
+
+pub from9-requires : goal.from9-requires
+from9-requires c =
+    let both = tall c.args.sh _ c.is_full.ensures c.if-is_full.true in
+    record { bench = c.requires; le_rank = both.0; le_dimension = both.1 }
+
+pub returns-then-is_full : goal.returns-then-is_full
+returns-then-is_full c = is_full c.args.sh _ c.is_full.ensures c.args.words.now c.args.floats.now _ _ c.if-is_full.true _ c.from9.ensures
+
+pub returns : goal.returns
+returns c = not_full c.args.sh _ c.is_full.ensures c.args.words.now c.args.floats.now _ _ c.if-is_full.false

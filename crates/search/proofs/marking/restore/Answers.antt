@@ -1,0 +1,56 @@
+-- Where facet 0 was searched from, or R = 2, there is nothing to do; else the facets go back, and the classes and the fingerprints are worked out.
+-- Assumes nothing.
+use borrow.Author.Rules.{rules}
+use borrow.Author.Tests.{eqb-true}
+use mathlib.Core.Logic.{⊎_elim}
+use Rattle.preflight.specs.Bench.{Bench}
+use Rattle.preflight.proofs.Benches.{laid}
+use Rattle.geometry.proofs.elements.Room.{roomy-floats}
+use Rattle.search.proofs.Benched.{exchanged-none, exchanged-vertices, fingerprints_in, back_bench, restored}
+use Rattle.search.proofs.marking.restore.Goals.{After-exchange}
+use Rattle.search.proofs.marking.restore.Goals.{then-f-eq0-via-then-f-eq0, then-f-eq0-via-else-f-eq0+then-sh-eq2}
+use Rattle.search.proofs.marking.restore.Goals as goal
+
+-- After the exchange the solid as read lies in the workspace.
+back : (c : After-exchange) → Bench c.args.sh c.exchange.new.words c.args.floats.now
+back c = back_bench c.requires.marks_ready _ c.requires.le_rank _ c.exchange.ensures.words_after c.exchange.ensures.laid_2
+
+pub returns-then-f-eq0 : goal.returns-then-f-eq0
+returns-then-f-eq0 c =
+    record {
+      marks_ready_2 = c.requires.marks_ready;
+      floats_after = elim c.then-f-eq0.branch [
+        | then-f-eq0-via-then-f-eq0 w ↦ exchanged-none _ _ w.if-f-eq0.true
+        | then-f-eq0-via-else-f-eq0+then-sh-eq2 w ↦ exchanged-vertices c.requires.marks_ready.bench _ c.requires.le_rank w.if-sh-eq2.true
+      ];
+    }
+
+pub exchange-requires : goal.exchange-requires
+exchange-requires c = record {
+      laid = laid c.requires.marks_ready.bench;
+      le_rank = c.requires.le_rank;
+    }
+
+pub lists-requires : goal.lists-requires
+lists-requires c = (back (goal.at.lists-requires c).After-exchange).words_in
+
+pub all_classes-requires : goal.all_classes-requires
+all_classes-requires c = 
+    let b = back (goal.at.all_classes-requires c).After-exchange in
+    record {
+      held = rw c.lists.ensures b.held;
+      sh_in_bounds = roomy-floats _ _ b.held _ b.floats;
+    }
+
+pub write_fingerprints-requires : goal.write_fingerprints-requires
+write_fingerprints-requires c = let b = back (goal.at.write_fingerprints-requires c).After-exchange in record {
+      held = b.held;
+      rank_in_bounds = fingerprints_in b;
+    }
+
+pub returns : goal.returns
+returns c = let both = restored c.requires.marks_ready _ c.requires.le_rank _ c.exchange.ensures.words_after c.exchange.ensures.laid_2 _ _ (rw c.lists.ensures at c.all_classes.ensures) _ c.write_fingerprints.auto.words c.write_fingerprints.ensures.words_unchanged c.write_fingerprints.ensures.fingerprinted in
+    record {
+      marks_ready_2 = both.0;
+      floats_after = both.1;
+    }

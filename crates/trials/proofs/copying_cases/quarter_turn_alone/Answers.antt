@@ -1,0 +1,18 @@
+-- The answer and the outputs are the call's, and the answer is that of the trial with outputs of zeros.
+-- Assumes nothing.
+use mathlib.Core.Path.{ap, ◌∙◌}
+use borrow.Author.Rules.{rules}
+use lib.Ieee.{of_bits, neg}
+use Rattle.spec.specs.Float.{zero_f, one_f}
+use Rattle.trials.specs.Trials.{trials}
+use Rattle.trials.proofs.CopyAnswers.{call_zeros}
+use Rattle.trials.proofs.copying_cases.quarter_turn_alone.Goals as goal
+
+pub returns : goal.returns
+unfolding zero_f one_f of_bits neg
+returns c =
+    let e = c.copy.ensures in
+    record {
+      cells_after = e;
+      value = ap (λ x. x.0) e ∙ call_zeros 2 1 _ _ _ _ c.requires.0 c.requires.1 ∙ trials.quarter_turn;
+    }
