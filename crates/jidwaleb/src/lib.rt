@@ -2,6 +2,8 @@
 // caller lends every buffer. A call answers one number: the refusal's number of document 01's table, or 0, times 2^32, plus the count of what it gave
 // out (types; members and copies, at 13 those that fitted). The count is below 2^32, so that a caller reads both back (`Decoded`). What a call writes
 // is what its definition in crate `spec` says, and what demand 3 says of the types and the members holds of the cells, rows and marks here.
+#![tactic(auto)]
+
 ghost use Rattle.std.specs.Prelude.{◌≡◌, length, ◌<◌, ◌^◌};
 ghost use Rattle.spec.specs.Calls.{types_call, search_call, rotations_call};
 ghost use Rattle.spec.specs.Copying.{copy_call};
@@ -31,8 +33,7 @@ fn code(answer: Answer) -> u64
 
 // This is the call of section 4: it takes a sheet, and gives out the type of each proper element and the types' records. The workspace lent as words
 // and floats is free afterwards.
-#[unsafe(no_mangle)]
-pub extern "C" fn jidwaleb_types(
+pub fn jidwaleb_types(
     sheet: &[u8],
     words: &mut [u32],
     floats: &mut [f64],
@@ -53,8 +54,7 @@ pub extern "C" fn jidwaleb_types(
 
 // This is the call of section 6: it takes a sheet, and gives out its symmetries, each with its matrix, the vertices that it takes the vertices to,
 // and its mark. The workspace lent as words and floats is free afterwards.
-#[unsafe(no_mangle)]
-pub extern "C" fn jidwaleb_search(
+pub fn jidwaleb_search(
     sheet: &[u8],
     words: &mut [u32],
     floats: &mut [f64],
@@ -74,8 +74,7 @@ pub extern "C" fn jidwaleb_search(
 }
 
 // Does the same as `jidwaleb_search`, but gives out the rotations alone.
-#[unsafe(no_mangle)]
-pub extern "C" fn jidwaleb_rotations(
+pub fn jidwaleb_rotations(
     sheet: &[u8],
     words: &mut [u32],
     floats: &mut [f64],
@@ -95,8 +94,7 @@ pub extern "C" fn jidwaleb_rotations(
 }
 
 // This is the call of section 7: it takes points and matrices, row by row, and gives out the copies and their table.
-#[unsafe(no_mangle)]
-pub extern "C" fn jidwaleb_copy(
+pub fn jidwaleb_copy(
     dimension: u64,
     points: &[f64],
     turns: &[f64],

@@ -1,0 +1,21 @@
+-- The answer is that of `search::search`, as its code, and the outputs and the promises about them are its own.
+-- Assumes nothing.
+use borrow.Author.Rules.{rules}
+use Rattle.jidwaleb.proofs.Coded.{fits, handed, told, counted}
+use Rattle.jidwaleb.proofs.Members.{search-count}
+use Rattle.jidwaleb.proofs.jidwaleb_search.Goals as goal
+
+pub code-requires : goal.code-requires
+code-requires c = fits _ _ _ c.search.ensures.marks_after (search-count _ _ _ _)
+
+pub returns : goal.returns
+returns c = 
+    let s = c.search.ensures in
+    let k = search-count _ _ _ _ in
+    let p = c.code.ensures in
+    record {
+      marks_after = handed _ _ _ s.marks_after k _ p;
+      decoded = told _ _ _ s.marks_after k _ p;
+      demand3told = rw (counted _ _ _ s.marks_after k _ p) at s.demand3told;
+      free = record { words = search rules; floats = search rules };
+    }

@@ -1,0 +1,93 @@
+// This crate is the static library: it exports the calls of crate `jidwaleb` to C, each under its own name and with its own contract. In Rattle a
+// library and an archive for C are two crates, so this one only hands the arguments on.
+#![tactic(auto)]
+
+ghost use Rattle.std.specs.Prelude.{◌≡◌, length};
+ghost use Rattle.spec.specs.Calls.{types_call, search_call, rotations_call};
+ghost use Rattle.spec.specs.Copying.{copy_call};
+ghost use Rattle.spec.specs.Workspace.{Free};
+ghost use Rattle.symmetry.specs.Tails.{out_of};
+ghost use Rattle.types.specs.Demand3.{Demand3Cells};
+ghost use Rattle.search.specs.Demand3.{Demand3Told};
+ghost use Rattle.jidwaleb.specs.Code.{coded, coded_out, refusal_in, count_in, Decoded};
+
+// This is the call of section 4: it takes a sheet, and gives out the type of each proper element and the types' records. The workspace lent as words
+// and floats is free afterwards.
+#[unsafe(no_mangle)]
+pub extern "C" fn jidwaleb_types(
+    sheet: &[u8],
+    words: &mut [u32],
+    floats: &mut [f64],
+    of: &mut [u16],
+    table: &mut [u16],
+) -> u64
+    ensures table_after { (result, record { elements = of.new; types = table.new })
+        ≡ coded_out (types_call sheet.now (length words.old) (length floats.old)
+        (record { elements = of.old; types = table.old })) }
+    ensures decoded { Decoded result (types_call sheet.now (length words.old) (length floats.old)
+        (record { elements = of.old; types = table.old })).0 }
+    ensures demand3cells { refusal_in result ≡ 0
+        → Demand3Cells sheet.now (length words.old) (length floats.old) of.new }
+    ensures free { Free words.old words.new floats.old floats.new }
+{
+    jidwaleb::jidwaleb_types(sheet, words, floats, of, table)
+}
+
+// This is the call of section 6: it takes a sheet, and gives out its symmetries, each with its matrix, the vertices that it takes the vertices to,
+// and its mark. The workspace lent as words and floats is free afterwards.
+#[unsafe(no_mangle)]
+pub extern "C" fn jidwaleb_search(
+    sheet: &[u8],
+    words: &mut [u32],
+    floats: &mut [f64],
+    matrices: &mut [f64],
+    rows: &mut [u16],
+    marks: &mut [u8],
+) -> u64
+    ensures marks_after { (result, out_of matrices.new rows.new marks.new)
+        ≡ coded_out (search_call sheet.now (length words.old) (length floats.old)
+        (out_of matrices.old rows.old marks.old)) }
+    ensures decoded { Decoded result (search_call sheet.now (length words.old) (length floats.old)
+        (out_of matrices.old rows.old marks.old)).0 }
+    ensures demand3told { Demand3Told sheet.now (count_in result) rows.new marks.new }
+    ensures free { Free words.old words.new floats.old floats.new }
+{
+    jidwaleb::jidwaleb_search(sheet, words, floats, matrices, rows, marks)
+}
+
+// Does the same as `jidwaleb_search`, but gives out the rotations alone.
+#[unsafe(no_mangle)]
+pub extern "C" fn jidwaleb_rotations(
+    sheet: &[u8],
+    words: &mut [u32],
+    floats: &mut [f64],
+    matrices: &mut [f64],
+    rows: &mut [u16],
+    marks: &mut [u8],
+) -> u64
+    ensures marks_after { (result, out_of matrices.new rows.new marks.new)
+        ≡ coded_out (rotations_call sheet.now (length words.old) (length floats.old)
+        (out_of matrices.old rows.old marks.old)) }
+    ensures decoded { Decoded result (rotations_call sheet.now (length words.old) (length floats.old)
+        (out_of matrices.old rows.old marks.old)).0 }
+    ensures demand3told { Demand3Told sheet.now (count_in result) rows.new marks.new }
+    ensures free { Free words.old words.new floats.old floats.new }
+{
+    jidwaleb::jidwaleb_rotations(sheet, words, floats, matrices, rows, marks)
+}
+
+// This is the call of section 7: it takes points and matrices, row by row, and gives out the copies and their table.
+#[unsafe(no_mangle)]
+pub extern "C" fn jidwaleb_copy(
+    dimension: u64,
+    points: &[f64],
+    turns: &[f64],
+    copies: &mut [f64],
+    table: &mut [u16],
+) -> u64
+    ensures table_after { (result, copies.new, table.new)
+        ≡ coded (copy_call dimension points.now turns.now copies.old table.old) }
+    ensures decoded { Decoded result (copy_call dimension points.now turns.now copies.old table.old).0 }
+{
+    jidwaleb::jidwaleb_copy(dimension, points, turns, copies, table)
+}
