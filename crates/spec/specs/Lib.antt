@@ -29,5 +29,4 @@ pub mod CallExamples
 pub mod Demand3Calls
 pub mod Pack
 pub mod Polytope
-pub mod DemandExamples
 pub mod PolytopeExamples
