@@ -1,5 +1,7 @@
 // This crate has the input and output of the programs `replay` and `bench`: numbers, floats and cells as bytes, and what an output holds before a
 // call.
+#![tactic(auto)]
+
 pub mod filling;
 pub mod reading;
 pub mod writing;
