@@ -3,12 +3,15 @@
 // refusals 1 to 7 and storing its solid (`preflight`). The second is a digit n and says how often it is done, which is 8^n times.
 // tools/bench_float.sh and tools/bench_sheets.sh time it. With no argument, as in the gate, it does each of them a few times, the sheet being the one
 // that has every count at its limit.
+#![tactic(auto)]
+
 mod arithmetic;
 mod sheets;
 
 ghost use Rattle.std.specs.Prelude.{◌<◌};
 
 use float::bits;
+use std::rt::Env;
 use wire::{Run, writing};
 
 fn power(n: u8) -> u64
@@ -27,10 +30,13 @@ fn power(n: u8) -> u64
     }
 }
 
-fn argument(i: usize) -> u8 {
+// Returns the one character of the argument, or 0 where there is none, or where it has another length.
+fn argument(rt: &impl Env, i: usize) -> u8 {
     let mut b = [0u8; 1];
-    let n = os::arg(i, &mut b);
-    if n == 1 { b[0] } else { 0 }
+    match rt.arg(i, &mut b) {
+        Ok(1) => b[0],
+        _ => 0,
+    }
 }
 
 // Does the operation that the letter names that many times, and prints what the last time gave.
@@ -47,10 +53,10 @@ fn each(run: Run) -> Run {
     sheets::judge(d, 1)
 }
 
-fn main() {
+fn main(rt: HostRuntime) {
     let run = wire::start(0, 1);
-    let letter = argument(1);
-    let times = power(argument(2));
+    let letter = argument(&rt, 1);
+    let times = power(argument(&rt, 2));
     match letter {
         b'r' | b'i' | b'd' | b'p' => print(run, letter, times),
         b's' => sheets::judge(run, times),

@@ -28,6 +28,15 @@ fn repeat(sheet: &[u8], words: &mut [u32], floats: &mut [f64], times: u64) -> us
     last
 }
 
+// Reads the sheet into the bytes, judges it that many times, and prints what the last time gives.
+fn judge_in(run: Run, times: u64, bytes: &mut [u8], words: &mut [u32], floats: &mut [f64]) -> Run
+    requires { 0 < times }
+{
+    let n = io::read_full(run.from, bytes);
+    repeat(&bytes[..n], words, floats, times - 1);
+    print(run, &bytes[..n], words, floats)
+}
+
 // Judges the sheet of standard input that many times, and prints what the last time gives.
 pub fn judge(run: Run, times: u64) -> Run
     requires { 0 < times }
@@ -35,7 +44,5 @@ pub fn judge(run: Run, times: u64) -> Run
     let mut bytes = [0u8; BYTES];
     let mut words = [0u32; MAX_WORDS];
     let mut floats = [0.0; MAX_FLOATS];
-    let n = io::read_full(run.from, &mut bytes);
-    repeat(&bytes[..n], &mut words, &mut floats, times - 1);
-    print(run, &bytes[..n], &mut words, &mut floats)
+    judge_in(run, times, &mut bytes, &mut words, &mut floats)
 }

@@ -2,6 +2,8 @@
 // from standard input, and writes the answers to standard output; the module of that name says what a record is, and what is answered. With no
 // argument, as in the gate, it replays the five files WORD.in of the folder that it is run in, holds each answer to WORD.out, and says for each
 // whether all are the same.
+#![tactic(auto)]
+
 mod copies;
 mod digests;
 mod floats;
@@ -10,6 +12,9 @@ mod sheets;
 mod types_calls;
 
 use spec::Answer;
+use std::fs::File;
+use std::os::fd::AsRawFd;
+use std::rt::{Env, Files};
 use wire::{Run, writing};
 
 // A file has fewer records than this.
@@ -75,9 +80,19 @@ fn replay(word: &[u8], from: i32, to: i32) -> Run {
     writing::failed(run)
 }
 
+// Returns the descriptor of the file. Where it could not be opened this is -1, from which nothing is read.
+fn descriptor(file: &std::io::Result<File>) -> i32 {
+    match file {
+        Ok(open) => open.as_raw_fd(),
+        Err(_) => -1,
+    }
+}
+
 // Holds the answers of one file to those of another. Says how many bytes of them are as stored, and whether these are all.
-fn hold(word: &[u8], calls: &[u8], answers: &[u8]) -> bool {
-    let run = replay(word, os::open_read(calls), os::open_read(answers));
+fn hold(rt: &impl Files<File = File>, word: &[u8], calls: &str, answers: &str) -> bool {
+    let from = File::open(rt, calls);
+    let to = File::open(rt, answers);
+    let run = replay(word, descriptor(&from), descriptor(&to));
     io::write_all(1, word);
     io::write_all(1, b" ");
     io::print_decimal(1, run.count);
@@ -87,19 +102,19 @@ fn hold(word: &[u8], calls: &[u8], answers: &[u8]) -> bool {
     io::write_all(1, b" bytes as stored, and then no longer\n")
 }
 
-fn hold_all() {
-    hold(b"floats", b"floats.in", b"floats.out");
-    hold(b"sheets", b"sheets.in", b"sheets.out");
-    hold(b"types", b"types.in", b"types.out");
-    hold(b"searches", b"searches.in", b"searches.out");
-    hold(b"copies", b"copies.in", b"copies.out");
+fn hold_all(rt: &impl Files<File = File>) {
+    hold(rt, b"floats", "floats.in", "floats.out");
+    hold(rt, b"sheets", "sheets.in", "sheets.out");
+    hold(rt, b"types", "types.in", "types.out");
+    hold(rt, b"searches", "searches.in", "searches.out");
+    hold(rt, b"copies", "copies.in", "copies.out");
 }
 
-fn main() {
+fn main(rt: HostRuntime) {
     let mut word = [0u8; 16];
-    let n = os::arg(1, &mut word);
+    let n = rt.arg(1, &mut word).unwrap_or(0);
     if n == 0 {
-        hold_all();
+        hold_all(&rt);
         return;
     }
     if !replay(&word[..n], 0, 1).good {

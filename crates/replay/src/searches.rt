@@ -28,7 +28,7 @@ const MARKS: usize = 2048;
 const LAST_CALL: usize = 3;
 
 // These are the outputs of a search: floats, cells and bytes.
-#[derive(Drop)]
+#[derive(Clone, Copy)]
 enum SearchOutput {
     Matrices,
     Rows,
