@@ -1,5 +1,7 @@
 // Document 01's program `kit` reads a sheet from standard input and prints its types and what the search found, or the refusal. The text grows in one
 // buffer, the types first.
+#![tactic(auto)]
+
 ghost use Rattle.std.specs.Prelude.{◌+◌, ◌*◌, ◌≤◌, length, take};
 ghost use Rattle.spec.specs.Calls.{outcome, members_in};
 ghost use Rattle.spec.specs.KitText.{types_lines, last_line, type_records, lent, work_words, work_floats, kit_text};

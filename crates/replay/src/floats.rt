@@ -1,7 +1,7 @@
 // This module replays stored arithmetic, in numbers of eight bytes, highest byte first. A record may be a 0 and the bit pattern of a float, and is
-// then answered by that of its root. Or it is a dimension from 1 to the greatest and the patterns of a matrix row by row, and is then answered by 1 and the
-// inverse (or by 0 where the matrix is singular), the determinant, the product with the matrix of its rows in falling order, and the image of its
-// first row. tools/make_floats.sh made floats.in and floats.out.
+// then answered by that of its root. Or it is a dimension from 1 to the greatest and the patterns of a matrix row by row, and is then answered by 1
+// and the inverse (or by 0 where the matrix is singular), the determinant, the product with the matrix of its rows in falling order, and the image of
+// its first row. tools/make_floats.sh made floats.in and floats.out.
 ghost use Rattle.std.specs.Prelude.{◌≤◌};
 ghost use Rattle.spec.specs.Limits.{max_dimension};
 
