@@ -30,7 +30,7 @@ fn power(n: u8) -> u64
     }
 }
 
-// Returns the one character of the argument, or 0 where there is none, or where it has another length.
+// Returns the one byte of the argument, or 0 where it is missing or has another length.
 fn argument(rt: &impl Env, i: usize) -> u8 {
     let mut b = [0u8; 1];
     match rt.arg(i, &mut b) {
