@@ -4,7 +4,7 @@ set -e
 cd "$(dirname "$0")/.."
 work=target/compare
 mkdir -p "$work/oracle"
-rt staticlib jidwaleb > "$work/staticlib.log" 2>&1 || { cat "$work/staticlib.log"; exit 1; }
+sh tools/build.sh archive > "$work/staticlib.log" 2>&1 || { cat "$work/staticlib.log"; exit 1; }
 lib() {
     name=$1 source=$2; shift 2
     rustc --edition 2018 -C opt-level=3 --crate-type rlib --crate-name "$name" -L "$work" "$@" -o "$work/lib$name.rlib" "$source"

@@ -1,4 +1,4 @@
-/* Jidwaleb over C's interface: libjidwaleb.a, which `rt staticlib jidwaleb` writes for x86-64 Linux. It needs no other library; of C's it
+/* Jidwaleb over C's interface: libjidwaleb.a, which `sh tools/build.sh archive` writes for x86-64 Linux. It needs no other library; of C's it
  * uses memcpy and memset.
  *
  * Buffers. A buffer goes as a pointer and its length in elements, not in bytes. The caller lends every buffer: no call allocates memory, keeps a

@@ -1,4 +1,4 @@
-//! Tells rustc where libjidwaleb.a is: in the folder that JIDWALEB_LIB_DIR names, or else where `rt staticlib jidwaleb` writes it in this tree.
+//! Tells rustc where libjidwaleb.a is: in the folder that JIDWALEB_LIB_DIR names, or else where `sh tools/build.sh archive` writes it in this tree.
 
 use std::env;
 use std::path::PathBuf;
@@ -14,7 +14,7 @@ fn main() {
     println!("cargo:rerun-if-changed={}", archive.display());
     if !archive.is_file() {
         eprintln!("error: there is no {}", archive.display());
-        eprintln!("Build it with `rt staticlib jidwaleb` at the root of the Jidwaleb tree, or set JIDWALEB_LIB_DIR to the folder that has libjidwaleb.a.");
+        eprintln!("Build it with `sh tools/build.sh archive` at the root of the Jidwaleb tree, or set JIDWALEB_LIB_DIR to the folder that has libjidwaleb.a.");
         exit(1);
     }
     println!("cargo:rustc-link-search=native={}", folder.display());

@@ -3,7 +3,7 @@
 # root beside them. It needs `rt`, gcc and python3.
 set -e
 cd "$(dirname "$0")/.."
-rt check bench > /dev/null
+sh tools/build.sh bench > /dev/null
 work=$(mktemp -d)
 cat > "$work/sqrt.c" <<'END'
 #include <math.h>

@@ -3,7 +3,7 @@
 # (tools/make_largest.py says which). Each sheet is judged 64 times, and the best of five runs counts. It needs `rt` and python3.
 set -e
 cd "$(dirname "$0")/.."
-rt check bench > /dev/null
+sh tools/build.sh bench > /dev/null
 work=$(mktemp -d)
 python3 tools/make_largest.py "$work"
 python3 - "$work" <<'END'

@@ -17,30 +17,28 @@ import tempfile
 
 TOP = os.path.dirname(os.path.dirname(os.path.abspath(__file__)))
 
-HEADER = """use mathlib.Core.Path.{_≡_, refl}
-use Prim.Native.Nat.{ℕ}
-use mathlib.Core.List.{List, [], _∷_, _++_, map}
-use lib.ListN.{replicate}
-use lib.Ieee.{Float, binary64, ofBits, toBits}
-use Rattle·spec.specs.declared.Refusal.{Refusal}
-use Rattle·spec.specs.declared.Refusal.the-variants.{CutSheet, Format, OffTheBoard, BadList, Loose, Mitre, Bench, NotFull, DoubleCorner, Centred, Flat, Blank, ShortSheet, Open, Unsettled}
-use Rattle·spec.specs.declared.Answer.{Answer}
-use Rattle·spec.specs.declared.Answer.the-variants.{Done, Refused}
-use Rattle·spec.specs.Ascii.{ascii}
-use Rattle·spec.specs.Calls.{TypesOut, typesCall, SearchOut, searchCall, rotationsCall}
-use Rattle·spec.specs.Copying.{copyCall}
-use Rattle·spec.specs.KitText.{kitText}
-use Rattle·spec.specs.Eval.{evaluate}
-use Rattle·spec.specs.NumberExamples.{all}
+HEADER = """use Rattle.std.specs.Prelude.{◌≡◌, refl, ℕ, List, [], ◌∷◌, ◌++◌, map, replicate, Float}
+use Rattle.std.specs.Float.{binary64}
+use Rattle.std.specs.Float.Ieee.{of_bits, to_bits}
+use Rattle.spec.specs.declared.Refusal.{Refusal}
+use Rattle.spec.specs.declared.Refusal.TheVariants.{CutSheet, Format, OffTheBoard, BadList, Loose, Mitre, Bench, NotFull, DoubleCorner, Centred, Flat, Blank, ShortSheet, Open, Unsettled}
+use Rattle.spec.specs.declared.Answer.{Answer}
+use Rattle.spec.specs.declared.Answer.TheVariants.{Done, Refused}
+use Rattle.spec.specs.Ascii.{ascii}
+use Rattle.spec.specs.Calls.{TypesOut, types_call, SearchOut, search_call, rotations_call}
+use Rattle.spec.specs.Copying.{copy_call}
+use Rattle.spec.specs.KitText.{kit_text}
+use Rattle.spec.specs.Eval.{evaluate}
+use Rattle.spec.specs.NumberExamples.{all}
 
 shown : Answer × SearchOut → Answer × List ℕ × List ℕ × List ℕ
-shown x = (x .0, map (toBits binary64) (x .1 .matrices), x .1 .rows, x .1 .marks)
+shown x = (x.0, map (to_bits binary64) x.1.matrices, x.1.rows, x.1.marks)
 
 copied : Answer × List Float × List ℕ → Answer × List ℕ × List ℕ
-copied x = (x .0, map (toBits binary64) (x .1), x .2)
+copied x = (x.0, map (to_bits binary64) x.1, x.2)
 
 vec : List ℕ → List Float
-vec l = map (ofBits binary64) l
+vec l = map (of_bits binary64) l
 
 """
 WORDS = ["", "CutSheet", "Format", "OffTheBoard", "BadList", "Loose", "Mitre", "Bench", "NotFull", "DoubleCorner", "Centred", "Flat",
@@ -71,7 +69,7 @@ def refused(lines):
 def kit(folder, name, sheet):
     text = open(f"{folder}/{name}.kit", encoding="utf-8").read()
     quoted = text.replace("\\", "\\\\").replace('"', '\\"').replace("\n", "\\n")
-    return f'kitText {sheet} ≡ ascii "{quoted}"', "evaluate"
+    return f'kit_text {sheet} ≡ ascii "{quoted}"', "evaluate"
 
 
 def types(folder, name, sheet):
@@ -79,13 +77,13 @@ def types(folder, name, sheet):
     why = refused(lines)
     if why:
         out = "record { elements = []; types = [] }"
-        return f"typesCall {sheet} 1000000 1000000 ({out}) ≡ (Refused {why} 0, {out})", "evaluate"
+        return f"types_call {sheet} 1000000 1000000 ({out}) ≡ (Refused {why} 0, {out})", "evaluate"
     n = int(lines[0].split()[1])
     cells = [c for l in lines[1:1 + n] for c in l.split()]
     elements = [c for l in lines[1 + n:] for c in l.split(":")[1].split()]
     old = f"record {{ elements = replicate {len(elements)} 7; types = replicate {len(cells)} 7 }}"
     new = f"record {{ elements = {lst(elements)}; types = {lst(cells)} }}"
-    return f"typesCall {sheet} 1000000 1000000 ({old}) ≡ (Done {n}, {new})", "evaluate"
+    return f"types_call {sheet} 1000000 1000000 ({old}) ≡ (Done {n}, {new})", "evaluate"
 
 
 def search(folder, name, sheet, call, ending):
@@ -100,7 +98,7 @@ def search(folder, name, sheet, call, ending):
             floats += ["0x" + h for h in m.group(1).split()]
             rows += m.group(2).split()
             marks.append(m.group(3))
-    old = f"record {{ matrices = replicate {len(floats)} (ofBits binary64 0); rows = replicate {len(rows)} 7; marks = replicate {len(marks)} 7 }}"
+    old = f"record {{ matrices = replicate {len(floats)} (of_bits binary64 0); rows = replicate {len(rows)} 7; marks = replicate {len(marks)} 7 }}"
     return f"shown ({call} {sheet} 1000000 1000000 ({old})) ≡ (Done {len(marks)}, {lst(floats)}, {lst(rows)}, {lst(marks)})", "evaluate shown"
 
 
@@ -116,7 +114,7 @@ def copy(folder, name):
     # Ample outputs are lent as only a few cells more than the answer fills, so that the evaluation stays short.
     floats = min(int(floats), len(copies) + 4)
     cells = min(int(cells), len(table) + 4)
-    call = f"copied (copyCall {d} (vec {lst(points)}) (vec {lst(turns)}) (replicate {floats} (ofBits binary64 0)) (replicate {cells} 7))"
+    call = f"copied (copy_call {d} (vec {lst(points)}) (vec {lst(turns)}) (replicate {floats} (of_bits binary64 0)) (replicate {cells} 7))"
     got = f"Refused {why} {n}" if why else f"Done {n}"
     new = f"{lst(copies)} ++ replicate {floats - len(copies)} 0"
     return f"{call} ≡ ({got}, {new}, {lst(table)} ++ replicate {cells - len(table)} 7)", "all copied vec"
@@ -135,7 +133,7 @@ def main():
             sheet = lst(open(f"{folder}/{f}", "rb").read())
             cases += [(f"{name}.kit", kit(folder, name, sheet))] if os.path.exists(f"{folder}/{name}.kit") else []
             cases += [(f"{name}.types", types(folder, name, sheet))] if os.path.exists(f"{folder}/{name}.types") else []
-            for call, e in (("searchCall", "search"), ("rotationsCall", "rotations")):
+            for call, e in (("search_call", "search"), ("rotations_call", "rotations")):
                 cases += [(f"{name}.{e}", search(folder, name, sheet, call, e))] if os.path.exists(f"{folder}/{name}.{e}") else []
         elif ending == ".copytext" and os.path.exists(f"{folder}/{name}.copy"):
             cases.append((f"{name}.copy", copy(folder, name)))
@@ -144,12 +142,12 @@ def main():
     os.makedirs(f"{crate}/src")
     os.makedirs(f"{crate}/specs")
     open(f"{work}/crates.txt", "w").write("spec:\none: spec\n")
-    open(f"{crate}/src/lib.rt", "w").write("// nothing to run\n")
+    open(f"{crate}/src/lib.rt", "w").write("// Nothing is to run.\n#![tactic(auto)]\n")
     open(f"{crate}/specs/Lib.antt", "w").write("pub mod One\n")
     for label, (statement, opened) in cases:
         open(f"{crate}/specs/One.antt", "w", encoding="utf-8").write(f"{HEADER}one : {statement}\nunfolding {opened}\none = refl\n")
         try:
-            r = subprocess.run(["rt", "check", "one"], cwd=work, capture_output=True, text=True, timeout=300)
+            r = subprocess.run(["rt", "check"], cwd=crate, capture_output=True, text=True, timeout=300)
             text = r.stdout + r.stderr
             # Only the evaluation's own limit counts as too long. Any other refusal is a difference.
             verdict = "agrees" if r.returncode == 0 else "too long" if "stopped at the step limit" in text else "DIFFERS"

@@ -1,9 +1,11 @@
 #!/bin/sh
-# kit_test.sh: compares what the built program `kit` prints for each sample sheet with the sample's .kit file, and then tests it on no bytes at all
+# kit_test.sh: builds the program `kit`, compares what it prints for each sample sheet with the sample's .kit file, and then tests it on no bytes at all
 # and on a sheet with bytes after it. The samples dihedron-8192, dihedron-8193 and polygon-420 are whole sheets of 8,192 bytes, of 8,193 and of
 # more. The last line counts how many were as expected.
 set -u
 cd "$(dirname "$0")/.." || exit 1
+mkdir -p target
+sh tools/build.sh kit > target/kit.log 2>&1 || { cat target/kit.log; exit 1; }
 alike=0 failed=0
 # hold NAME EXPECTED: tests that what `kit` prints for standard input is what the file EXPECTED holds.
 hold() {

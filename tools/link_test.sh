@@ -7,7 +7,7 @@ cd "$(dirname "$0")/.."
 work=target/link
 unset JIDWALEB_LIB_DIR
 mkdir -p "$work"
-rt staticlib jidwaleb > "$work/staticlib.log" 2>&1 || { cat "$work/staticlib.log"; exit 1; }
+sh tools/build.sh archive > "$work/staticlib.log" 2>&1 || { cat "$work/staticlib.log"; exit 1; }
 # Where the compiler can test for undefined behaviour, the program in C stops at it.
 checks="-fsanitize=undefined -fno-sanitize-recover=all"
 echo 'int main(void) { return 0; }' > "$work/empty.c"

@@ -1,5 +1,5 @@
 //! Which corners, edges and panels of a solid are alike, and by which symmetries: a safe wrapper over `libjidwaleb.a`, the proved static library that
-//! `rt staticlib jidwaleb` writes.
+//! `sh tools/build.sh archive` writes.
 //!
 //! A solid comes as a sheet, a packed form that `docs/SHEET.md` describes. The solid is to be centred at the origin, and its coordinates are to have all
 //! the digits of an `f64`, because everything is compared with the absolute tolerance 1e-7 (`README.md` says what comes of other input).

@@ -8,7 +8,6 @@ use native.Mathlib.Numerals.{add-one}
 use lib.ListN.{length, get_or, set, take, drop}
 use lib.Seq.{slice, length-slice, get_or-take, get_or-drop, take_all, paste, paste-zero, paste-suc, drop-paste}
 use Rattle.spec.specs.Lists.{renumber, eq_list}
-use Rattle.laws.proofs.Counts.{lists}
 use Rattle.ranked.specs.declared.Shape.{Shape}
 use Rattle.ranked.specs.Words.{size_at}
 use Rattle.ranked.specs.Layout.{types_at, scratch_at}

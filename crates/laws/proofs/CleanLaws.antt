@@ -11,7 +11,7 @@ use lib.ListN.{length, get_or}
 use lib.Dec.{T, eqb, leb→le}
 use lib.IntN.{ℤ, pos, negsuc}
 use lib.Ieee.{Float, nan, inf, fin}
-use Rattle.spec.specs.Lists.{In, distinct, count, range, every}
+use Rattle.spec.specs.Lists.{distinct, count, range, every}
 use Rattle.spec.specs.Float.{zero_f, finite}
 use Rattle.spec.specs.Matrix.{Vector}
 use Rattle.spec.specs.Hull.{nearer}

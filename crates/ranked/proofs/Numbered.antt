@@ -1,7 +1,7 @@
 -- The numbers of elements as programs work them out, with the next rank as r + 1.
 -- Assumes nothing.
 use mathlib.Core.Path.{◌≡◌, ap}
-use Prim.Native.Nat.{ℕ, suc, ◌+◌, ◌-◌, ◌≤◌}
+use Prim.Native.Nat.{ℕ, suc, ◌+◌, ◌-◌}
 use native.Mathlib.Numerals.{add-one}
 use lib.ListN.{get_or}
 use Rattle.ranked.specs.declared.Shape.{Shape}

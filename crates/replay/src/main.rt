@@ -26,7 +26,7 @@ const USED_WORD: u32 = 0xa5a5_a5a5;
 const USED_FLOAT: f64 = -1.5e300;
 
 // These are the numbers that a stored answer begins with: that of the refusal, or 0, and the count.
-#[derive(Drop)]
+#[derive(Clone, Copy)]
 struct Numbers {
     refusal: u64,
     count: u64,

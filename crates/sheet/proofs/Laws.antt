@@ -15,7 +15,7 @@ use Rattle.spec.specs.Lists.{In, range, sum}
 use Rattle.spec.specs.Judged.{Judged, refused, passed}
 use Rattle.laws.proofs.Accepted.{same, bound_by, times-read, times-each, rank-read, dimension-read, count-read}
 use Rattle.laws.proofs.Accepted as accepted
-use Rattle.spec.specs.Sheet.{Parsed, done, count, list, lists_at, lists, rank, dimension, read_sheet}
+use Rattle.spec.specs.Sheet.{Parsed, done, count, list, lists_at, lists, read_sheet}
 use Rattle.spec.specs.Types.{Solid, top, size, proper_ranks, elements}
 use Rattle.spec.specs.Solid.{proper_lists, with_top, solid_of, entries}
 use Rattle.sheet.specs.declared.Header.{Header}

@@ -1,6 +1,6 @@
 -- This file has section 2: the solid that a sheet says, and the preflight answers 7, 5 and 6.
 -- Assumes nothing.
-use Rattle.std.specs.Prelude.{ℕ, zero, suc, ◌+◌, ◌-◌, ◌*◌, Bool, true, false, not, ◌&&◌, List, [], ◌∷◌, ◌++◌, map, length, get_or, replicate, leb, ltb, eqb, Float}
+use Rattle.std.specs.Prelude.{ℕ, zero, suc, ◌+◌, ◌-◌, ◌*◌, Bool, ◌&&◌, List, [], ◌∷◌, ◌++◌, map, length, get_or, replicate, leb, ltb, eqb, Float}
 use Rattle.spec.specs.declared.Refusal.TheVariants.{Loose, Mitre, Bench}
 use Rattle.spec.specs.Lists.{holds, range, keep, sum, every}
 use Rattle.spec.specs.Types.{Solid, top, size, subs, sups, proper_ranks, elements}

@@ -1,5 +1,7 @@
 // This crate has section 2's limits for the programs, and what a public call answers, which is document 01's table of preflight answers as an enum.
 // The rest of this crate consists of definitions and of examples that evaluate them (specs/). The theorems about them are in crate `laws`.
+#![tactic(auto)]
+
 ghost use Rattle.std.specs.Prelude.{◌≡◌};
 ghost use Rattle.spec.specs.Refusal.{number};
 

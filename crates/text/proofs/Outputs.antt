@@ -3,8 +3,8 @@
 use mathlib.Core.Path.{◌≡◌, refl, sym, ap, ap₂, ◌∙◌}
 use mathlib.Core.Logic.{inl, inr}
 use mathlib.Core.List.{List, [], ◌∷◌, ◌++◌, map, append_assoc, append-nil}
-use Prim.Native.Nat.{ℕ, suc, ◌*◌}
-use lib.ListN.{length, take, drop, length-map}
+use Prim.Native.Nat.{ℕ, ◌*◌}
+use lib.ListN.{length, take, length-map}
 use lib.Seq.{take_at, drop_at}
 use lib.Ieee.{Float}
 use Rattle.spec.specs.Lists.{In, sum, join, parts, written}
@@ -18,7 +18,7 @@ use Rattle.laws.proofs.Shapes.{Square, square_long, type_cells_lem}
 use Rattle.text.specs.Cells.{types_from}
 use Rattle.text.specs.Members.{members_text, rotation_count}
 use Rattle.text.proofs.Tables.{types_back}
-use Rattle.text.proofs.Counted.{counted, count-rotations, members_line_lem}
+use Rattle.text.proofs.Counted.{count-rotations, members_line_lem}
 
 -- Where l was written, l stands.
 take-written : {A : Type 0} (l old : List A) (n : ℕ) → length l ≡ n → take n (written l old) ≡ l

@@ -1,6 +1,6 @@
 -- The types of a table of four cells each are read one more at a time, and their lines have bounded lengths.
 -- Assumes nothing.
-use mathlib.Core.Path.{◌≡◌, refl, sym, ap, ap₂, ◌∙◌}
+use mathlib.Core.Path.{◌≡◌, refl, sym, ap, ◌∙◌}
 use mathlib.Core.List.{List, [], ◌∷◌, ◌++◌, map, map-append, append_assoc, append-nil}
 use Prim.Native.Nat.{ℕ, zero, suc, ◌+◌, ◌*◌, ◌^◌, ◌-◌, ◌≤◌, ◌<◌}
 use native.Mathlib.Nat.{add-zero}
@@ -12,7 +12,7 @@ use Rattle.spec.specs.Lists.{join}
 use Rattle.spec.specs.Types.{ElementType}
 use Rattle.spec.specs.Calls.{type_cells}
 use Rattle.spec.specs.Ascii.{ascii}
-use Rattle.spec.specs.KitText.{decimal, type_line, types_lines}
+use Rattle.spec.specs.KitText.{type_line, types_lines}
 use Rattle.text.specs.Cells.{types_from, lines_to}
 use Rattle.text.proofs.Decimals.{decimal-word, decimal-cell}
 use Rattle.text.proofs.Pieces.{part, less}

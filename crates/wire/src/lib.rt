@@ -10,7 +10,7 @@ ghost use Rattle.std.specs.Prelude.{◌≡◌, true, false, ◌<◌};
 
 // This is a run over stored calls: where they come from, where the answers go, how many bytes of answers went there so far, whether all went well,
 // and whether the run has ended. Answers go to standard output, or are held to those that another file has.
-#[derive(Drop)]
+#[derive(Clone, Copy)]
 pub struct Run {
     pub from: i32,
     pub to: i32,

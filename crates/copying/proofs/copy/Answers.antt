@@ -1,7 +1,6 @@
 -- The judgement comes first, and the copying where it passes.
 -- Assumes nothing.
 use mathlib.Core.Path.{sym, ap, ◌∙◌}
-use borrow.Author.Rules.{rules}
 use Rattle.copying.specs.Post.{verdict_as}
 use Rattle.copying.proofs.Outcome.{call-refused, call_passed}
 use Rattle.copying.proofs.copy.Goals as goal

@@ -1,14 +1,11 @@
 -- Going down from the top, the elements above rank r are found, and the one at r is at hand.
 -- Assumes nothing.
-use borrow.Author.Rules.{rules}
-use native.Mathlib.Omega.{arith}
-use mathlib.Core.Path.{refl}
 use mathlib.Core.List.{◌++◌}
 use Prim.Native.Nat.{suc, ◌-◌}
 use lib.ListN.{get_or, take, drop}
 use Rattle.spec.specs.Flags.{first_to}
 use Rattle.ranked.specs.Words.{abs_in}
-use Rattle.flag.proofs.Flags.{Down, next_down, last-down}
+use Rattle.flag.proofs.Flags.{Down}
 use Rattle.flag.proofs.down.Given as goal
 
 abbrev pub invariant-loop-r : goal.invariant-loop-r

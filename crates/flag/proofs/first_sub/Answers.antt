@@ -1,11 +1,10 @@
 -- The list of subs has an entry.
 -- Assumes nothing.
-use borrow.Author.Rules.{rules}
 use Rattle.flag.proofs.Flags.{some_sub}
 use Rattle.flag.proofs.first_sub.Goals as goal
 
 pub sub-requires : goal.sub-requires
-sub-requires c = 
+sub-requires c =
     let a = c.args in
     record {
       held = c.requires.held;

@@ -21,7 +21,7 @@ lies c = let a = c.args in above_lies a.sh a.lists.now c.requires.held a.element
 
 pub subs-above-requires : goal.subs-above-requires
 unfolding more_of
-subs-above-requires c = 
+subs-above-requires c =
     let a = c.args in
     let f = word_fits a.sh a.lists.now c.requires.held a.elements a.r c.requires.r_lt_rank.0 c.requires.r_lt_rank.1 in (f.0, omega (arith, f.1))
 
@@ -35,7 +35,7 @@ place_at-k-requires c = lies (goal.at.place_at-k-requires c).After-subs-above
 
 pub overflow_add-k : goal.overflow_add-k
 unfolding more_of
-overflow_add-k c = 
+overflow_add-k c =
     let a = c.args in
     omega (
       arith,
@@ -45,13 +45,13 @@ overflow_add-k c =
 pub entry_at-requires : goal.entry_at-requires
 unfolding more_of
 entry_at-requires c = record {
-      lies = lies (goal.at.entry_at-requires c).After-subs-above;
-      k_in_bounds = omega (arith, c.count_at-n.ensures);
-    }
+  lies = lies (goal.at.entry_at-requires c).After-subs-above;
+  k_in_bounds = omega (arith, c.count_at-n.ensures);
+}
 
 pub down-lower-requires : goal.down-lower-requires
 unfolding more_of
-down-lower-requires c = 
+down-lower-requires c =
     let a = c.args in record {
       held = c.requires.held;
       from_le_rank = (
@@ -63,14 +63,14 @@ down-lower-requires c =
 
 pub returns-then-k-n : goal.returns-then-k-n
 unfolding more_of
-returns-then-k-n c = 
+returns-then-k-n c =
     let a = c.args in
     moved_yes a.sh a.lists.now c.requires.held a.elements a.r c.requires.r_lt_rank.0 c.requires.r_lt_rank.1 c.subs-above.result c.subs-above.ensures c.place_at-k.result c.count_at-n.result c.place_at-k.ensures c.count_at-n.ensures
     c.entry_at.result c.entry_at.ensures c.if-k-n.true (long (goal.at.returns-then-k-n c).Start) c.down-lower.result c.down-lower.ensures
 
 pub returns : goal.returns
 unfolding more_of
-returns c = 
+returns c =
     let a = c.args in
     moved_no a.sh a.lists.now c.requires.held a.elements a.r c.requires.r_lt_rank.0 c.requires.r_lt_rank.1 c.subs-above.result c.subs-above.ensures c.place_at-k.result c.count_at-n.result c.place_at-k.ensures c.count_at-n.ensures
     c.if-k-n.false a.elements

@@ -1,20 +1,14 @@
 use borrow.Author.Rules.{rules}
 use native.Mathlib.Omega.{arith}
-use mathlib.Core.Path.{◌≡◌, refl, sym, ap, ◌∙◌}
-use mathlib.Core.Bool.{Bool}
+use mathlib.Core.Path.{refl, sym, ap, ◌∙◌}
 use mathlib.Core.Option.{some}
-use mathlib.Core.List.{List}
-use Prim.Native.Nat.{ℕ, ◌+◌, ◌*◌, ◌≤◌, ◌-◌}
-use lib.ListN.{length}
-use lib.Dec.{eqb}
-use Rattle.spec.specs.Lists.{holds}
+use Prim.Native.Nat.{◌+◌, ◌*◌}
 use Rattle.ranked.specs.Words.{list_at}
 use Rattle.ranked.specs.Reading.{Lies, holding}
 use Rattle.ranked.proofs.Turns.{entry_in}
 use Rattle.flag.specs.Reading.{other_of}
-use Rattle.flag.proofs.Flags.{OtherFrom, other-kept, other_no, other_yes, other-end}
+use Rattle.flag.proofs.Flags.{other-kept, other_no, other_yes, other-end}
 use Rattle.flag.proofs.other_at.Goals.{After-entry_at-y}
-use Rattle.flag.proofs.other_at.Invariants.{p}
 use Rattle.flag.proofs.other_at.Goals as goal
 
 -- The entry's list lies within the words.
@@ -30,9 +24,9 @@ loop-k-init c = (search rules, c.count_at-n.ensures, refl)
 pub entry_at-y-requires : goal.entry_at-y-requires
 unfolding holding other_of
 entry_at-y-requires c = record {
-      lies = search rules;
-      k_in_bounds = search rules;
-    }
+  lies = search rules;
+  k_in_bounds = search rules;
+}
 
 pub list_word-requires : goal.list_word-requires
 unfolding holding other_of
@@ -44,7 +38,7 @@ holds_at-requires c = rw (sym c.list_word.ensures) at (lies (goal.at.holds_at-re
 
 pub returns-then-holds_at : goal.returns-then-holds_at
 unfolding holding other_of
-returns-then-holds_at c = 
+returns-then-holds_at c =
     ap some c.entry_at-y.ensures
     ∙ other_yes _ _ _ c.loop-k.k (omega (arith, c.loop-k-test.true, c.loop-k.invariant.1)) c.loop-k.invariant.2
     (λ q. c.if-y-e.true (c.entry_at-y.ensures ∙ q))
@@ -57,11 +51,11 @@ loop-k-smaller-else-holds_at c = search rules
 pub loop-k-preserved-else-holds_at : goal.loop-k-preserved-else-holds_at
 unfolding holding other_of
 loop-k-preserved-else-holds_at c = (
-      omega (arith, c.loop-k-test.true),
-      c.loop-k.invariant.1,
-      other_no _ _ _ c.loop-k.k (omega (arith, c.loop-k-test.true, c.loop-k.invariant.1)) c.loop-k.invariant.2
-          (rw c.entry_at-y.ensures at (rw c.list_word.ensures at (sym c.holds_at.ensures ∙ c.if-holds_at.false))),
-    )
+  omega (arith, c.loop-k-test.true),
+  c.loop-k.invariant.1,
+  other_no _ _ _ c.loop-k.k (omega (arith, c.loop-k-test.true, c.loop-k.invariant.1)) c.loop-k.invariant.2
+      (rw c.entry_at-y.ensures at (rw c.list_word.ensures at (sym c.holds_at.ensures ∙ c.if-holds_at.false))),
+)
 
 pub loop-k-smaller : goal.loop-k-smaller
 unfolding holding other_of
@@ -70,10 +64,10 @@ loop-k-smaller c = search rules
 pub loop-k-preserved : goal.loop-k-preserved
 unfolding holding other_of
 loop-k-preserved c = (
-      omega (arith, c.loop-k-test.true),
-      c.loop-k.invariant.1,
-      other-kept _ _ _ c.loop-k.k (omega (arith, c.loop-k-test.true, c.loop-k.invariant.1)) c.loop-k.invariant.2 (sym c.entry_at-y.ensures ∙ c.if-y-e.false),
-    )
+  omega (arith, c.loop-k-test.true),
+  c.loop-k.invariant.1,
+  other-kept _ _ _ c.loop-k.k (omega (arith, c.loop-k-test.true, c.loop-k.invariant.1)) c.loop-k.invariant.2 (sym c.entry_at-y.ensures ∙ c.if-y-e.false),
+)
 
 pub returns : goal.returns
 unfolding holding other_of

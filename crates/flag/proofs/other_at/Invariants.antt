@@ -1,20 +1,14 @@
 -- What is left of the list gives what the whole gives.
 -- Assumes nothing.
-use borrow.Author.Rules.{rules}
-use native.Mathlib.Omega.{arith}
-use mathlib.Core.Path.{◌≡◌, refl, sym, ap, ◌∙◌}
+use mathlib.Core.Path.{◌≡◌}
 use mathlib.Core.Bool.{Bool}
-use mathlib.Core.Option.{some}
 use mathlib.Core.List.{List}
 use Prim.Native.Nat.{ℕ, ◌+◌, ◌*◌, ◌≤◌, ◌-◌}
 use lib.ListN.{length}
 use lib.Dec.{eqb}
 use Rattle.spec.specs.Lists.{holds}
 use Rattle.ranked.specs.Words.{list_at}
-use Rattle.ranked.specs.Reading.{Lies, holding}
-use Rattle.ranked.proofs.Turns.{entry_in}
-use Rattle.flag.specs.Reading.{other_of}
-use Rattle.flag.proofs.Flags.{OtherFrom, other-kept, other_no, other_yes, other-end}
+use Rattle.flag.proofs.Flags.{OtherFrom}
 use Rattle.flag.proofs.other_at.Given as goal
 
 abbrev pub p : List ℕ → ℕ → ℕ → ℕ → Bool

@@ -1,6 +1,5 @@
 -- Either list gives the same, since they hold the same elements between in the same order.
 -- Assumes nothing.
-use borrow.Author.Rules.{rules}
 use native.Mathlib.Omega.{arith}
 use native.Mathlib.Numerals.{add-one}
 use mathlib.Core.Path.{◌≡◌, sym, ap, ◌∙◌}
@@ -39,25 +38,25 @@ subs-requires c = (omega (arith, c.requires.held.tall, c.requires.r_nonzero.1), 
 
 pub other_at-requires : goal.other_at-requires
 other_at-requires c = rw (c.subs-above.ensures, c.subs.ensures, add-one c.args.r) (record {
-      lies = (both (goal.at.other_at-requires c).Start).up;
-      each = (both (goal.at.other_at-requires c).Start).ups;
-    })
+  lies = (both (goal.at.other_at-requires c).Start).up;
+  each = (both (goal.at.other_at-requires c).Start).ups;
+})
 
 pub sups-requires : goal.sups-requires
 sups-requires c = (omega (arith, c.requires.held.tall, c.requires.r_nonzero.1), omega (arith, (both (goal.at.sups-requires c).Start).fits))
 
 pub other_at-requires-else-count_at : goal.other_at-requires-else-count_at
 other_at-requires-else-count_at c = rw (c.sups-below.ensures, c.sups.ensures) (record {
-      lies = (both (goal.at.other_at-requires-else-count_at c).Start).down;
-      each = (both (goal.at.other_at-requires-else-count_at c).Start).downs;
-    })
+  lies = (both (goal.at.other_at-requires-else-count_at c).Start).down;
+  each = (both (goal.at.other_at-requires-else-count_at c).Start).downs;
+})
 
 pub returns-then-count_at : goal.returns-then-count_at
-returns-then-count_at c = 
+returns-then-count_at c =
     let a = c.args in
     (rw (c.subs-above.ensures, c.subs.ensures, add-one a.r) at c.other_at.ensures) ∙ ap (other_in a.e) (found (goal.at.returns-then-count_at c).Start)
 
 pub returns-else-count_at : goal.returns-else-count_at
-returns-else-count_at c = 
+returns-else-count_at c =
     let a = c.args in
     (rw (c.sups-below.ensures, c.sups.ensures) at c.other_at-else-count_at.ensures) ∙ ap (other_in a.e) (sym (both (goal.at.returns-else-count_at c).Start).same ∙ found (goal.at.returns-else-count_at c).Start)

@@ -7,7 +7,6 @@ use lib.Ieee.{Float}
 use Rattle.spec.specs.declared.Answer.{Answer}
 use Rattle.spec.specs.Refusal.{answer_count}
 use Rattle.spec.specs.Copying.{copy_call}
-use borrow.Author.Rules.{rules}
 use Rattle.jidwaleb.specs.Code.{code_of, coded}
 use Rattle.jidwaleb.proofs.Coded.{decoded}
 use Rattle.jidwaleb.proofs.Counted.{copy-count}

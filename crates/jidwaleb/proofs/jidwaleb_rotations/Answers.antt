@@ -9,7 +9,7 @@ pub code-requires : goal.code-requires
 code-requires c = fits _ _ _ c.rotations.ensures.marks_after (rotations-count _ _ _ _)
 
 pub returns : goal.returns
-returns c = 
+returns c =
     let s = c.rotations.ensures in
     let k = rotations-count _ _ _ _ in
     let p = c.code.ensures in

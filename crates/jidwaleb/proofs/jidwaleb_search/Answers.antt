@@ -9,7 +9,7 @@ pub code-requires : goal.code-requires
 code-requires c = fits _ _ _ c.search.ensures.marks_after (search-count _ _ _ _)
 
 pub returns : goal.returns
-returns c = 
+returns c =
     let s = c.search.ensures in
     let k = search-count _ _ _ _ in
     let p = c.code.ensures in

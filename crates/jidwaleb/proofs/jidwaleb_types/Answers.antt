@@ -9,7 +9,7 @@ pub code-requires : goal.code-requires
 code-requires c = fits _ _ _ c.element_types.ensures.table_after (types-count _ _ _ _)
 
 pub returns : goal.returns
-returns c = 
+returns c =
     let t = c.element_types.ensures in
     let k = types-count _ _ _ _ in
     let p = c.code.ensures in record {

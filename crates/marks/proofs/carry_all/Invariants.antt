@@ -1,11 +1,8 @@
 -- One rank after another is carried.
 -- Assumes nothing.
-use borrow.Author.Rules.{rules}
-use borrow.Author.Tests.{not-true, not-false}
-use mathlib.Core.Path.{sym, ◌∙◌}
 use Prim.Native.Nat.{◌-◌}
 use Rattle.marks.specs.Rows.{classes_on}
-use Rattle.marks.proofs.Carried.{RanksCarried, ranks-first, rank_now, ranks_stop, ranks-next, ranks-end}
+use Rattle.marks.proofs.Carried.{RanksCarried}
 use Rattle.marks.proofs.carry_all.Given as goal
 
 abbrev pub invariant-loop-r : goal.invariant-loop-r

@@ -1,4 +1,3 @@
-use borrow.Author.Rules.{rules}
 use native.Mathlib.Omega.{arith}
 use mathlib.Core.Path.{subst}
 use mathlib.Core.Bool.{false≢true}
@@ -12,7 +11,7 @@ use Rattle.ranked.specs.Words.{first_at, size_at, abs_in}
 use Rattle.ranked.specs.Layout.{class_at}
 use Rattle.marks.specs.Rises.{Landed}
 use Rattle.marks.specs.Rows.{classes_on, ClassesOf}
-use Rattle.marks.proofs.Carried.{ranks_lie, cells_long, cells_share, ElementsCarried, fewer_left, elements-first, cell_in, elements_in, elements_stop, elements-next, elements-end}
+use Rattle.marks.proofs.Carried.{ranks_lie, cells_long, cells_share, fewer_left, elements-first, cell_in, elements_in, elements_stop, elements-next, elements-end}
 use Rattle.marks.proofs.carry_rank.Goals.{In-At, In-loop-e, Start}
 use Rattle.marks.proofs.carry_rank.Goals as goal
 
@@ -71,12 +70,12 @@ pub slice_bounds-cells-end : goal.slice_bounds-cells-end
 slice_bounds-cells-end c = omega (arith, c.class-from.ensures, (bounds (goal.at.slice_bounds-cells-end c).Start).3)
 
 pub loop-e-init : goal.loop-e-init
-loop-e-init c = 
+loop-e-init c =
     let a = c.args in
     elements-first a.sh a.lists.now a.row.now (classes_on a.sh a.lists.now a.floats.now) a.goes.now a.r _ _ c.requires.rank c.start-base.ensures c.size-n.ensures
 
 pub image_of-requires : goal.image_of-requires
-image_of-requires c = 
+image_of-requires c =
     let a = c.args in
     let long = cells_long a.sh a.lists.now a.floats.now c.requires.row.0.held c.requires.row.1 a.r c.requires.rank.low c.requires.rank.high _ c.class-from.ensures in
     record {
@@ -89,9 +88,9 @@ shape_of-goes-in_default c = c.loop-e.invariant.long
 
 pub returns-in_default : goal.returns-in_default
 returns-in_default c = record {
-      value = elements_stop c.loop-e.invariant c.requires.row.0.held c.loop-e-test.true (rw c.in_default.is at (c.image_of.ensures (classesHere (goal.at.returns-in_default c).In-loop-e) (share (goal.at.returns-in_default c).In-loop-e)));
-      images = (λ z. absurd (false≢true z));
-    }
+  value = elements_stop c.loop-e.invariant c.requires.row.0.held c.loop-e-test.true (rw c.in_default.is at (c.image_of.ensures (classesHere (goal.at.returns-in_default c).In-loop-e) (share (goal.at.returns-in_default c).In-loop-e)));
+  images = (λ z. absurd (false≢true z));
+}
 
 pub overflow_cast-goes : goal.overflow_cast-goes
 overflow_cast-goes c = omega (arith, small c)
@@ -115,7 +114,7 @@ pub shape_of-goes : goal.shape_of-goes
 shape_of-goes c = c.loop-e.invariant.long
 
 pub returns : goal.returns
-returns c = 
+returns c =
     let e = elements-end c.loop-e.invariant c.requires.row.0.held c.loop-e-test.false in
     record {
       value = e.0;

@@ -1,16 +1,12 @@
 use borrow.Author.Rules.{rules}
 use native.Mathlib.Omega.{arith}
-use mathlib.Core.Path.{◌≡◌, refl, sym, ap, ◌∙◌}
-use mathlib.Core.Bool.{Bool}
-use mathlib.Core.List.{List}
-use Prim.Native.Nat.{ℕ, ◌+◌, ◌*◌, ◌≤◌, ◌-◌}
-use lib.ListN.{length, get_or}
+use mathlib.Core.Path.{refl, sym, ap, ◌∙◌}
+use Prim.Native.Nat.{ℕ, ◌+◌, ◌*◌}
 use Rattle.points.specs.declared.Found.TheVariants.{At}
 use Rattle.ranked.specs.Words.{list_at}
 use Rattle.ranked.specs.Reading.{Lies}
 use Rattle.ranked.proofs.Turns.{entry_in}
-use Rattle.marks.specs.Rises.{onto}
-use Rattle.marks.proofs.Found.{First, first_no, first_yes, first-end}
+use Rattle.marks.proofs.Found.{first_no, first_yes, first-end}
 use Rattle.marks.proofs.first_onto.Goals.{After-entry_at-g}
 use Rattle.marks.proofs.first_onto.Invariants.{p}
 use Rattle.marks.proofs.first_onto.Goals as goal
@@ -25,27 +21,27 @@ loop-k-init c = (search rules, c.count_at-n.ensures, refl)
 
 pub entry_at-g-requires : goal.entry_at-g-requires
 entry_at-g-requires c = record {
-      lies = search rules;
-      k_in_bounds = search rules;
-    }
+  lies = search rules;
+  k_in_bounds = search rules;
+}
 
 pub list_word-at-requires : goal.list_word-at-requires
 list_word-at-requires c = omega (arith, (lies c).head)
 
 pub is_onto-requires : goal.is_onto-requires
 is_onto-requires c = rw c.list_word-at.ensures (record {
-      lies = (c.requires.lies.0, lies (goal.at.is_onto-requires c).After-entry_at-g);
-      by_index = c.requires.by_index;
-    })
+  lies = (c.requires.lies.0, lies (goal.at.is_onto-requires c).After-entry_at-g);
+  by_index = c.requires.by_index;
+})
 
 pub returns-then-is_onto : goal.returns-then-is_onto
-returns-then-is_onto c = 
+returns-then-is_onto c =
     let a = c.args in
     ap (λ (g : ℕ). At g) c.entry_at-g.ensures ∙ first_yes (p a.lists.now a.goes.now a.base a.i a.up) _ c.loop-k.k (omega (arith, c.loop-k-test.true, c.loop-k.invariant.1)) c.loop-k.invariant.2
     (rw (c.list_word-at.ensures, c.entry_at-g.ensures) at (sym c.is_onto.ensures ∙ c.if-is_onto.true))
 
 pub loop-k-preserved : goal.loop-k-preserved
-loop-k-preserved c = 
+loop-k-preserved c =
     let a = c.args in (
       search rules,
       c.loop-k.invariant.1,

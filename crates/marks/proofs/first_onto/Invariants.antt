@@ -1,18 +1,13 @@
 -- What is left of the list gives what the whole gives.
 -- Assumes nothing.
-use borrow.Author.Rules.{rules}
-use native.Mathlib.Omega.{arith}
-use mathlib.Core.Path.{◌≡◌, refl, sym, ap, ◌∙◌}
+use mathlib.Core.Path.{◌≡◌}
 use mathlib.Core.Bool.{Bool}
 use mathlib.Core.List.{List}
 use Prim.Native.Nat.{ℕ, ◌+◌, ◌*◌, ◌≤◌, ◌-◌}
 use lib.ListN.{length, get_or}
-use Rattle.points.specs.declared.Found.TheVariants.{At}
 use Rattle.ranked.specs.Words.{list_at}
-use Rattle.ranked.specs.Reading.{Lies}
-use Rattle.ranked.proofs.Turns.{entry_in}
 use Rattle.marks.specs.Rises.{onto}
-use Rattle.marks.proofs.Found.{First, first_no, first_yes, first-end}
+use Rattle.marks.proofs.Found.{First}
 use Rattle.marks.proofs.first_onto.Given as goal
 
 abbrev pub p : List ℕ → List ℕ → ℕ → ℕ → ℕ → ℕ → Bool

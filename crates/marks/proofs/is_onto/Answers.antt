@@ -1,6 +1,5 @@
 -- There are as many, and all of them land.
 -- Assumes nothing.
-use borrow.Author.Rules.{rules}
 use mathlib.Core.Path.{sym, ◌∙◌}
 use Rattle.marks.proofs.Found.{onto_not, onto_is}
 use Rattle.marks.proofs.is_onto.Goals as goal

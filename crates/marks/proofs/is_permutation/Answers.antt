@@ -1,8 +1,6 @@
-use borrow.Author.Rules.{rules}
 use native.Mathlib.Omega.{arith}
-use Prim.Native.Nat.{◌-◌}
 use Rattle.spec.specs.Limits.{max_count}
-use Rattle.marks.proofs.Rows.{Seen, seen_none, seen_next, seen_high, seen_twice, seen_all}
+use Rattle.marks.proofs.Rows.{seen_none, seen_next, seen_high, seen_twice, seen_all}
 use Rattle.marks.proofs.is_permutation.Goals as goal
 
 pub loop-k-init : goal.loop-k-init

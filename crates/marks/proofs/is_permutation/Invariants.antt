@@ -1,10 +1,7 @@
 -- What is marked is what was met: an entry that is marked is there twice.
 -- Assumes nothing.
-use borrow.Author.Rules.{rules}
-use native.Mathlib.Omega.{arith}
 use Prim.Native.Nat.{◌-◌}
-use Rattle.spec.specs.Limits.{max_count}
-use Rattle.marks.proofs.Rows.{Seen, seen_none, seen_next, seen_high, seen_twice, seen_all}
+use Rattle.marks.proofs.Rows.{Seen}
 use Rattle.marks.proofs.is_permutation.Given as goal
 
 abbrev pub invariant-loop-k : goal.invariant-loop-k

@@ -1,15 +1,10 @@
 use borrow.Author.Rules.{rules}
-use borrow.Author.Tests.{not-true, not-false}
 use native.Mathlib.Omega.{arith}
-use mathlib.Core.Path.{◌≡◌, refl, sym, ◌∙◌}
-use mathlib.Core.Bool.{Bool}
-use mathlib.Core.List.{List}
-use Prim.Native.Nat.{ℕ, ◌+◌, ◌≤◌, ◌<◌, ◌-◌}
-use lib.ListN.{length, get_or}
-use lib.Dec.{eqb}
-use Rattle.spec.specs.Lists.{holds}
+use mathlib.Core.Path.{refl, sym, ◌∙◌}
+use Prim.Native.Nat.{◌+◌, ◌<◌}
+use lib.ListN.{length}
 use Rattle.ranked.specs.Words.{list_at}
-use Rattle.ranked.proofs.Turns.{entry_in, Every, every_yes, every_no, every-end}
+use Rattle.ranked.proofs.Turns.{entry_in, every_yes, every_no, every-end}
 use Rattle.marks.proofs.lands.Goals.{After-entry_at-f}
 use Rattle.marks.proofs.lands.Invariants.{p}
 use Rattle.marks.proofs.lands.Goals as goal
@@ -24,9 +19,9 @@ loop-k-init c = (search rules, c.count_at-n.ensures, refl)
 
 pub entry_at-f-requires : goal.entry_at-f-requires
 entry_at-f-requires c = record {
-      lies = search rules;
-      k_in_bounds = search rules;
-    }
+  lies = search rules;
+  k_in_bounds = search rules;
+}
 
 pub overflow_add-base : goal.overflow_add-base
 overflow_add-base c = omega (arith, lies c)
@@ -35,13 +30,13 @@ pub cell-x-requires : goal.cell-x-requires
 cell-x-requires c = lies c
 
 pub returns-then-not-holds_at : goal.returns-then-not-holds_at
-returns-then-not-holds_at c = 
+returns-then-not-holds_at c =
     let a = c.args in
     every_no (p a.lists.now a.goes.now a.base a.j) 0 _ c.loop-k.k (omega (arith, c.loop-k-test.true, c.loop-k.invariant.1)) c.loop-k.invariant.2
     (sym (rw (c.cell-x.ensures, c.entry_at-f.ensures) at c.holds_at.ensures) ∙ c.if-not-holds_at.true)
 
 pub loop-k-preserved : goal.loop-k-preserved
-loop-k-preserved c = 
+loop-k-preserved c =
     let a = c.args in (
       search rules,
       c.loop-k.invariant.1,

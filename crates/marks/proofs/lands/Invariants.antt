@@ -1,17 +1,14 @@
 -- What is left of the list lands exactly if the whole does.
 -- Assumes nothing.
-use borrow.Author.Rules.{rules}
-use borrow.Author.Tests.{not-true, not-false}
-use native.Mathlib.Omega.{arith}
-use mathlib.Core.Path.{◌≡◌, refl, sym, ◌∙◌}
+use mathlib.Core.Path.{◌≡◌}
 use mathlib.Core.Bool.{Bool}
 use mathlib.Core.List.{List}
-use Prim.Native.Nat.{ℕ, ◌+◌, ◌≤◌, ◌<◌, ◌-◌}
+use Prim.Native.Nat.{ℕ, ◌+◌, ◌≤◌, ◌-◌}
 use lib.ListN.{length, get_or}
 use lib.Dec.{eqb}
 use Rattle.spec.specs.Lists.{holds}
 use Rattle.ranked.specs.Words.{list_at}
-use Rattle.ranked.proofs.Turns.{entry_in, Every, every_yes, every_no, every-end}
+use Rattle.ranked.proofs.Turns.{Every}
 use Rattle.marks.proofs.lands.Given as goal
 
 abbrev pub p : List ℕ → List ℕ → ℕ → ℕ → ℕ → Bool

@@ -1,6 +1,5 @@
 -- The clauses come one after another, and the first that fails makes the mark 0.
 -- Assumes nothing.
-use borrow.Author.Tests.{not-true, not-false}
 use native.Mathlib.Omega.{arith}
 use mathlib.Core.Path.{◌≡◌, sym, ◌∙◌}
 use mathlib.Core.Bool.{true, false}
@@ -27,7 +26,7 @@ row_is : (c : Else-not-is_permutation) → permutes c.args.row.now ≡ true
 row_is c = sym c.is_permutation.ensures ∙ c.if-not-is_permutation.false
 
 pub returns-then-not-apart : goal.returns-then-not-apart
-returns-then-not-apart c = 
+returns-then-not-apart c =
     let a = c.args in
     no_sets _ (classes_on a.sh a.lists.now a.floats.now) a.row.now (full (goal.at.returns-then-not-apart c).Start) (sym c.requires.apart_value ∙ c.if-not-apart.true)
 
@@ -35,7 +34,7 @@ pub is_permutation-requires : goal.is_permutation-requires
 is_permutation-requires c = omega (arith, c.requires.row_len.0, few_vertices c.args.sh c.args.lists.now c.requires.held.0)
 
 pub returns-then-not-is_permutation : goal.returns-then-not-is_permutation
-returns-then-not-is_permutation c = 
+returns-then-not-is_permutation c =
     let a = c.args in
     no_row _ (classes_on a.sh a.lists.now a.floats.now) a.row.now (full (goal.at.returns-then-not-is_permutation c).Start) (apart_is (goal.at.returns-then-not-is_permutation c).Else-not-apart) (sym c.is_permutation.ensures ∙ c.if-not-is_permutation.true)
 
@@ -46,7 +45,7 @@ pub shape_of-goes-then-not-carry_all : goal.shape_of-goes-then-not-carry_all
 shape_of-goes-then-not-carry_all c = c.carry_all.auto.goes
 
 pub returns-then-not-carry_all : goal.returns-then-not-carry_all
-returns-then-not-carry_all c = 
+returns-then-not-carry_all c =
     let a = c.args in
     all_else _ (classes_on a.sh a.lists.now a.floats.now) a.row.now (full (goal.at.returns-then-not-carry_all c).Start) (apart_is (goal.at.returns-then-not-carry_all c).Else-not-apart) (row_is (goal.at.returns-then-not-carry_all c).Else-not-is_permutation) false (sym c.if-not-carry_all.true ∙ c.carry_all.ensures)
 
@@ -54,6 +53,6 @@ pub shape_of-goes : goal.shape_of-goes
 shape_of-goes c = c.carry_all.auto.goes
 
 pub returns : goal.returns
-returns c = 
+returns c =
     let a = c.args in
     all_else _ (classes_on a.sh a.lists.now a.floats.now) a.row.now (full (goal.at.returns c).Start) (apart_is (goal.at.returns c).Else-not-apart) (row_is (goal.at.returns c).Else-not-is_permutation) true (sym c.if-not-carry_all.false ∙ c.carry_all.ensures)

@@ -1,6 +1,5 @@
 -- A vertex goes where the row says, and any other element by its subs.
 -- Assumes nothing.
-use borrow.Author.Rules.{rules}
 use native.Mathlib.Omega.{arith}
 use mathlib.Core.Path.{◌≡◌}
 use Prim.Native.Nat.{suc, ◌-◌, ◌≤◌}
@@ -14,7 +13,7 @@ pub returns-then-r-eq1 : goal.returns-then-r-eq1
 returns-then-r-eq1 c = vertex_lands c.requires.row c.requires.rank.0 c.args.e c.requires.rank.1 c.if-r-eq1.true _ c.cell.ensures
 
 pub rise-requires : goal.rise-requires
-rise-requires c = 
+rise-requires c =
     let b = c.requires.rank.0 in
     let two : 2 ≤ c.args.r = omega (arith, b.low, c.if-r-eq1.false) in
     let z : suc (c.args.r - 1) ≡ c.args.r = omega (arith, b.low) in
@@ -25,6 +24,6 @@ rise-requires c =
     }
 
 pub returns : goal.returns
-returns c = 
+returns c =
     let b = c.requires.rank.0 in
     element-lands c.requires.row b (omega (arith, b.low, c.if-r-eq1.false)) c.args.e c.requires.rank.1 _ c.rise.ensures

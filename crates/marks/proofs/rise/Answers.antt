@@ -1,6 +1,5 @@
 -- The element's subs are read, its first sub's image, and the elements over that.
 -- Assumes nothing.
-use borrow.Author.Rules.{rules}
 use native.Mathlib.Omega.{arith}
 use native.Mathlib.Numerals.{add-one}
 use mathlib.Core.Path.{◌≡◌}
@@ -39,12 +38,12 @@ pub overflow_add-r : goal.overflow_add-r
 overflow_add-r c = omega (arith, c.requires.r_bound.0, c.requires.held.tall)
 
 pub subs-i-requires : goal.subs-i-requires
-subs-i-requires c = 
+subs-i-requires c =
     let a = c.args in
     (omega (arith, c.requires.r_bound.0, c.requires.held.tall), omega (arith, (subs_lie a.sh a.lists.now c.requires.held (suc a.r) a.e c.requires.r_bound.0 c.requires.r_bound.1).head, word (goal.at.subs-i-requires c).Start a.e))
 
 pub entry_at-f-requires : goal.entry_at-f-requires
-entry_at-f-requires c = 
+entry_at-f-requires c =
     let a = c.args in
     rw (c.subs-i.ensures, word (goal.at.entry_at-f-requires c).Start a.e)
     (record {
@@ -59,7 +58,7 @@ pub cell-y-requires : goal.cell-y-requires
 cell-y-requires c = omega (arith, lies c, c.start-base.ensures)
 
 pub sups-j-requires : goal.sups-j-requires
-sups-j-requires c = 
+sups-j-requires c =
     let a = c.args in
     let p = c.requires.r_bound in
     (omega (arith, p.0, c.requires.held.tall), omega (arith, (over_lie a.sh a.lists.now c.requires.held a.goes.now a.r a.e p.0 p.1 p.2 c.requires.by_index _ _ (first (goal.at.sups-j-requires c).After-entry_at-f) (goes c)).head))
@@ -68,12 +67,12 @@ pub overflow_add-r-2 : goal.overflow_add-r-2
 overflow_add-r-2 c = omega (arith, c.requires.r_bound.0, c.requires.held.tall)
 
 pub subs-up-requires : goal.subs-up-requires
-subs-up-requires c = 
+subs-up-requires c =
     let a = c.args in
     (omega (arith, c.requires.r_bound.0, c.requires.held.tall), omega (arith, (subs_lie a.sh a.lists.now c.requires.held (suc a.r) a.e c.requires.r_bound.0 c.requires.r_bound.1).head, word (goal.at.subs-up-requires c).Start 0))
 
 pub first_onto-requires : goal.first_onto-requires
-first_onto-requires c = 
+first_onto-requires c =
     let a = c.args in
     let p = c.requires.r_bound in
     rw (c.subs-i.ensures, word (goal.at.first_onto-requires c).Start a.e, c.sups-j.ensures, c.subs-up.ensures, word (goal.at.first_onto-requires c).Start 0, c.start-base.ensures) (record {
@@ -86,7 +85,7 @@ first_onto-requires c =
     })
 
 pub returns : goal.returns
-returns c = 
+returns c =
     let a = c.args in
     let p = c.requires.r_bound in
     rises a.sh a.lists.now c.requires.held a.goes.now a.r a.e p.0 p.1 p.2 c.requires.by_index _ _ (first (goal.at.returns c).After-entry_at-f) (goes (goal.at.returns c).After-cell-y) _

@@ -1,6 +1,5 @@
 use mathlib.Core.Path.{◌≡◌, sym, ap, ◌∙◌}
 use mathlib.Core.List.{[]}
-use Prim.Native.Nat.{◌≤◌, ◌-◌}
 use native.Mathlib.Omega.{arith}
 use lib.ListN.{get_or, take, length}
 use lib.Seq.{get_or-take}
@@ -10,7 +9,7 @@ use borrow.Author.Rules.{rules}
 use Rattle.spec.specs.Limits.{max_dimension}
 use Rattle.spec.specs.Float.{zero_f}
 use Rattle.float.specs.Reading.{padded}
-use Rattle.float.proofs.Written.{Written, none, next}
+use Rattle.float.proofs.Written.{none, next}
 use Rattle.matrix.proofs.Corner.{over-corner}
 use Rattle.float.proofs.Padded.{padded_table}
 use Rattle.matrix.proofs.Sized.{wide, get_d_any}

@@ -1,15 +1,12 @@
 use mathlib.Core.Path.{◌≡◌, ap, ◌∙◌}
-use mathlib.Core.List.{map}
-use Prim.Native.Nat.{◌≤◌, ◌-◌}
 use native.Mathlib.Omega.{arith}
-use lib.ListN.{get_or, length}
+use lib.ListN.{length}
 use lib.Ieee.{of_bits}
 use borrow.Author.Rules.{rules}
 use Rattle.spec.specs.Limits.{max_dimension}
 use Rattle.spec.specs.Float.{zero_f}
-use Rattle.float.specs.Reading.{padded}
-use Rattle.matrix.specs.Reading.{corner, padded_rows}
-use Rattle.float.proofs.Written.{Written, none, next}
+use Rattle.matrix.specs.Reading.{padded_rows}
+use Rattle.float.proofs.Written.{none, next}
 use Rattle.matrix.proofs.Corner.{columns-corner}
 use Rattle.matrix.proofs.Padded.{padded-rows_table}
 use Rattle.matrix.proofs.from_columns.Goals as goal

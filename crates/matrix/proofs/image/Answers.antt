@@ -1,15 +1,13 @@
 use mathlib.Core.Path.{◌≡◌, ap, ◌∙◌}
-use mathlib.Core.List.{[]}
-use Prim.Native.Nat.{◌≤◌, ◌-◌}
 use native.Mathlib.Omega.{arith}
-use lib.ListN.{get_or, take, length}
+use lib.ListN.{take, length}
 use lib.Ieee.{of_bits}
 use borrow.Author.Rules.{rules}
 use Rattle.spec.specs.Limits.{max_dimension}
 use Rattle.spec.specs.Float.{zero_f, dot}
 use Rattle.spec.specs.Matrix.{mul_vec}
 use Rattle.float.specs.Reading.{padded}
-use Rattle.float.proofs.Written.{Written, none, next}
+use Rattle.float.proofs.Written.{none, next}
 use Rattle.matrix.proofs.Corner.{over-corner}
 use Rattle.float.proofs.Padded.{padded_table}
 use Rattle.matrix.proofs.image.Goals.{At-loop-i, Start}

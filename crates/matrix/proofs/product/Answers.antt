@@ -1,8 +1,7 @@
 use mathlib.Core.Path.{◌≡◌, ap, ◌∙◌}
-use mathlib.Core.List.{[], map}
-use Prim.Native.Nat.{◌≤◌, ◌-◌}
+use mathlib.Core.List.{map}
 use native.Mathlib.Omega.{arith}
-use lib.ListN.{get_or, take, length}
+use lib.ListN.{length}
 use lib.Ieee.{of_bits}
 use borrow.Author.Rules.{rules}
 use Rattle.spec.specs.Limits.{max_dimension}
@@ -10,7 +9,7 @@ use Rattle.spec.specs.Float.{zero_f, dot}
 use Rattle.spec.specs.Matrix.{mul_mat}
 use Rattle.float.specs.Reading.{padded}
 use Rattle.matrix.specs.Reading.{corner, padded_rows}
-use Rattle.float.proofs.Written.{Written, none, next}
+use Rattle.float.proofs.Written.{none, next}
 use Rattle.matrix.proofs.Corner.{length-corner, over-corner, image_dots}
 use Rattle.matrix.proofs.Padded.{padded-rows_table, corner-columns}
 use Rattle.matrix.proofs.product.Goals.{After-from_columns-t}

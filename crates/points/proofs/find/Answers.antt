@@ -1,5 +1,4 @@
 use mathlib.Core.Path.{◌≡◌, sym, ap, ◌∙◌}
-use Prim.Native.Nat.{◌≤◌, ◌-◌}
 use mathlib.Core.List.{[]}
 use native.Mathlib.Omega.{arith}
 use lib.ListN.{get_or, take}
@@ -8,7 +7,7 @@ use Rattle.spec.specs.Matrix.{Vector}
 use Rattle.spec.specs.Points.{near}
 use Rattle.spec.specs.Lists.{parts}
 use Rattle.points.proofs.Parts.{length-parts, part_at, part_end}
-use Rattle.points.proofs.Nearness.{FoundFrom, found_none, found_here, found_on, found-end, find_flat}
+use Rattle.points.proofs.Nearness.{found_none, found_here, found_on, found-end, find_flat}
 use Rattle.points.proofs.Finding.{at_is, nothing_is}
 use Rattle.points.proofs.find.Goals.{After-near_at, Start}
 use Rattle.points.proofs.find.Goals as goal

@@ -1,7 +1,6 @@
 -- The test compares the magnitude with the largest one, which is what the definition asks.
 -- Assumes nothing.
 use lib.Ieee.{of_bits}
-use borrow.Author.Rules.{rules}
 use Rattle.spec.specs.Limits.{max_magnitude}
 use Rattle.points.proofs.Nearness.{in_range_is}
 use Rattle.points.proofs.in_range.Goals as goal

@@ -5,7 +5,6 @@ use Prim.Native.Nat.{◌*◌}
 use native.Mathlib.Omega.{arith}
 use lib.ListN.{length, length-drop}
 use lib.Seq.{length-take-le}
-use borrow.Author.Rules.{rules}
 use Rattle.float.proofs.Padded.{take-padded}
 use Rattle.points.proofs.loaded.Goals.{After-point}
 use Rattle.points.proofs.loaded.Goals as goal

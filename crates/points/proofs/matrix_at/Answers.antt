@@ -1,13 +1,11 @@
 use mathlib.Core.Path.{◌≡◌, sym, ap, ◌∙◌}
-use mathlib.Core.List.{List}
-use Prim.Native.Nat.{ℕ, ◌*◌, ◌≤◌, ◌-◌}
+use Prim.Native.Nat.{ℕ, ◌*◌}
 use native.Mathlib.Omega.{arith}
 use lib.ListN.{take, drop}
 use lib.Seq.{drop-drop}
-use lib.Ieee.{Float}
 use borrow.Author.Rules.{rules}
 use Rattle.matrix.specs.Reading.{leading, corner}
-use Rattle.float.proofs.Written.{Written, none, next, end}
+use Rattle.float.proofs.Written.{none, next, end}
 use Rattle.points.proofs.Parts.{parts_table, parts-take, row-place, row_fits, first_fits}
 use Rattle.points.proofs.matrix_at.Goals.{Start}
 use Rattle.points.proofs.matrix_at.Invariants.{row}

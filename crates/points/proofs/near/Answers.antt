@@ -1,10 +1,9 @@
 use mathlib.Core.Path.{◌≡◌, sym, ◌∙◌}
-use Prim.Native.Nat.{◌≤◌, ◌-◌}
 use native.Mathlib.Omega.{arith}
 use lib.ListN.{length}
 use borrow.Author.Rules.{rules}
 use Rattle.spec.specs.Limits.{max_dimension}
-use Rattle.points.proofs.Nearness.{NearTo, near_none, near_on, near_not, near-end}
+use Rattle.points.proofs.Nearness.{near_none, near_on, near_not, near-end}
 use Rattle.points.proofs.near.Goals.{Start}
 use Rattle.points.proofs.near.Goals as goal
 

@@ -1,12 +1,8 @@
 -- The loop's invariant is that the axes before i are near. The measure is what is left of the axes.
 -- Assumes nothing.
-use mathlib.Core.Path.{◌≡◌, sym, ◌∙◌}
 use Prim.Native.Nat.{◌≤◌, ◌-◌}
-use native.Mathlib.Omega.{arith}
 use lib.ListN.{length}
-use borrow.Author.Rules.{rules}
-use Rattle.spec.specs.Limits.{max_dimension}
-use Rattle.points.proofs.Nearness.{NearTo, near_none, near_on, near_not, near-end}
+use Rattle.points.proofs.Nearness.{NearTo}
 use Rattle.points.proofs.near.Given as goal
 
 abbrev pub invariant-loop-i : goal.invariant-loop-i

@@ -1,14 +1,9 @@
 -- The loop's invariant is that the first i floats are in place. The measure is what is left of d.
 -- Assumes nothing.
-use mathlib.Core.Path.{◌≡◌, refl}
 use Prim.Native.Nat.{◌≤◌, ◌-◌}
-use native.Mathlib.Omega.{arith}
-use lib.ListN.{length, get_or}
+use lib.ListN.{get_or}
 use lib.Ieee.{nan}
-use borrow.Author.Rules.{rules}
-use Rattle.spec.specs.Limits.{max_dimension}
-use Rattle.float.proofs.Written.{Written, none, next}
-use Rattle.points.proofs.Tails.{front_copied}
+use Rattle.float.proofs.Written.{Written}
 use Rattle.points.proofs.put.Given as goal
 
 abbrev pub invariant-loop-i : goal.invariant-loop-i

@@ -1,7 +1,5 @@
 -- `preflight::checked` meets its contract: refusal 5 is tested, and then 6. Assumes nothing.
 use mathlib.Core.Path.{sym, ◌∙◌}
-use borrow.Author.Rules.{rules}
-use borrow.Author.Tests.{not-true, not-false}
 use Rattle.preflight.proofs.Laws.{loose, mitred, fine}
 use Rattle.preflight.proofs.checked.Goals as goal
 

@@ -1,5 +1,4 @@
 -- `preflight::is_roomy` meets its contract. Assumes nothing.
-use borrow.Author.Rules.{rules}
 use borrow.Author.Tests.{le-leb, lt-leb}
 use Rattle.preflight.proofs.is_roomy.Goals as goal
 

@@ -1,14 +1,13 @@
 -- `preflight::settle` meets its contract: its steps are those of `Laws`, by the verdict on the stored solid. Assumes nothing.
-use borrow.Author.Rules.{rules}
 use Rattle.preflight.proofs.Laws.{settled, unsettled}
 use Rattle.preflight.proofs.settle.Goals as goal
 
 pub store-sh-requires : goal.store-sh-requires
 store-sh-requires c = record {
-      sheet_value = c.requires.sheet_value;
-      header_value = c.requires.header_value;
-      floats_value = c.requires.floats_value;
-    }
+  sheet_value = c.requires.sheet_value;
+  header_value = c.requires.header_value;
+  floats_value = c.requires.floats_value;
+}
 
 pub lists-requires : goal.lists-requires
 lists-requires c = c.store-sh.ensures.words_in

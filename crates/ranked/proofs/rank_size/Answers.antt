@@ -1,5 +1,4 @@
 -- `ranked::rank_size` meets its contract. Assumes nothing.
-use borrow.Author.Rules.{rules}
 use Rattle.ranked.proofs.Shaping.{size-first, proper-at, past_at}
 use Rattle.ranked.proofs.rank_size.Goals as goal
 

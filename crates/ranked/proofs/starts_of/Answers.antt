@@ -1,8 +1,7 @@
 use mathlib.Core.Path.{refl}
-use Prim.Native.Nat.{◌-◌, suc}
 use native.Mathlib.Omega.{arith}
 use Rattle.spec.specs.Limits.{max_starts}
-use Rattle.ranked.proofs.Shaping.{zeros, Firsts, firsts_none, sum_small, firsts_more, firsts_all}
+use Rattle.ranked.proofs.Shaping.{zeros, firsts_none, sum_small, firsts_more, firsts_all}
 use Rattle.ranked.proofs.starts_of.Goals as goal
 
 pub loop-r-init : goal.loop-r-init

@@ -1,9 +1,6 @@
 -- `ranked::starts_of` meets its contract, by the turns of `Firsts`. Assumes nothing.
-use mathlib.Core.Path.{refl}
 use Prim.Native.Nat.{◌-◌, suc}
-use native.Mathlib.Omega.{arith}
-use Rattle.spec.specs.Limits.{max_starts}
-use Rattle.ranked.proofs.Shaping.{zeros, Firsts, firsts_none, sum_small, firsts_more, firsts_all}
+use Rattle.ranked.proofs.Shaping.{Firsts}
 use Rattle.ranked.proofs.starts_of.Given as goal
 
 abbrev pub invariant-loop-r : goal.invariant-loop-r

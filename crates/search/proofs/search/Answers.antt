@@ -6,7 +6,7 @@ use Rattle.search.proofs.Demand3.{told}
 use Rattle.search.proofs.search.Goals as goal
 
 pub returns : goal.returns
-returns c = 
+returns c =
     let t = told false _ _ _ _ _ _ c.run.ensures in
     record {
       marks_after = t.0;

@@ -4,7 +4,6 @@ use mathlib.Core.Path.{◌≡◌, sym, ◌∙◌}
 use Prim.Native.Nat.{◌*◌, ◌^◌, ◌≤◌, ◌<◌}
 use native.Mathlib.Omega.{arith}
 use lib.ListN.{length, take}
-use borrow.Author.Rules.{rules}
 use Rattle.spec.specs.Sheet.{times, coordinate}
 use Rattle.spec.specs.Sheet as form
 use Rattle.sheet.specs.declared.Place.TheVariants as place
@@ -43,28 +42,28 @@ pub lists-requires : goal.lists-requires
 lists-requires c = (omega (arith, near c), c.requires.3, c.requires.4)
 
 pub ends-requires : goal.ends-requires
-ends-requires c = 
+ends-requires c =
     let a = c.args in
     let room : a.n ≤ length a.counts = omega (arith, c) in
     let e = lists-end a.sheet.now a.counts a.n c.in-At.at c.in-At-lists.end c.in-At-lists.entries c.requires.4 room (read c) in
     omega (arith, e, near (goal.at.ends-requires c).In-At, c.requires.3)
 
 pub returns-in-Refused : goal.returns-in-Refused
-returns-in-Refused c = 
+returns-in-Refused c =
     let a = c.args in
     body_refuses a.sheet.now a.vertices a.dimension (take a.n a.counts) a.start (sym c.in-Refused.is ∙ c.coordinates.ensures)
 
 pub returns-in-Refused-lists : goal.returns-in-Refused-lists
-returns-in-Refused-lists c = 
+returns-in-Refused-lists c =
     let a = c.args in
     lists_refuse a.sheet.now a.vertices a.dimension (take a.n a.counts) a.start (points (goal.at.returns-in-Refused-lists c).In-At) (sym c.in-Refused-lists.is ∙ c.lists.ensures)
 
 pub returns-then-ends : goal.returns-then-ends
-returns-then-ends c = 
+returns-then-ends c =
     let a = c.args in
     body-passes a.sheet.now a.vertices a.dimension (take a.n a.counts) a.start (points (goal.at.returns-then-ends c).In-At) (read (goal.at.returns-then-ends c).In-At-lists) (sym c.if-ends.true ∙ c.ends.ensures)
 
 pub returns-else-ends : goal.returns-else-ends
-returns-else-ends c = 
+returns-else-ends c =
     let a = c.args in
     end_refuses a.sheet.now a.vertices a.dimension (take a.n a.counts) a.start (points (goal.at.returns-else-ends c).In-At) (read (goal.at.returns-else-ends c).In-At-lists) (sym c.if-ends.false ∙ c.ends.ensures)

@@ -1,14 +1,13 @@
 use mathlib.Core.Path.{◌≡◌, sym, ◌∙◌}
-use Prim.Native.Nat.{◌+◌, ◌-◌, ◌*◌, ◌≤◌}
+use Prim.Native.Nat.{◌+◌, ◌*◌}
 use native.Mathlib.Nat.{sub-zero}
 use native.Mathlib.Omega.{arith}
 use borrow.Author.Rules.{rules}
-use borrow.Author.Tests.{not-true, not-false, leb-true}
+use borrow.Author.Tests.{leb-true}
 use mathlib.Core.Bool.{true}
 use lib.Dec.{leb}
 use lib.ListN.{length}
-use Rattle.spec.specs.Sheet.{times, coordinate}
-use Rattle.sheet.specs.Reading.{place_of}
+use Rattle.spec.specs.Sheet.{coordinate}
 use Rattle.sheet.proofs.Readers.{coordinate_cut, coordinate_off, coordinate_on}
 use Rattle.sheet.proofs.Turns.{times_refuses, times-goes_on, times-ends}
 use Rattle.sheet.proofs.coordinates.Goals.{Else-not-whole}
@@ -22,7 +21,7 @@ pub loop-k-init : goal.loop-k-init
 loop-k-init c = (search rules, search rules, rw sub-zero)
 
 pub returns-then-not-whole : goal.returns-then-not-whole
-returns-then-not-whole c = 
+returns-then-not-whole c =
     let a = c.args in
     times_refuses (coordinate a.sheet.now) a.n c.loop-k.k c.loop-k.at c.loop-k.invariant.2 c.loop-k-test.true
     (coordinate_cut a.sheet.now c.loop-k.at (sym c.whole.ensures ∙ c.if-not-whole.true))
@@ -31,14 +30,14 @@ pub field-requires : goal.field-requires
 field-requires c = omega (arith, leb-true (c.loop-k.at + 64) (8 * length c.args.sheet.now) (fine c))
 
 pub returns-then-not-on_board : goal.returns-then-not-on_board
-returns-then-not-on_board c = 
+returns-then-not-on_board c =
     let a = c.args in
     times_refuses (coordinate a.sheet.now) a.n c.loop-k.k c.loop-k.at c.loop-k.invariant.2 c.loop-k-test.true
     (coordinate_off a.sheet.now c.loop-k.at (fine (goal.at.returns-then-not-on_board c).Else-not-whole)
     ((rw c.field.ensures at (sym c.on_board.ensures)) ∙ c.if-not-on_board.true))
 
 pub loop-k-preserved : goal.loop-k-preserved
-loop-k-preserved c = 
+loop-k-preserved c =
     let a = c.args in (
       search rules,
       search rules,
@@ -48,6 +47,6 @@ loop-k-preserved c =
     )
 
 pub returns : goal.returns
-returns c = 
+returns c =
     let a = c.args in
     times-ends (coordinate a.sheet.now) a.n c.loop-k.k c.loop-k.at c.loop-k.invariant.2 c.loop-k-test.false

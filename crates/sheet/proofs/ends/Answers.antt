@@ -1,7 +1,6 @@
 -- At most seven bits are left, and they are 0.
 -- Assumes nothing.
 use native.Mathlib.Omega.{arith}
-use borrow.Author.Rules.{rules}
 use Rattle.sheet.proofs.Fields.{end_follows, end_here, end_filled}
 use Rattle.sheet.proofs.ends.Goals as goal
 

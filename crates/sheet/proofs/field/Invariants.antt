@@ -1,12 +1,8 @@
 -- The loop is the definition's own recursion: after k turns v is the field of k bits.
 -- Assumes nothing.
-use mathlib.Core.Path.{◌≡◌, ◌∙◌, ap}
-use Prim.Native.Nat.{◌+◌, ◌-◌, ◌*◌, ◌≤◌}
-use native.Mathlib.Omega.{arith}
-use native.Mathlib.Numerals.{add-one}
-use borrow.Author.Rules.{rules}
+use mathlib.Core.Path.{◌≡◌}
+use Prim.Native.Nat.{◌-◌, ◌≤◌}
 use Rattle.spec.specs.Bits.{field}
-use Rattle.sheet.proofs.Fields.{next_fits}
 use Rattle.sheet.proofs.field.Given as goal
 
 abbrev pub invariant-loop-k : goal.invariant-loop-k

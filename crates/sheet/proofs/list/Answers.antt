@@ -6,8 +6,7 @@ use native.Mathlib.Omega.{arith}
 use mathlib.Core.Bool.{true}
 use lib.Dec.{leb}
 use lib.ListN.{length}
-use borrow.Author.Rules.{rules}
-use borrow.Author.Tests.{not-true, not-false, leb-true}
+use borrow.Author.Tests.{leb-true}
 use Rattle.spec.specs.Bits.{field}
 use Rattle.spec.specs.Sheet.{sub_list, list}
 use Rattle.sheet.specs.Reading.{listed_of}
@@ -34,7 +33,7 @@ told c =
 
 pub returns-then-not-whole : goal.returns-then-not-whole
 unfolding listed_of with_entries
-returns-then-not-whole c = 
+returns-then-not-whole c =
     let a = c.args in
     sym (ap (listed_of length a.used) (list_cut a.sheet.now a.below a.used a.start (sym c.whole.ensures ∙ c.if-not-whole.true)))
 
@@ -48,13 +47,13 @@ overflow_add-used c = let a = c.args in omega (arith, field_lt a.sheet.now a.sta
 
 pub returns-then-used-n-gt-MAX_ENTRIES : goal.returns-then-used-n-gt-MAX_ENTRIES
 unfolding listed_of with_entries
-returns-then-used-n-gt-MAX_ENTRIES c = 
+returns-then-used-n-gt-MAX_ENTRIES c =
     let a = c.args in
     sym (ap (listed_of length a.used) (list-many a.sheet.now a.below a.used a.start (fine (goal.at.returns-then-used-n-gt-MAX_ENTRIES c).Else-not-whole) (omega (arith, c.if-used-n-gt-MAX_ENTRIES.true, c.field-n.ensures))))
 
 pub returns-then-n-eq0 : goal.returns-then-n-eq0
 unfolding listed_of with_entries
-returns-then-n-eq0 c = 
+returns-then-n-eq0 c =
     let a = c.args in
     sym (ap (listed_of length a.used) (list-empty a.sheet.now a.below a.used a.start (fine (goal.at.returns-then-n-eq0 c).Else-not-whole) (omega (arith, c.if-used-n-gt-MAX_ENTRIES.false, c.field-n.ensures)) (rw c.field-n.ensures at c.if-n-eq0.true)))
 

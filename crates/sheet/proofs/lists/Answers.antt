@@ -1,10 +1,10 @@
 use mathlib.Core.Path.{◌≡◌, sym, ◌∙◌, ap}
-use Prim.Native.Nat.{◌+◌, ◌-◌, ◌*◌, ◌≤◌}
+use Prim.Native.Nat.{◌+◌, ◌*◌, ◌≤◌}
 use native.Mathlib.Omega.{arith}
 use mathlib.Core.List.{◌∷◌}
 use lib.ListN.{length, take, drop, get_or}
 use borrow.Author.Rules.{rules}
-use Rattle.spec.specs.Limits.{max_count, max_entries}
+use Rattle.spec.specs.Limits.{max_entries}
 use Rattle.spec.specs.Sheet as form
 use Rattle.sheet.specs.Judge.{all_entries}
 use Rattle.sheet.specs.Reading.{listed_of}
@@ -35,18 +35,21 @@ pub rank_lists-requires : goal.rank_lists-requires
 rank_lists-requires c = (omega arith, c.requires.2 c.loop-k.k)
 
 pub returns-in-Refused : goal.returns-in-Refused
-returns-in-Refused c = 
+returns-in-Refused c =
     let a = c.args in
     ranks_refuse a.sheet.now c.loop-k.below (get_or a.counts c.loop-k.k 0) c.loop-k.entries c.loop-k.at (drop (c.loop-k.k + 1) (take a.n a.counts)) (turn (goal.at.returns-in-Refused c).In-loop-k)
     (sym c.in-Refused.is ∙ c.rank_lists.ensures)
 
 pub overflow_add-entries : goal.overflow_add-entries
-overflow_add-entries c = 
-    omega (arith, (let a = c.args in
-    rank-fits a.sheet.now c.loop-k.below (get_or a.counts c.loop-k.k 0) c.loop-k.at c.in-At.p c.in-At.u (sym c.in-At.is ∙ c.rank_lists.ensures)).0)
+overflow_add-entries c =
+    omega (
+      arith,
+      (let a = c.args in
+          rank-fits a.sheet.now c.loop-k.below (get_or a.counts c.loop-k.k 0) c.loop-k.at c.in-At.p c.in-At.u (sym c.in-At.is ∙ c.rank_lists.ensures)).0,
+    )
 
 pub loop-k-preserved : goal.loop-k-preserved
-loop-k-preserved c = 
+loop-k-preserved c =
     let a = c.args in
     let h = c.requires.2 c.loop-k.k in (
       search rules,
@@ -57,7 +60,7 @@ loop-k-preserved c =
     )
 
 pub returns : goal.returns
-returns c = 
+returns c =
     let a = c.args in
     let room : a.n ≤ length a.counts = omega arith in
     ranks-end a.sheet.now c.loop-k.below c.loop-k.entries c.loop-k.at

@@ -1,17 +1,14 @@
 -- Each turn reads the lists of one rank, and what is left gives what the whole gives. A rank has at most 2,048 lists and 8,192 entries, of 12 and 11
 -- bits, so the position stays small.
 -- Assumes nothing.
-use mathlib.Core.Path.{◌≡◌, sym, ◌∙◌, ap}
+use mathlib.Core.Path.{◌≡◌}
 use Prim.Native.Nat.{◌+◌, ◌-◌, ◌*◌, ◌≤◌}
-use native.Mathlib.Omega.{arith}
 use mathlib.Core.List.{◌∷◌}
-use lib.ListN.{length, take, drop, get_or}
-use borrow.Author.Rules.{rules}
+use lib.ListN.{take, drop}
 use Rattle.spec.specs.Limits.{max_count, max_entries}
 use Rattle.spec.specs.Sheet as form
 use Rattle.sheet.specs.Judge.{all_entries}
 use Rattle.sheet.specs.Reading.{listed_of}
-use Rattle.sheet.proofs.Turns.{ranks_refuse, ranks_go_on, ranks-end, rank-fits, first-rank, next-rank, no_rank}
 use Rattle.sheet.proofs.lists.Given as goal
 
 abbrev pub invariant-loop-k : goal.invariant-loop-k

@@ -1,15 +1,11 @@
 -- Each turn reads one list, and what is left, after the entries used so far, gives what the whole gives.
 -- Assumes nothing.
-use mathlib.Core.Path.{◌≡◌, sym, ◌∙◌}
+use mathlib.Core.Path.{◌≡◌}
 use Prim.Native.Nat.{◌+◌, ◌-◌, ◌*◌, ◌≤◌}
-use native.Mathlib.Nat.{sub-zero}
-use native.Mathlib.Omega.{arith}
-use borrow.Author.Rules.{rules}
 use Rattle.spec.specs.Limits.{max_entries}
 use Rattle.spec.specs.Sheet.{lists_at}
 use Rattle.sheet.specs.Judge.{rank_entries}
 use Rattle.sheet.specs.Reading.{listed_of}
-use Rattle.sheet.proofs.Turns.{rank_refuses, rank-goes_on, rank-ends, list-fits}
 use Rattle.sheet.proofs.rank_lists.Given as goal
 
 abbrev pub invariant-loop-k : goal.invariant-loop-k

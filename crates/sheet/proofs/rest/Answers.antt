@@ -3,7 +3,6 @@
 use mathlib.Core.Path.{◌≡◌, sym, ◌∙◌, ap}
 use Prim.Native.Nat.{◌-◌}
 use native.Mathlib.Omega.{arith}
-use borrow.Author.Rules.{rules}
 use Rattle.spec.specs.Sheet.{times, count}
 use Rattle.sheet.specs.Reading.{counted_of, rest_at, judgement_at}
 use Rattle.sheet.proofs.Made.{CountsKnown, uncounted, counted, counts-near, counts_small, counts-vertices, judged_with, rest_refuses, rest_told}
@@ -35,7 +34,7 @@ counts-c-requires c = let p = c.requires.0 in omega arith
 
 pub body-requires : goal.body-requires
 unfolding judged_with
-body-requires c = 
+body-requires c =
     let a = c.args in
     let n = c.proper_ranks-n.ensures in
     let r = c.counts-c.result in
@@ -50,19 +49,19 @@ body-requires c =
 
 pub returns-in-Refused : goal.returns-in-Refused
 unfolding judged_with
-returns-in-Refused c = 
+returns-in-Refused c =
     let a = c.args in
     c.refused.ensures
     ∙ rest_refuses a.sheet.now a.rank a.dimension 6 (uncounted c.in-Refused.why (times (a.rank - 1) (count a.sheet.now) 6) c.counts-c.result (answer (goal.at.returns-in-Refused c).After-counts-c) c.in-Refused.is)
 
 pub returns-in-Refused-body : goal.returns-in-Refused-body
 unfolding judged_with
-returns-in-Refused-body c = 
+returns-in-Refused-body c =
     let a = c.args in
     c.refused-in-Refused-body.ensures ∙ ap (judged_with a.rank a.dimension c.counts-c.result.counts c.counts-c.result.elements) (sym c.in-Refused-body.is) ∙ told (goal.at.returns-in-Refused-body c).After-body
 
 pub returns-in-At-body : goal.returns-in-At-body
 unfolding judged_with
-returns-in-At-body c = 
+returns-in-At-body c =
     let a = c.args in
     ap (judged_with a.rank a.dimension c.counts-c.result.counts c.counts-c.result.elements) (sym c.in-At-body.is) ∙ told (goal.at.returns-in-At-body c).After-body

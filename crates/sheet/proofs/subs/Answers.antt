@@ -1,14 +1,12 @@
 use mathlib.Core.Path.{◌≡◌, sym, ◌∙◌}
-use Prim.Native.Nat.{◌+◌, ◌-◌, ◌*◌, ◌≤◌}
+use Prim.Native.Nat.{◌+◌, ◌*◌}
 use native.Mathlib.Nat.{sub-zero}
 use native.Mathlib.Omega.{arith}
 use mathlib.Core.Bool.{true}
 use lib.Dec.{leb}
 use lib.ListN.{length}
 use borrow.Author.Rules.{rules}
-use borrow.Author.Tests.{not-true, not-false, leb-true}
-use Rattle.spec.specs.Sheet.{sub_list}
-use Rattle.sheet.specs.Reading.{place_of}
+use borrow.Author.Tests.{leb-true}
 use Rattle.sheet.proofs.Turns.{subs_cut, subs_high, subs-low, subs_go_on, subs-end}
 use Rattle.sheet.proofs.subs.Goals.{Else-not-whole}
 use Rattle.sheet.proofs.subs.Goals as goal
@@ -21,7 +19,7 @@ pub loop-k-init : goal.loop-k-init
 loop-k-init c = (search rules, search rules, rw sub-zero)
 
 pub returns-then-not-whole : goal.returns-then-not-whole
-returns-then-not-whole c = 
+returns-then-not-whole c =
     let a = c.args in
     subs_cut a.sheet.now a.below a.n c.loop-k.k c.loop-k.low c.loop-k.at c.loop-k.invariant.2 c.loop-k-test.true
     (sym c.whole.ensures ∙ c.if-not-whole.true)
@@ -30,20 +28,20 @@ pub field-x-requires : goal.field-x-requires
 field-x-requires c = omega (arith, leb-true (c.loop-k.at + 11) (8 * length c.args.sheet.now) (fine c))
 
 pub returns-then-x-below : goal.returns-then-x-below
-returns-then-x-below c = 
+returns-then-x-below c =
     let a = c.args in
     subs_high a.sheet.now a.below a.n c.loop-k.k c.loop-k.low c.loop-k.at c.loop-k.invariant.2 c.loop-k-test.true (fine (goal.at.returns-then-x-below c).Else-not-whole)
     (omega (arith, c.if-x-below.true, c.field-x.ensures))
 
 pub returns-then-x-low : goal.returns-then-x-low
-returns-then-x-low c = 
+returns-then-x-low c =
     let a = c.args in
     subs-low a.sheet.now a.below a.n c.loop-k.k c.loop-k.low c.loop-k.at c.loop-k.invariant.2 c.loop-k-test.true (fine (goal.at.returns-then-x-low c).Else-not-whole)
     (omega (arith, c.if-x-below.false, c.field-x.ensures))
     (omega (arith, c.if-x-low.true, c.field-x.ensures))
 
 pub loop-k-preserved : goal.loop-k-preserved
-loop-k-preserved c = 
+loop-k-preserved c =
     let a = c.args in (
       search rules,
       search rules,
@@ -54,6 +52,6 @@ loop-k-preserved c =
     )
 
 pub returns : goal.returns
-returns c = 
+returns c =
     let a = c.args in
     subs-end a.sheet.now a.below a.n c.loop-k.k c.loop-k.low c.loop-k.at c.loop-k.invariant.2 c.loop-k-test.false

@@ -1,17 +1,9 @@
 -- Each turn reads one sub, and what is left, with the least number that may come next, gives what the whole gives.
 -- Assumes nothing.
-use mathlib.Core.Path.{◌≡◌, sym, ◌∙◌}
+use mathlib.Core.Path.{◌≡◌}
 use Prim.Native.Nat.{◌+◌, ◌-◌, ◌*◌, ◌≤◌}
-use native.Mathlib.Nat.{sub-zero}
-use native.Mathlib.Omega.{arith}
-use mathlib.Core.Bool.{true}
-use lib.Dec.{leb}
-use lib.ListN.{length}
-use borrow.Author.Rules.{rules}
-use borrow.Author.Tests.{not-true, not-false, leb-true}
 use Rattle.spec.specs.Sheet.{sub_list}
 use Rattle.sheet.specs.Reading.{place_of}
-use Rattle.sheet.proofs.Turns.{subs_cut, subs_high, subs-low, subs_go_on, subs-end}
 use Rattle.sheet.proofs.subs.Given as goal
 
 abbrev pub invariant-loop-k : goal.invariant-loop-k

@@ -1,6 +1,5 @@
 -- The rank decides, since there is no count where R is 0 or 1.
 -- Assumes nothing.
-use borrow.Author.Rules.{rules}
 use native.Mathlib.Omega.{arith}
 use Rattle.sheet.proofs.Parts.{no_count, first_count}
 use Rattle.sheet.proofs.vertices.Goals as goal

@@ -2,7 +2,6 @@
 -- Assumes nothing.
 use Prim.Native.Nat.{◌+◌}
 use lib.ListN.{length}
-use borrow.Author.Rules.{rules}
 use Rattle.sheet.proofs.Fields.{by_bytes}
 use Rattle.sheet.proofs.whole.Goals as goal
 

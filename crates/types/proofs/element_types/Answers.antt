@@ -15,7 +15,7 @@ pub types_given-requires : goal.types_given-requires
 types_given-requires c = benched _ _ _ _ _ _ c.preflight-ready.ensures c.in-Accepted.is
 
 pub returns-in-Refused : goal.returns-in-Refused
-returns-in-Refused c = 
+returns-in-Refused c =
     let t = told _ _ _ (old (goal.at.returns-in-Refused c).After-preflight-ready) (old (goal.at.returns-in-Refused c).After-preflight-ready) _ (refused-call _ _ _ _ _ _ c.preflight-ready.ensures _ c.in-Refused.is (old (goal.at.returns-in-Refused c).After-preflight-ready)) in
     record {
       table_after = t.0;
@@ -24,7 +24,7 @@ returns-in-Refused c =
     }
 
 pub returns-in-Accepted : goal.returns-in-Accepted
-returns-in-Accepted c = 
+returns-in-Accepted c =
     let d = told _ _ _ (old (goal.at.returns-in-Accepted c).After-preflight-ready) _ _ (passed_call _ _ _ _ _ _ c.preflight-ready.ensures c.in-Accepted.is (old (goal.at.returns-in-Accepted c).After-preflight-ready) _ c.types_given.ensures) in
     record {
       table_after = d.0;

@@ -1,6 +1,5 @@
 -- The call goes by the answer of the sweeps.
 -- Assumes nothing.
-use borrow.Author.Rules.{rules}
 use Rattle.spec.specs.Calls.{TypesOut}
 use Rattle.types.proofs.Placed.{unsettled_given, settled_given}
 use Rattle.types.proofs.types_given.Goals.{Start}

@@ -1,11 +1,10 @@
 use mathlib.Core.Path.{◌≡◌, refl, ap, ◌∙◌}
 use mathlib.Core.List.{[], map}
-use Prim.Native.Nat.{◌≤◌, ◌-◌}
 use native.Mathlib.Omega.{arith}
-use lib.ListN.{get_or, length}
+use lib.ListN.{length}
 use lib.Seq.{take_all}
 use borrow.Author.Rules.{rules}
-use Rattle.float.proofs.Written.{Written, none, next, all, table_map}
+use Rattle.float.proofs.Written.{none, next, all, table_map}
 use Rattle.matrix.specs.Reading.{padded_rows}
 use Rattle.copying.proofs.axes.axis_orders.Goals as goal
 

@@ -1,13 +1,9 @@
 -- The loop's invariant is that the entries below k are in place. The measure is what is left of the 48.
 -- Assumes nothing.
-use mathlib.Core.Path.{◌≡◌, refl, ap, ◌∙◌}
-use mathlib.Core.List.{[], map}
+use mathlib.Core.List.{[]}
 use Prim.Native.Nat.{◌≤◌, ◌-◌}
-use native.Mathlib.Omega.{arith}
-use lib.ListN.{get_or, length}
-use lib.Seq.{take_all}
-use borrow.Author.Rules.{rules}
-use Rattle.float.proofs.Written.{Written, none, next, all, table_map}
+use lib.ListN.{get_or}
+use Rattle.float.proofs.Written.{Written}
 use Rattle.matrix.specs.Reading.{padded_rows}
 use Rattle.copying.proofs.axes.axis_orders.Given as goal
 

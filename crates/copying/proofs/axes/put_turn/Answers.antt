@@ -1,6 +1,5 @@
 use mathlib.Core.Path.{◌≡◌, refl, sym, ap, ◌∙◌}
 use mathlib.Core.List.{List}
-use Prim.Native.Nat.{◌≤◌, ◌-◌}
 use native.Mathlib.Omega.{arith}
 use lib.ListN.{length}
 use lib.Ieee.{Float, binary64}
@@ -9,7 +8,7 @@ use borrow.Author.Rules.{rules}
 use Rattle.spec.specs.Limits.{max_dimension}
 use Rattle.spec.specs.Lists.{written}
 use Rattle.laws.proofs.Lists.{length_table}
-use Rattle.float.proofs.Written.{Written, none, next}
+use Rattle.float.proofs.Written.{none, next}
 use Rattle.matrix.proofs.Sized.{wide}
 use Rattle.points.proofs.Tails.{front_written}
 use Rattle.copying.proofs.Flat.{float_at, nine}

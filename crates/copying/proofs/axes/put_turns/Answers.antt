@@ -1,10 +1,10 @@
-use mathlib.Core.Path.{◌≡◌, refl}
-use Prim.Native.Nat.{◌*◌, ◌≤◌, ◌-◌}
+use mathlib.Core.Path.{refl}
+use Prim.Native.Nat.{◌*◌}
 use native.Mathlib.Omega.{arith}
 use borrow.Author.Rules.{rules}
-use lib.ListN.{length, length-drop}
+use lib.ListN.{length-drop}
 use Rattle.points.proofs.Tails.{tail_is}
-use Rattle.copying.proofs.Flat.{TurnsLaid, laid_none, laid_length, laid_next, laid_all}
+use Rattle.copying.proofs.Flat.{laid_none, laid_length, laid_next, laid_all}
 use Rattle.copying.proofs.axes.put_turns.Goals as goal
 
 pub loop-k-init : goal.loop-k-init

@@ -1,12 +1,9 @@
 -- The loop's invariant is that the first k matrices are laid out. The measure is what is left of them.
 -- Assumes nothing.
-use mathlib.Core.Path.{◌≡◌, refl}
-use Prim.Native.Nat.{◌*◌, ◌≤◌, ◌-◌}
-use native.Mathlib.Omega.{arith}
-use borrow.Author.Rules.{rules}
-use lib.ListN.{length, length-drop}
-use Rattle.points.proofs.Tails.{tail_is}
-use Rattle.copying.proofs.Flat.{TurnsLaid, laid_none, laid_length, laid_next, laid_all}
+use mathlib.Core.Path.{◌≡◌}
+use Prim.Native.Nat.{◌≤◌, ◌-◌}
+use lib.ListN.{length}
+use Rattle.copying.proofs.Flat.{TurnsLaid}
 use Rattle.copying.proofs.axes.put_turns.Given as goal
 
 abbrev pub invariant-loop-k : goal.invariant-loop-k

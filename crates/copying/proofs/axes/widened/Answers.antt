@@ -1,6 +1,5 @@
 use mathlib.Core.Path.{◌≡◌, ap, ◌∙◌}
 use mathlib.Core.List.{[], map-id}
-use Prim.Native.Nat.{◌≤◌, ◌-◌}
 use native.Mathlib.Omega.{arith}
 use lib.ListN.{get_or, length}
 use lib.Seq.{take_all}
@@ -8,8 +7,7 @@ use lib.Ieee.{binary64, of_bits}
 use denote.Floats.{FloatOf}
 use borrow.Author.Rules.{rules}
 use Rattle.spec.specs.Float.{zero_f}
-use Rattle.float.specs.Reading.{padded}
-use Rattle.float.proofs.Written.{Written, none, next, table_map}
+use Rattle.float.proofs.Written.{none, next, table_map}
 use Rattle.matrix.specs.Reading.{padded_rows}
 use Rattle.matrix.proofs.Padded.{padded-rows_table}
 use Rattle.matrix.proofs.Sized.{wide}

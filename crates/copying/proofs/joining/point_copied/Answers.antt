@@ -4,7 +4,6 @@ use mathlib.Core.Path.{sym, ◌∙◌}
 use native.Mathlib.Nat.{mul-le-mul_right}
 use native.Mathlib.Omega.{arith}
 use lib.ListN.{take}
-use borrow.Author.Rules.{rules}
 use Rattle.spec.specs.Copying.{matrices}
 use Rattle.spec.specs.Lists.{parts}
 use Rattle.points.proofs.Parts.{length-parts}

@@ -1,11 +1,8 @@
 use mathlib.Core.Path.{sym, ◌∙◌}
-use Prim.Native.Nat.{◌≤◌, ◌-◌}
 use native.Mathlib.Omega.{arith}
-use lib.ListN.{length}
 use lib.Ieee.{nan}
 use borrow.Author.Rules.{rules}
-use Rattle.spec.specs.Float.{in_range}
-use Rattle.copying.proofs.Scan.{PassedTo, passed_none, passed_next, passed_not, passed_end}
+use Rattle.copying.proofs.Scan.{passed_none, passed_next, passed_not, passed_end}
 use Rattle.copying.proofs.judging.all_in_range.Goals as goal
 
 pub loop-i-init : goal.loop-i-init

@@ -1,13 +1,9 @@
 -- The loop's invariant is that the floats before i are in range. The measure is what is left of the slice.
 -- Assumes nothing.
-use mathlib.Core.Path.{sym, ◌∙◌}
 use Prim.Native.Nat.{◌≤◌, ◌-◌}
-use native.Mathlib.Omega.{arith}
 use lib.ListN.{length}
-use lib.Ieee.{nan}
-use borrow.Author.Rules.{rules}
 use Rattle.spec.specs.Float.{in_range}
-use Rattle.copying.proofs.Scan.{PassedTo, passed_none, passed_next, passed_not, passed_end}
+use Rattle.copying.proofs.Scan.{PassedTo}
 use Rattle.copying.proofs.judging.all_in_range.Given as goal
 
 abbrev pub invariant-loop-i : goal.invariant-loop-i

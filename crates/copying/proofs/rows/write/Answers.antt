@@ -16,7 +16,7 @@ use Rattle.points.proofs.Parts.{length-parts, part_end}
 use Rattle.copying.proofs.Squares.{square, square_pos, point-end}
 use Rattle.copying.proofs.Growth.{matrix_is, length-matrices}
 use Rattle.points.proofs.Tails.{tail_is}
-use Rattle.points.proofs.Filled.{CellsFilled, Piece, filled_none, filled_next, filled_open, filled_end, length-row}
+use Rattle.points.proofs.Filled.{Piece, filled_none, filled_next, filled_open, filled_end, length-row}
 use Rattle.copying.proofs.Tables.{row-piece, closed_back, opened_back}
 use Rattle.copying.proofs.rows.write.Goals.{After-row_of, In-loop-j, Start}
 use Rattle.copying.proofs.rows.write.Goals as goal

@@ -1,10 +1,8 @@
 -- What is left has the key where all have it.
 -- Assumes nothing.
-use borrow.Author.Rules.{rules}
-use mathlib.Core.Path.{sym, ◌∙◌}
 use Prim.Native.Nat.{◌≤◌, ◌-◌}
 use Rattle.element_types.specs.Runs.{key_at, rep_keys}
-use Rattle.element_types.proofs.Compared.{KeySought, sought_first, sought_yes, sought_no, sought_end}
+use Rattle.element_types.proofs.Compared.{KeySought}
 use Rattle.element_types.proofs.compare.find_key.Given as goal
 
 abbrev pub invariant-loop-j : goal.invariant-loop-j

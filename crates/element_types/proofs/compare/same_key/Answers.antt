@@ -1,6 +1,5 @@
 -- Keys of different lengths are not the same; those of one length are compared word by word.
 -- Assumes nothing.
-use borrow.Author.Rules.{rules}
 use Rattle.element_types.proofs.Compared.{keys-part, keys_compared}
 use Rattle.element_types.proofs.compare.same_key.Goals as goal
 

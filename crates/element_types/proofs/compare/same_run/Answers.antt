@@ -1,8 +1,8 @@
 use borrow.Author.Rules.{rules}
 use mathlib.Core.Path.{◌≡◌, refl, sym, ◌∙◌}
-use Prim.Native.Nat.{◌+◌, ◌≤◌, ◌<◌, ◌-◌}
+use Prim.Native.Nat.{◌+◌, ◌<◌}
 use lib.ListN.{length, get_or, take, drop}
-use Rattle.element_types.proofs.Compared.{Same, same_yes, same_no, same_end, length_run, get_d_run}
+use Rattle.element_types.proofs.Compared.{same_yes, same_no, same_end, length_run, get_d_run}
 use Rattle.element_types.proofs.compare.same_run.Goals.{In-loop-k}
 use Rattle.element_types.proofs.compare.same_run.Goals as goal
 
@@ -25,17 +25,17 @@ pub loop-k-init : goal.loop-k-init
 loop-k-init c = (search rules, refl)
 
 pub returns-then-get : goal.returns-then-get
-returns-then-get c = 
+returns-then-get c =
     let r = run (goal.at.returns-then-get c).In-loop-k _ _ c.get.ensures c.get-in-loop-k.ensures in
     same_no _ _ c.loop-k.k (inside (goal.at.returns-then-get c).In-loop-k).0 (inside (goal.at.returns-then-get c).In-loop-k).1 c.loop-k.invariant.1 (λ e. c.if-get.true (r.0 ∙ e ∙ sym r.1))
 
 pub loop-k-preserved : goal.loop-k-preserved
-loop-k-preserved c = 
+loop-k-preserved c =
     let r = run (goal.at.loop-k-preserved c).In-loop-k _ _ c.get.ensures c.get-in-loop-k.ensures in
     (search rules, same_yes _ _ c.loop-k.k (inside (goal.at.loop-k-preserved c).In-loop-k).0 (inside (goal.at.loop-k-preserved c).In-loop-k).1 c.loop-k.invariant.1 (sym r.0 ∙ c.if-get.false ∙ r.1))
 
 pub returns : goal.returns
-returns c = 
+returns c =
     same_end _ _ c.loop-k.k
     (rw (length_run c.args.words.now c.args.a c.args.n c.requires.0) c.loop-k-test.false)
     (rw (length_run c.args.words.now c.args.b c.args.n c.requires.1) c.loop-k-test.false) c.loop-k.invariant.1

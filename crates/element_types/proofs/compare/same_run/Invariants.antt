@@ -1,10 +1,8 @@
 -- What is left is the same exactly if all is.
 -- Assumes nothing.
-use borrow.Author.Rules.{rules}
-use mathlib.Core.Path.{◌≡◌, refl, sym, ◌∙◌}
-use Prim.Native.Nat.{◌+◌, ◌≤◌, ◌<◌, ◌-◌}
-use lib.ListN.{length, get_or, take, drop}
-use Rattle.element_types.proofs.Compared.{Same, same_yes, same_no, same_end, length_run, get_d_run}
+use Prim.Native.Nat.{◌≤◌, ◌-◌}
+use lib.ListN.{take, drop}
+use Rattle.element_types.proofs.Compared.{Same}
 use Rattle.element_types.proofs.compare.same_run.Given as goal
 
 abbrev pub invariant-loop-k : goal.invariant-loop-k

@@ -1,8 +1,7 @@
-use borrow.Author.Rules.{rules}
 use native.Mathlib.Omega.{arith}
-use Prim.Native.Nat.{suc, ◌-◌, ◌≤◌, ◌<◌}
+use Prim.Native.Nat.{suc, ◌≤◌, ◌<◌}
 use Rattle.ranked.specs.Words.{first_at, total}
-use Rattle.element_types.proofs.Tallied.{TypesTally, tally_first, offsets, run_in, run_numbered, sum_fits, tally_next, tally_end}
+use Rattle.element_types.proofs.Tallied.{tally_first, offsets, run_in, run_numbered, sum_fits, tally_next, tally_end}
 use Rattle.element_types.proofs.counting.type_count.Goals.{In-loop-r}
 use Rattle.element_types.proofs.counting.type_count.Goals as goal
 
@@ -23,9 +22,9 @@ size-size-requires c = (omega (arith, c.loop-r-test.true, c.requires.held.tall),
 
 pub types_in-n-requires : goal.types_in-n-requires
 types_in-n-requires c = record {
-      n_in_bounds = run_in _ _ c.requires _ _ c.loop-r.invariant c.loop-r-test.true _ _ c.types-from.ensures c.size-size.ensures;
-      words_value = run_numbered _ _ c.requires _ _ c.loop-r.invariant c.loop-r-test.true _ _ c.types-from.ensures c.size-size.ensures;
-    }
+  n_in_bounds = run_in _ _ c.requires _ _ c.loop-r.invariant c.loop-r-test.true _ _ c.types-from.ensures c.size-size.ensures;
+  words_value = run_numbered _ _ c.requires _ _ c.loop-r.invariant c.loop-r-test.true _ _ c.types-from.ensures c.size-size.ensures;
+}
 
 pub overflow_add-n : goal.overflow_add-n
 overflow_add-n c = omega (arith, sum_fits _ _ c.requires _ _ c.loop-r.invariant c.loop-r-test.true _ _ c.types-from.ensures c.size-size.ensures _ c.types_in-n.ensures)

@@ -1,14 +1,12 @@
-use borrow.Author.Rules.{rules}
 use native.Mathlib.Omega.{arith}
-use Prim.Native.Nat.{◌-◌, ◌≤◌}
-use Rattle.element_types.proofs.Tallied.{Past, past_first, past_new, past_old, past_end, type_low, types_few}
+use Rattle.element_types.proofs.Tallied.{past_first, past_new, past_old, past_end, type_low, types_few}
 use Rattle.element_types.proofs.counting.types_in.Goals as goal
 
 pub loop-e-init : goal.loop-e-init
 loop-e-init c = (omega arith, past_first _ _)
 
 pub overflow_add-m : goal.overflow_add-m
-overflow_add-m c = 
+overflow_add-m c =
     let a = c.args in
     omega (
       arith,
@@ -25,6 +23,6 @@ pub loop-e-preserved : goal.loop-e-preserved
 loop-e-preserved c = (omega (arith, c.loop-e-test.true), past_old _ _ _ _ c.loop-e.invariant.1 _ c.get-t.ensures c.if-m-t.false)
 
 pub returns : goal.returns
-returns c = 
+returns c =
     let a = c.args in
     past_end a.words.now a.from a.n c.requires.n_in_bounds c.requires.words_value _ _ c.loop-e.invariant.0 c.loop-e-test.false c.loop-e.invariant.1

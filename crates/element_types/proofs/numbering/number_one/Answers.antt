@@ -1,6 +1,5 @@
 -- The key is found, and its number is stored. The place of a new key is stored too.
 -- Assumes nothing.
-use borrow.Author.Rules.{rules}
 use native.Mathlib.Omega.{arith}
 use lib.ListN.{length-set}
 use Rattle.element_types.proofs.Noted.{find_asks, number_small, cells_in_lem, noted_old, noted_new}

@@ -1,7 +1,5 @@
-use borrow.Author.Rules.{rules}
 use native.Mathlib.Omega.{arith}
-use Prim.Native.Nat.{◌-◌}
-use Rattle.element_types.proofs.Scanned.{KeysScan, Sums, scan-first, scan-end, writable, asked, scan_old, scan_new, sums_fit}
+use Rattle.element_types.proofs.Scanned.{Sums, scan-first, scan-end, writable, asked, scan_old, scan_new, sums_fit}
 use Rattle.element_types.proofs.numbering.number_rank.Goals.{In-loop-e}
 use Rattle.element_types.proofs.numbering.number_rank.Goals as goal
 
@@ -42,7 +40,7 @@ pub overflow_add-q-then-p-m : goal.overflow_add-q-then-p-m
 overflow_add-q-then-p-m c = omega (arith, sums (goal.at.overflow_add-q-then-p-m c).In-loop-e)
 
 pub overflow_add-q-then-p-m-2 : goal.overflow_add-q-then-p-m-2
-overflow_add-q-then-p-m-2 c = 
+overflow_add-q-then-p-m-2 c =
     omega (
       arith,
       rw c.list_word-list.ensures at c.write_key-k.ensures.value,
@@ -55,12 +53,12 @@ pub overflow_add-m : goal.overflow_add-m
 overflow_add-m c = omega (arith, c.loop-e.invariant.few, sums (goal.at.overflow_add-m c).In-loop-e)
 
 pub loop-e-preserved-then-p-m : goal.loop-e-preserved-then-p-m
-loop-e-preserved-then-p-m c = 
+loop-e-preserved-then-p-m c =
     scan_new _ _ _ _ _ _ c.requires _ _ _ _ c.loop-e.invariant c.loop-e-test.true _ (rw c.list_word-list.ensures at c.write_key-k.ensures.words_after) _ _
     c.number_one-p.ensures.value c.number_one-p.ensures.words_after c.if-p-m.true _ (rw c.list_word-list.ensures at c.write_key-k.ensures.value)
 
 pub loop-e-preserved : goal.loop-e-preserved
-loop-e-preserved c = 
+loop-e-preserved c =
     scan_old _ _ _ _ _ _ c.requires _ _ _ _ c.loop-e.invariant c.loop-e-test.true _ (rw c.list_word-list.ensures at c.write_key-k.ensures.words_after) _ _
     c.number_one-p.ensures.value c.number_one-p.ensures.words_after c.if-p-m.false
 

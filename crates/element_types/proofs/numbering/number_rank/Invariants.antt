@@ -1,9 +1,7 @@
 -- The elements are numbered one after another, as `KeysScan` says.
 -- Assumes nothing.
-use borrow.Author.Rules.{rules}
-use native.Mathlib.Omega.{arith}
 use Prim.Native.Nat.{◌-◌}
-use Rattle.element_types.proofs.Scanned.{KeysScan, Sums, scan-first, scan-end, writable, asked, scan_old, scan_new, sums_fit}
+use Rattle.element_types.proofs.Scanned.{KeysScan}
 use Rattle.element_types.proofs.numbering.number_rank.Given as goal
 
 abbrev pub invariant-loop-e : goal.invariant-loop-e

@@ -23,9 +23,9 @@ inside c = omega (arith, c.classes-cell.ensures, cells_in_lem _ _ _ c.requires _
 
 pub all_classes-requires : goal.all_classes-requires
 all_classes-requires c = record {
-      held = rw c.lists.ensures c.requires.held;
-      sh_in_bounds = roomy-floats _ _ c.requires.held _ c.requires.floats;
-    }
+  held = rw c.lists.ensures c.requires.held;
+  sh_in_bounds = roomy-floats _ _ c.requires.held _ c.requires.floats;
+}
 
 pub classes-cell-requires : goal.classes-cell-requires
 classes-cell-requires c = let p = c.requires in (p.held.tall, omega (arith, roomy-floats _ _ p.held _ p.floats))

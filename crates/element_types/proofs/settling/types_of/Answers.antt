@@ -1,6 +1,5 @@
 -- The start comes first, and then the sweeps.
 -- Assumes nothing.
-use borrow.Author.Rules.{rules}
 use Rattle.element_types.proofs.settling.Benched.{typed}
 use Rattle.element_types.proofs.settling.types_of.Goals as goal
 

@@ -1,11 +1,9 @@
 -- After k turns, k words are copied.
 -- Assumes nothing.
-use borrow.Author.Rules.{rules}
-use mathlib.Core.Path.{◌≡◌, refl}
+use mathlib.Core.Path.{◌≡◌}
 use Prim.Native.Nat.{◌+◌, ◌-◌, ◌≤◌}
-use lib.ListN.{length, length-set}
+use lib.ListN.{length}
 use lib.Seq.{slice, paste}
-use Rattle.element_types.proofs.Copied.{copied-first, copied_next, copied-end}
 use Rattle.element_types.proofs.stepping.copy_down.Given as goal
 
 abbrev pub invariant-loop-k : goal.invariant-loop-k

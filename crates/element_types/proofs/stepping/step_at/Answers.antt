@@ -1,6 +1,5 @@
 -- The numbers are copied over the types.
 -- Assumes nothing.
-use borrow.Author.Rules.{rules}
 use Rattle.element_types.proofs.Copied.{numbers_ready, stepped_at_lem}
 use Rattle.element_types.proofs.stepping.step_at.Goals as goal
 

@@ -1,6 +1,5 @@
 -- The ups come first, and then the downs.
 -- Assumes nothing.
-use borrow.Author.Rules.{rules}
 use Rattle.element_types.proofs.Sweeps.{sweepable_kept, both}
 use Rattle.element_types.proofs.sweeping.sweep.Goals as goal
 

@@ -1,9 +1,7 @@
-use borrow.Author.Rules.{rules}
 use native.Mathlib.Omega.{arith}
-use Prim.Native.Nat.{◌-◌, ◌≤◌}
+use Prim.Native.Nat.{◌-◌}
 use Rattle.spec.specs.Types.{down}
-use Rattle.element_types.specs.State.{downs}
-use Rattle.element_types.proofs.Sweeps.{StepsSwept, swept_first, swept_ready, swept_next, swept_end, downs-next, downs-end}
+use Rattle.element_types.proofs.Sweeps.{swept_first, swept_ready, swept_next, swept_end, downs-next, downs-end}
 use Rattle.element_types.proofs.sweeping.sweep_down.Goals as goal
 
 pub loop-r-init : goal.loop-r-init
@@ -14,9 +12,9 @@ step_down-requires c = swept_ready _ _ _ _ _ c.loop-r.invariant.1 c.requires (do
 
 pub loop-r-preserved : goal.loop-r-preserved
 loop-r-preserved c = (
-      omega (arith, c.loop-r.invariant.0),
-      swept_next _ _ _ _ _ c.loop-r.invariant.1 (down (c.loop-r.r - 1)) _ (downs-next c.loop-r.r (omega (arith, c.loop-r-test.true))) _ c.step_down.auto.words c.step_down.ensures.words_unchanged c.step_down.ensures.words_after,
-    )
+  omega (arith, c.loop-r.invariant.0),
+  swept_next _ _ _ _ _ c.loop-r.invariant.1 (down (c.loop-r.r - 1)) _ (downs-next c.loop-r.r (omega (arith, c.loop-r-test.true))) _ c.step_down.auto.words c.step_down.ensures.words_unchanged c.step_down.ensures.words_after,
+)
 
 pub shape_of-words : goal.shape_of-words
 shape_of-words c = c.loop-r.invariant.1.long

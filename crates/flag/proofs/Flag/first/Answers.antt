@@ -9,7 +9,7 @@ use Rattle.flag.proofs.Flags.{top-down}
 use Rattle.flag.proofs.Flag.first.Goals as goal
 
 pub down-requires : goal.down-requires
-down-requires c = 
+down-requires c =
     let a = c.args in
     let z = get_or-replicate {A = ℕ} (suc max_rank) a.sh.rank 0 0 (omega (arith, c.requires.tall)) in
     record {
@@ -18,6 +18,6 @@ down-requires c =
     }
 
 pub returns : goal.returns
-returns c = 
+returns c =
     let a = c.args in
     c.down.ensures ∙ top-down a.sh a.lists.now c.requires (replicate {A = ℕ} (suc max_rank) 0) (get_or-replicate {A = ℕ} (suc max_rank) a.sh.rank 0 0 (omega (arith, c.requires.tall)))

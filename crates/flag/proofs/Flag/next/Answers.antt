@@ -1,12 +1,7 @@
 use borrow.Author.Rules.{rules}
 use native.Mathlib.Omega.{arith}
 use mathlib.Core.Path.{ap}
-use Prim.Native.Nat.{suc, ◌-◌, ◌≤◌}
-use lib.ListN.{get_or, take}
-use Rattle.spec.specs.Flags.{flags_to}
-use Rattle.ranked.specs.Words.{abs_in}
 use Rattle.flag.specs.Reading.{more_of}
-use Rattle.flag.proofs.Order.{Last}
 use Rattle.flag.proofs.Iterate.{ended-first, ended-next, above_in, follows_yes, follows_no}
 use Rattle.flag.proofs.Flag.next.Goals as goal
 
@@ -16,7 +11,7 @@ loop-r-init c = let a = c.args in (omega arith, ended-first a.sh a.lists.now c.r
 
 pub moved_at-t-requires : goal.moved_at-t-requires
 unfolding more_of
-moved_at-t-requires c = 
+moved_at-t-requires c =
     let l = c.loop-r in let a = c.args in
     record {
       held = c.requires.held;
@@ -25,7 +20,7 @@ moved_at-t-requires c =
 
 pub returns-in-More : goal.returns-in-More
 unfolding more_of
-returns-in-More c = 
+returns-in-More c =
     let m = c.moved_at-t in let l = c.loop-r in let a = c.args in
     follows_yes a.sh a.lists.now c.requires.held a.self.elements (search rules) c.requires.flag l.r c.loop-r-test.true l.invariant.1 (more_of m.result.advance) m.result.flag.elements m.ensures (ap more_of c.in-More.is)
 
@@ -35,7 +30,7 @@ loop-r-smaller c = search rules
 
 pub loop-r-preserved : goal.loop-r-preserved
 unfolding more_of
-loop-r-preserved c = 
+loop-r-preserved c =
     let m = c.moved_at-t in let l = c.loop-r in let a = c.args in (
       omega (arith, c.loop-r-test.true),
       ended-next a.sh a.lists.now c.requires.held a.self.elements (search rules) c.requires.flag l.r c.loop-r-test.true l.invariant.1 (more_of m.result.advance) m.result.flag.elements m.ensures (ap more_of c.in-Ended.is),
@@ -43,6 +38,6 @@ loop-r-preserved c =
 
 pub returns : goal.returns
 unfolding more_of
-returns c = 
+returns c =
     let l = c.loop-r in let a = c.args in
     follows_no a.sh a.lists.now c.requires.held a.self.elements (search rules) c.requires.flag l.r l.invariant.0 c.loop-r-test.false l.invariant.1 _

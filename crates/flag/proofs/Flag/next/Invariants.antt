@@ -1,15 +1,10 @@
 -- Below r no element can move on, so the elements up to r are the last flag of the one there.
 -- Assumes nothing.
-use borrow.Author.Rules.{rules}
-use native.Mathlib.Omega.{arith}
-use mathlib.Core.Path.{ap}
 use Prim.Native.Nat.{suc, ◌-◌, ◌≤◌}
 use lib.ListN.{get_or, take}
 use Rattle.spec.specs.Flags.{flags_to}
 use Rattle.ranked.specs.Words.{abs_in}
-use Rattle.flag.specs.Reading.{more_of}
 use Rattle.flag.proofs.Order.{Last}
-use Rattle.flag.proofs.Iterate.{ended-first, ended-next, above_in, follows_yes, follows_no}
 use Rattle.flag.proofs.Flag.next.Given as goal
 
 abbrev pub invariant-loop-r : goal.invariant-loop-r

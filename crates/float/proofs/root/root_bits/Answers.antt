@@ -1,6 +1,5 @@
 -- `float::root::root_bits` meets its contract, by the laws of `Rounded.antt`. Assumes nothing.
 use mathlib.Core.Path.{◌≡◌, sym, subst}
-use mathlib.Core.Logic.{⊎_elim}
 use Prim.Native.Nat.{ℕ, ◌+◌, ◌-◌, ◌*◌, ◌/◌, ◌%◌, ◌^◌, ◌≤◌, ◌<◌}
 use native.Mathlib.Omega.{arith}
 use lib.Ieee.{binary64, of_bits}
@@ -29,8 +28,8 @@ rounded c =
     let a = l.argument-s.ensures in
     let h = short l in
     elim c.if-w.branch [
-    | then-w w ↦ rw w.nearest-is (omega arith, rounded_up _ _ _ _ _ a.0 a.1 a.2 a.3 a.4 (rooted l) w.if-w.true)
-    | else-w w ↦ rw w.nearest-is (omega arith, rounded_down _ _ _ _ _ a.0 a.1 a.2 a.3 a.4 (rooted l) w.if-w.false)
+      | then-w w ↦ rw w.nearest-is (omega arith, rounded_up _ _ _ _ _ a.0 a.1 a.2 a.3 a.4 (rooted l) w.if-w.true)
+      | else-w w ↦ rw w.nearest-is (omega arith, rounded_down _ _ _ _ _ a.0 a.1 a.2 a.3 a.4 (rooted l) w.if-w.false)
     ]
 
 pub argument-s-requires : goal.argument-s-requires

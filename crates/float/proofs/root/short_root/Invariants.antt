@@ -1,14 +1,7 @@
 -- `float::root::short_root` meets its contract. The invariant of its loop is that `root` is the root of the digits brought down, in as many digits as
 -- turns are done, and that `rest` is what its square leaves of them. Assumes nothing.
-use mathlib.Core.Path.{◌≡◌, refl, sym, ap, ◌∙◌, subst}
-use mathlib.Core.Logic.{◌⊎◌, inl, inr}
-use Prim.Native.Nat.{ℕ, suc, ◌+◌, ◌-◌, ◌*◌, ◌/◌, ◌%◌, ◌^◌, ◌≤◌, ◌<◌}
-use native.Mathlib.Nat.{div-one, div-eq_of_lt}
-use native.Mathlib.Numerals.{add-one}
-use native.Mathlib.Omega.{arith}
-use lib.Pow.{shr-shr, shr_le}
-use Rattle.spec.specs.Float.{root_down}
-use Rattle.float.proofs.root.Digits.{Root, digit-one, digit-zero, parts-le}
+use Prim.Native.Nat.{ℕ, ◌-◌, ◌*◌, ◌/◌, ◌^◌, ◌≤◌}
+use Rattle.float.proofs.root.Digits.{Root}
 use Rattle.float.proofs.root.short_root.Given as goal
 
 -- These are the digits that are down after i turns.

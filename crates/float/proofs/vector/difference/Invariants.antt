@@ -1,15 +1,10 @@
 -- The loop's invariant is that the cells below i hold the differences. The measure is what is left of a.
 -- Assumes nothing.
-use mathlib.Core.Path.{◌≡◌, refl, ◌∙◌}
 use Prim.Native.Nat.{◌≤◌, ◌-◌}
-use native.Mathlib.Omega.{arith}
 use lib.ListN.{get_or, length}
-use lib.Seq.{take-length}
 use lib.Ieee.{nan}
-use borrow.Author.Rules.{rules}
-use Rattle.spec.specs.Limits.{max_dimension}
 use Rattle.spec.specs.Float.{minus}
-use Rattle.float.proofs.Written.{Written, none, next, end_plain, table_zip}
+use Rattle.float.proofs.Written.{Written}
 use Rattle.float.proofs.vector.difference.Given as goal
 
 abbrev pub invariant-loop-i : goal.invariant-loop-i

@@ -1,8 +1,6 @@
-use Prim.Native.Nat.{◌≤◌, ◌-◌}
 use native.Mathlib.Omega.{arith}
-use lib.ListN.{length}
 use borrow.Author.Rules.{rules}
-use Rattle.float.proofs.Dots.{DotSummed, none, first, next, end}
+use Rattle.float.proofs.Dots.{none, first, next, end}
 use Rattle.float.proofs.vector.dot.Goals as goal
 
 pub returns-then-a-eq0 : goal.returns-then-a-eq0

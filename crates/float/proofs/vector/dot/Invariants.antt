@@ -1,10 +1,8 @@
 -- The loop's invariant is that what is left to add gives what the whole gives. The measure is what is left of the length.
 -- Assumes nothing.
 use Prim.Native.Nat.{◌≤◌, ◌-◌}
-use native.Mathlib.Omega.{arith}
 use lib.ListN.{length}
-use borrow.Author.Rules.{rules}
-use Rattle.float.proofs.Dots.{DotSummed, none, first, next, end}
+use Rattle.float.proofs.Dots.{DotSummed}
 use Rattle.float.proofs.vector.dot.Given as goal
 
 abbrev pub invariant-loop-i : goal.invariant-loop-i

@@ -1,16 +1,13 @@
 use mathlib.Core.Path.{refl, ◌∙◌}
-use mathlib.Core.List.{List}
-use Prim.Native.Nat.{ℕ, ◌≤◌, ◌-◌}
 use native.Mathlib.Omega.{arith}
-use lib.ListN.{get_or, length, replicate}
+use lib.ListN.{length}
 use lib.Seq.{take-length}
-use lib.Ieee.{Float, nan, of_bits}
+use lib.Ieee.{nan, of_bits}
 use borrow.Author.Rules.{rules}
 use Rattle.spec.specs.Limits.{max_dimension}
 use Rattle.spec.specs.Float.{zero_f}
 use Rattle.float.specs.Reading.{padded}
-use Rattle.float.proofs.Written.{Written, none, next, copied}
-use Rattle.float.proofs.vector.load.Invariants.{cells}
+use Rattle.float.proofs.Written.{none, next, copied}
 use Rattle.float.proofs.vector.load.Goals as goal
 
 pub loop-i-init : goal.loop-i-init

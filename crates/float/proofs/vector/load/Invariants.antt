@@ -1,17 +1,12 @@
 -- The loop's invariant is that the cells below i hold the slice's, the others 0. The measure is what is left of the slice.
 -- Assumes nothing.
-use mathlib.Core.Path.{refl, ◌∙◌}
 use mathlib.Core.List.{List}
 use Prim.Native.Nat.{ℕ, ◌≤◌, ◌-◌}
-use native.Mathlib.Omega.{arith}
 use lib.ListN.{get_or, length, replicate}
-use lib.Seq.{take-length}
-use lib.Ieee.{Float, nan, of_bits}
-use borrow.Author.Rules.{rules}
+use lib.Ieee.{Float, nan}
 use Rattle.spec.specs.Limits.{max_dimension}
 use Rattle.spec.specs.Float.{zero_f}
-use Rattle.float.specs.Reading.{padded}
-use Rattle.float.proofs.Written.{Written, none, next, copied}
+use Rattle.float.proofs.Written.{Written}
 use Rattle.float.proofs.vector.load.Given as goal
 
 abbrev pub cells : List Float → ℕ → Float

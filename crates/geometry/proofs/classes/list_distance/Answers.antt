@@ -1,7 +1,6 @@
 -- Either a listed value is near and is taken, or there is none and the distance joins the list.
 -- Assumes nothing.
 use mathlib.Core.Path.{sym, ap, ◌∙◌}
-use borrow.Author.Rules.{rules}
 use Rattle.geometry.specs.Classes.{nearest_of}
 use Rattle.geometry.proofs.Nearest.{takes, joins}
 use Rattle.geometry.proofs.classes.list_distance.Goals as goal

@@ -1,8 +1,7 @@
 use mathlib.Core.Path.{sym, ◌∙◌}
-use Prim.Native.Nat.{◌≤◌}
 use borrow.Author.Rules.{rules}
 use Rattle.geometry.specs.Classes.{nearest_of}
-use Rattle.geometry.proofs.Nearest.{NearestFound, first, near, far, end}
+use Rattle.geometry.proofs.Nearest.{first, near, far, end}
 use Rattle.geometry.proofs.classes.listed_for.Goals as goal
 
 pub loop-i-init : goal.loop-i-init

@@ -1,10 +1,8 @@
 -- The loop's invariant is that what was found is what the values from i on give. The measure is i.
 -- Assumes nothing.
-use mathlib.Core.Path.{sym, ◌∙◌}
 use Prim.Native.Nat.{◌≤◌}
-use borrow.Author.Rules.{rules}
 use Rattle.geometry.specs.Classes.{nearest_of}
-use Rattle.geometry.proofs.Nearest.{NearestFound, first, near, far, end}
+use Rattle.geometry.proofs.Nearest.{NearestFound}
 use Rattle.geometry.proofs.classes.listed_for.Given as goal
 
 abbrev pub invariant-loop-i : goal.invariant-loop-i

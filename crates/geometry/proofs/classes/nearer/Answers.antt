@@ -2,7 +2,6 @@
 -- Assumes nothing.
 use mathlib.Core.Path.{ap}
 use lib.Ieee.{Float, lt, of_bits}
-use borrow.Author.Rules.{rules}
 use Rattle.spec.specs.Float.{eps}
 use Rattle.spec.specs.Hull.{nearer}
 use Rattle.geometry.proofs.classes.nearer.Goals as goal

@@ -2,7 +2,6 @@
 -- Assumes nothing.
 use mathlib.Core.Path.{◌≡◌, sym, ap, ◌∙◌}
 use lib.Ieee.{Float}
-use borrow.Author.Rules.{rules}
 use Rattle.spec.specs.Hull.{smaller}
 use Rattle.geometry.specs.declared.classes.Nearest.{Nearest}
 use Rattle.geometry.specs.Classes.{nearest_of}

@@ -1,14 +1,13 @@
 use mathlib.Core.Path.{◌≡◌, sym, ap, ◌∙◌}
-use mathlib.Core.Logic.{⊎_elim}
 use mathlib.Core.List.{[]}
-use Prim.Native.Nat.{◌≤◌, ◌-◌}
+use Prim.Native.Nat.{◌≤◌}
 use native.Mathlib.Omega.{arith}
 use lib.ListN.{length, get_or}
 use borrow.Author.Rules.{rules}
 use Rattle.spec.specs.Matrix.{Vector}
 use Rattle.spec.specs.Hull.{Hull, add, distance}
 use Rattle.geometry.specs.Reading.{hull_in, point_at}
-use Rattle.geometry.proofs.Gathered.{Gathered, length_basis, count-far, count-near, part_is, first, stop, next, end}
+use Rattle.geometry.proofs.Gathered.{length_basis, count-far, count-near, part_is, first, stop, next, end}
 use Rattle.geometry.proofs.distance.distance_of.Goals.{After-point, After-point-in-loop-i}
 use Rattle.geometry.proofs.distance.distance_of.Goals.{in-Length, in-Nothing}
 use Rattle.geometry.proofs.distance.distance_of.Goals as goal
@@ -76,10 +75,10 @@ loop-i-preserved c =
     let g = next c.requires.2 c.loop-i-test.true (λ e. full (sym n ∙ e)) (h ∙ ap (add (hull_in a.d c.loop-i.hull)) o.0) c.loop-i.invariant.4 in
     let m : (c.match-joined.k ≡ c.add-added.result.hull.count) × (c.match-joined.k ≤ a.d) =
     elim c.match-joined.branch [
-    | in-Length w ↦ let q = count-far a.d c.loop-i.hull c.add-added.result.hull p h w.in-Length.is r.1 in
-    (omega (arith, w.k-is, q, c.loop-i.invariant.2), omega (arith, w.k-is, full, c.loop-i.invariant.3))
-    | in-Nothing w ↦ let q = count-near a.d c.loop-i.hull c.add-added.result.hull p h w.in-Nothing.is r.1 in
-    (omega (arith, w.k-is, q, c.loop-i.invariant.2), omega (arith, w.k-is, c.loop-i.invariant.3))
+      | in-Length w ↦ let q = count-far a.d c.loop-i.hull c.add-added.result.hull p h w.in-Length.is r.1 in
+          (omega (arith, w.k-is, q, c.loop-i.invariant.2), omega (arith, w.k-is, full, c.loop-i.invariant.3))
+      | in-Nothing w ↦ let q = count-near a.d c.loop-i.hull c.add-added.result.hull p h w.in-Nothing.is r.1 in
+          (omega (arith, w.k-is, q, c.loop-i.invariant.2), omega (arith, w.k-is, c.loop-i.invariant.3))
     ] in
     (omega arith, omega (arith, c.loop-i-test.true), m.0, m.1, g)
 

@@ -1,16 +1,9 @@
 -- The loop's invariant is that the hull is that of the first i points, and k counts its vectors. The measure is what is left of the list.
 -- Assumes nothing.
-use mathlib.Core.Path.{◌≡◌, sym, ap, ◌∙◌}
-use mathlib.Core.Logic.{⊎_elim}
-use mathlib.Core.List.{[]}
+use mathlib.Core.Path.{◌≡◌}
 use Prim.Native.Nat.{◌≤◌, ◌-◌}
-use native.Mathlib.Omega.{arith}
-use lib.ListN.{length, get_or}
-use borrow.Author.Rules.{rules}
-use Rattle.spec.specs.Matrix.{Vector}
-use Rattle.spec.specs.Hull.{Hull, add, distance}
 use Rattle.geometry.specs.Reading.{hull_in, point_at}
-use Rattle.geometry.proofs.Gathered.{Gathered, length_basis, count-far, count-near, part_is, first, stop, next, end}
+use Rattle.geometry.proofs.Gathered.{Gathered}
 use Rattle.geometry.proofs.distance.distance_of.Given as goal
 
 abbrev pub invariant-loop-i : goal.invariant-loop-i

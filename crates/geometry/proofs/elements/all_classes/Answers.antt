@@ -1,7 +1,5 @@
-use borrow.Author.Rules.{rules}
 use native.Mathlib.Omega.{arith}
-use Prim.Native.Nat.{◌-◌}
-use Rattle.geometry.proofs.elements.Ranks.{Round, first_round, classable, next_round, last_round}
+use Rattle.geometry.proofs.elements.Ranks.{first_round, classable, next_round, last_round}
 use Rattle.geometry.proofs.elements.all_classes.Goals as goal
 
 pub loop-r-init : goal.loop-r-init

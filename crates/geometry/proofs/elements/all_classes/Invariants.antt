@@ -1,9 +1,7 @@
 -- In the loop over the proper ranks, each rank's elements take their classes behind those of the ranks below.
 -- Assumes nothing.
-use borrow.Author.Rules.{rules}
-use native.Mathlib.Omega.{arith}
 use Prim.Native.Nat.{◌-◌}
-use Rattle.geometry.proofs.elements.Ranks.{Round, first_round, classable, next_round, last_round}
+use Rattle.geometry.proofs.elements.Ranks.{Round}
 use Rattle.geometry.proofs.elements.all_classes.Given as goal
 
 abbrev pub invariant-loop-r : goal.invariant-loop-r

@@ -1,7 +1,5 @@
-use borrow.Author.Rules.{rules}
 use native.Mathlib.Omega.{arith}
-use Prim.Native.Nat.{◌-◌}
-use Rattle.geometry.proofs.elements.Ranks.{rank-fits, start-below, some_here, before_in_lem, RankTurn, first_turn, points_fit, in_rank, here, apart, inside, next_turn, last_turn}
+use Rattle.geometry.proofs.elements.Ranks.{rank-fits, start-below, some_here, before_in_lem, first_turn, points_fit, in_rank, here, apart, inside, next_turn, last_turn}
 use Rattle.geometry.proofs.elements.classes_of_rank.Goals as goal
 
 pub coordinates-from-requires : goal.coordinates-from-requires
@@ -20,7 +18,7 @@ pub loop-e-init : goal.loop-e-init
 loop-e-init c = first_turn c.args.sh c.args.lists.now c.args.floats.now c.args.n c.args.r _ _ _ _ c.coordinates-from.ensures c.classes-cell.ensures c.proper_number-done.ensures c.size-many.ensures
 
 pub element_distance-x-requires : goal.element_distance-x-requires
-element_distance-x-requires c = 
+element_distance-x-requires c =
     let a = c.requires in
     record {
       held = a.held;
@@ -29,12 +27,12 @@ element_distance-x-requires c =
     }
 
 pub overflow_add-done : goal.overflow_add-done
-overflow_add-done c = 
+overflow_add-done c =
     let a = c.requires in
     omega (arith, here c.loop-e.invariant a c.loop-e-test.true, c.loop-e.invariant.done_is, c.loop-e.invariant.cell_is, c.classes-cell.type_inv)
 
 pub take_class-next-requires : goal.take_class-next-requires
-take_class-next-requires c = 
+take_class-next-requires c =
     let a = c.requires in
     (apart c.loop-e.invariant a c.loop-e-test.true, inside c.loop-e.invariant a c.loop-e-test.true)
 

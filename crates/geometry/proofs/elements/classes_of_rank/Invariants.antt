@@ -1,9 +1,7 @@
 -- In the loop over a rank's elements, each takes its class behind those before it.
 -- Assumes nothing.
-use borrow.Author.Rules.{rules}
-use native.Mathlib.Omega.{arith}
 use Prim.Native.Nat.{◌-◌}
-use Rattle.geometry.proofs.elements.Ranks.{rank-fits, start-below, some_here, before_in_lem, RankTurn, first_turn, points_fit, in_rank, here, apart, inside, next_turn, last_turn}
+use Rattle.geometry.proofs.elements.Ranks.{RankTurn}
 use Rattle.geometry.proofs.elements.classes_of_rank.Given as goal
 
 abbrev pub invariant-loop-e : goal.invariant-loop-e

@@ -1,7 +1,6 @@
 -- The vertices of an element stand in a buffer, and the distance of their hull is the element's.
 -- Assumes nothing.
 use mathlib.Core.Path.{◌∙◌}
-use borrow.Author.Rules.{rules}
 use native.Mathlib.Omega.{arith}
 use Rattle.ranked.proofs.Solids.{sizes_are}
 use Rattle.geometry.proofs.elements.Elements.{distance_is, list_long, some_listed, point_lies}

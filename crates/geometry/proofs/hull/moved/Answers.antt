@@ -1,12 +1,11 @@
 use mathlib.Core.Path.{◌≡◌, refl, ◌∙◌}
-use Prim.Native.Nat.{◌≤◌, ◌-◌}
 use native.Mathlib.Omega.{arith}
-use lib.ListN.{get_or, length}
+use lib.ListN.{length}
 use lib.Seq.{take-length}
 use lib.Ieee.{nan}
 use borrow.Author.Rules.{rules}
 use Rattle.spec.specs.Limits.{max_dimension}
-use Rattle.float.proofs.Written.{Written, none, next, end_plain, table_zip}
+use Rattle.float.proofs.Written.{none, next, end_plain, table_zip}
 use Rattle.geometry.proofs.Along.{by}
 use Rattle.geometry.proofs.hull.moved.Goals.{Start}
 use Rattle.geometry.proofs.hull.moved.Goals as goal

@@ -1,14 +1,9 @@
 -- The loop's invariant is that the cells below i are moved. The measure is what is left of b.
 -- Assumes nothing.
-use mathlib.Core.Path.{◌≡◌, refl, ◌∙◌}
 use Prim.Native.Nat.{◌≤◌, ◌-◌}
-use native.Mathlib.Omega.{arith}
 use lib.ListN.{get_or, length}
-use lib.Seq.{take-length}
 use lib.Ieee.{nan}
-use borrow.Author.Rules.{rules}
-use Rattle.spec.specs.Limits.{max_dimension}
-use Rattle.float.proofs.Written.{Written, none, next, end_plain, table_zip}
+use Rattle.float.proofs.Written.{Written}
 use Rattle.geometry.proofs.Along.{by}
 use Rattle.geometry.proofs.hull.moved.Given as goal
 

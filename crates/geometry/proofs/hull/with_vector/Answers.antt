@@ -1,13 +1,13 @@
 use mathlib.Core.Path.{◌≡◌, refl, ◌∙◌}
-use Prim.Native.Nat.{◌+◌, ◌*◌, ◌≤◌, ◌-◌}
+use Prim.Native.Nat.{◌+◌, ◌*◌}
 use native.Mathlib.Omega.{arith}
-use lib.ListN.{get_or, take, drop, length, length-drop}
+use lib.ListN.{length, length-drop}
 use lib.Seq.{take-set-le, drop-set-add}
 use lib.Ieee.{nan}
 use borrow.Author.Rules.{rules}
 use Rattle.spec.specs.Limits.{max_dimension}
 use Rattle.spec.specs.Float.{over}
-use Rattle.float.proofs.Written.{Written, none, next, end_plain, table_map}
+use Rattle.float.proofs.Written.{none, next, end_plain, table_map}
 use Rattle.geometry.proofs.hull.with_vector.Goals.{Start}
 use Rattle.geometry.proofs.hull.with_vector.Goals as goal
 

@@ -1,15 +1,11 @@
 -- The loop's invariant is that the cells below `at` stand as they did, and the next j hold v's entries, divided. The measure is what is left of d.
 -- Assumes nothing.
-use mathlib.Core.Path.{◌≡◌, refl, ◌∙◌}
-use Prim.Native.Nat.{◌+◌, ◌*◌, ◌≤◌, ◌-◌}
-use native.Mathlib.Omega.{arith}
-use lib.ListN.{get_or, take, drop, length, length-drop}
-use lib.Seq.{take-set-le, drop-set-add}
+use mathlib.Core.Path.{◌≡◌}
+use Prim.Native.Nat.{◌≤◌, ◌-◌}
+use lib.ListN.{get_or, take, drop}
 use lib.Ieee.{nan}
-use borrow.Author.Rules.{rules}
-use Rattle.spec.specs.Limits.{max_dimension}
 use Rattle.spec.specs.Float.{over}
-use Rattle.float.proofs.Written.{Written, none, next, end_plain, table_map}
+use Rattle.float.proofs.Written.{Written}
 use Rattle.geometry.proofs.hull.with_vector.Given as goal
 
 abbrev pub invariant-loop-j : goal.invariant-loop-j

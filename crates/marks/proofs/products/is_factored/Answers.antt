@@ -1,6 +1,5 @@
 -- The tests come one after another. The factors lie before the row, and so within the rows.
 -- Assumes nothing.
-use borrow.Author.Rules.{rules}
 use mathlib.Core.Path.{sym, ap, ap₂, ◌∙◌}
 use mathlib.Core.Bool.{false≢true}
 use Prim.Native.Nat.{◌+◌, ◌*◌, ◌≤◌}

@@ -1,7 +1,4 @@
-use borrow.Author.Rules.{rules}
 use mathlib.Core.Bool.{false≢true}
-use Prim.Native.Nat.{◌≤◌, ◌-◌}
-use Rattle.marks.specs.Table.{slots}
 use Rattle.marks.proofs.products.is_known.Goals as goal
 
 pub returns-then-cells-j : goal.returns-then-cells-j

@@ -1,7 +1,5 @@
 -- The loop's invariant is that j is at most as many as there are slots. The measure is what is left of them.
 -- Assumes nothing.
-use borrow.Author.Rules.{rules}
-use mathlib.Core.Bool.{false≢true}
 use Prim.Native.Nat.{◌≤◌, ◌-◌}
 use Rattle.marks.specs.Table.{slots}
 use Rattle.marks.proofs.products.is_known.Given as goal

@@ -1,7 +1,4 @@
-use borrow.Author.Rules.{rules}
 use mathlib.Core.Bool.{false≢true}
-use Prim.Native.Nat.{◌≤◌, ◌-◌}
-use Rattle.marks.specs.Table.{places_tried}
 use Rattle.marks.proofs.products.is_met.Goals as goal
 
 pub returns-then-is_factored : goal.returns-then-is_factored

@@ -1,10 +1,9 @@
 use borrow.Author.Rules.{rules}
 use native.Mathlib.Omega.{arith}
-use Prim.Native.Nat.{◌≤◌, ◌-◌}
 use mathlib.Core.Path.{◌≡◌}
 use mathlib.Core.Bool.{false≢true}
-use lib.ListN.{length, get_or}
-use Rattle.marks.proofs.products.Factors.{SameTo, same_none, same_next, same_end}
+use lib.ListN.{get_or}
+use Rattle.marks.proofs.products.Factors.{same_none, same_next, same_end}
 use Rattle.marks.proofs.products.is_product.Goals as goal
 
 pub loop-p-init : goal.loop-p-init

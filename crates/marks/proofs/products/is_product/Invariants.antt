@@ -1,12 +1,9 @@
 -- The loop's invariant is that the entries before p are the product's. The measure is what is left of the row.
 -- Assumes nothing.
-use borrow.Author.Rules.{rules}
-use native.Mathlib.Omega.{arith}
 use Prim.Native.Nat.{◌≤◌, ◌-◌}
 use mathlib.Core.Path.{◌≡◌}
-use mathlib.Core.Bool.{false≢true}
-use lib.ListN.{length, get_or}
-use Rattle.marks.proofs.products.Factors.{SameTo, same_none, same_next, same_end}
+use lib.ListN.{length}
+use Rattle.marks.proofs.products.Factors.{SameTo}
 use Rattle.marks.proofs.products.is_product.Given as goal
 
 abbrev pub invariant-loop-p : goal.invariant-loop-p

@@ -1,6 +1,5 @@
 -- A slot that is found is one of the slots, so its cells lie in the array.
 -- Assumes nothing.
-use borrow.Author.Rules.{rules}
 use Prim.Native.Nat.{◌<◌}
 use native.Mathlib.Omega.{arith}
 use Rattle.marks.specs.Table.{slots}

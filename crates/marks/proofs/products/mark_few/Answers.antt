@@ -1,21 +1,20 @@
 use borrow.Author.Rules.{rules}
-use Prim.Native.Nat.{◌-◌}
-use Rattle.marks.proofs.products.Marked.{row_in, row-full, row-mark, MarkedTo, loop_first, loop_end, next_in, cell_left, loop_next}
+use Rattle.marks.proofs.products.Marked.{row_in, row-full, row-mark, loop_first, loop_end, next_in, cell_left, loop_next}
 use Rattle.marks.proofs.products.mark_few.Goals as goal
 
 pub loop-k-init : goal.loop-k-init
-loop-k-init c = 
+loop-k-init c =
     let a = c.args in
     loop_first a.sh a.lists.now a.floats.now a.rows.now a.goes.now a.marks.now _ _ c.vertices-v.ensures (search rules)
 
 pub row_at-requires : goal.row_at-requires
-row_at-requires c = 
+row_at-requires c =
     let l = c.loop-k in
     let a = c.args in
     row_in a.sh a.lists.now a.floats.now a.rows.now _ _ l.invariant.v_is (next_in _ _ _ _ l.invariant c.loop-k-test.true c.requires.sh_in_bounds)
 
 pub mark-m-requires : goal.mark-m-requires
-mark-m-requires c = 
+mark-m-requires c =
     let l = c.loop-k in
     let a = c.args in
     let p = c.requires.markable in
@@ -27,12 +26,12 @@ mark-m-requires c =
     }
 
 pub put_mark-requires : goal.put_mark-requires
-put_mark-requires c = 
+put_mark-requires c =
     let a = c.args in
     cell_left a.sh a.lists.now a.floats.now a.rows.now c.loop-k.invariant c.loop-k-test.true
 
 pub loop-k-preserved : goal.loop-k-preserved
-loop-k-preserved c = 
+loop-k-preserved c =
     let l = c.loop-k in
     let a = c.args in
     loop_next _ _ _ _ l.invariant c.loop-k-test.true _ c.put_mark.new.out _ c.mark-m.auto.goes

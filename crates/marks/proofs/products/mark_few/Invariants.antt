@@ -1,8 +1,7 @@
 -- The rows are taken one after another, and each mark is written behind those before it.
 -- Assumes nothing.
-use borrow.Author.Rules.{rules}
 use Prim.Native.Nat.{◌-◌}
-use Rattle.marks.proofs.products.Marked.{row_in, row-full, row-mark, MarkedTo, loop_first, loop_end, next_in, cell_left, loop_next}
+use Rattle.marks.proofs.products.Marked.{MarkedTo}
 use Rattle.marks.proofs.products.mark_few.Given as goal
 
 abbrev pub invariant-loop-k : goal.invariant-loop-k

@@ -1,12 +1,11 @@
 use borrow.Author.Rules.{rules}
 use native.Mathlib.Omega.{arith}
 use mathlib.Core.Path.{sym}
-use Prim.Native.Nat.{◌-◌}
-use Rattle.marks.proofs.products.Marked.{row_in, MarkedTo, loop_first, loop_end, next_in, cell_left, done_long, done_are, loop_next}
+use Rattle.marks.proofs.products.Marked.{row_in, loop_first, loop_end, next_in, cell_left, done_long, done_are, loop_next}
 use Rattle.marks.proofs.products.mark_many.Goals as goal
 
 pub loop-k-init : goal.loop-k-init
-loop-k-init c = 
+loop-k-init c =
     let a = c.args in
     loop_first a.sh a.lists.now a.floats.now a.rows.now a.goes.now a.marks.now _ _ c.vertices-v.ensures (search rules)
 
@@ -14,7 +13,7 @@ pub slice_bounds-mark_next-end-in-loop-k : goal.slice_bounds-mark_next-end-in-lo
 slice_bounds-mark_next-end-in-loop-k c = sym (done_long _ _ _ _ c.loop-k.invariant c.loop-k-test.true)
 
 pub mark_next-m-requires : goal.mark_next-m-requires
-mark_next-m-requires c = 
+mark_next-m-requires c =
     let l = c.loop-k in
     let a = c.args in
     let long = done_long a.sh a.lists.now a.floats.now a.rows.now l.invariant c.loop-k-test.true in
@@ -25,12 +24,12 @@ mark_next-m-requires c =
     }
 
 pub put_mark-requires : goal.put_mark-requires
-put_mark-requires c = 
+put_mark-requires c =
     let a = c.args in
     cell_left a.sh a.lists.now a.floats.now a.rows.now c.loop-k.invariant c.loop-k-test.true
 
 pub row_at-requires : goal.row_at-requires
-row_at-requires c = 
+row_at-requires c =
     let l = c.loop-k in
     let a = c.args in
     row_in a.sh a.lists.now a.floats.now a.rows.now _ _ l.invariant.v_is (next_in _ _ _ _ l.invariant c.loop-k-test.true c.requires.sh_in_bounds)
@@ -42,7 +41,7 @@ pub loop-k-smaller : goal.loop-k-smaller
 loop-k-smaller c = omega (arith, c.loop-k-test.true)
 
 pub loop-k-preserved : goal.loop-k-preserved
-loop-k-preserved c = 
+loop-k-preserved c =
     let l = c.loop-k in
     let a = c.args in
     let long = done_long a.sh a.lists.now a.floats.now a.rows.now l.invariant c.loop-k-test.true in

@@ -1,10 +1,7 @@
 -- The rows are taken one after another, and each mark is written behind those before it. The row then joins the table.
 -- Assumes nothing.
-use borrow.Author.Rules.{rules}
-use native.Mathlib.Omega.{arith}
-use mathlib.Core.Path.{sym}
 use Prim.Native.Nat.{◌-◌}
-use Rattle.marks.proofs.products.Marked.{row_in, MarkedTo, loop_first, loop_end, next_in, cell_left, done_long, done_are, loop_next}
+use Rattle.marks.proofs.products.Marked.{MarkedTo}
 use Rattle.marks.proofs.products.mark_many.Given as goal
 
 abbrev pub invariant-loop-k : goal.invariant-loop-k

@@ -1,29 +1,28 @@
 -- A row is confirmed by a product, or element by element.
 -- Assumes nothing.
-use borrow.Author.Rules.{rules}
 use mathlib.Core.Path.{refl, sym}
 use lib.ListN.{length}
 use Rattle.marks.proofs.products.Marked.{row_in, row_known, row-full, row_few, row-mark}
 use Rattle.marks.proofs.products.mark_next.Goals as goal
 
 pub is_known-requires : goal.is_known-requires
-is_known-requires c = 
+is_known-requires c =
     let a = c.args in
     row_in a.sh a.lists.now a.floats.now a.rows.now _ (length a.done.now) c.vertices-v.ensures c.requires.sh_in_bounds
 
 pub returns-then-is_known : goal.returns-then-is_known
-returns-then-is_known c = 
+returns-then-is_known c =
     let a = c.args in
     row_known a.sh a.lists.now a.floats.now a.rows.now _ (length a.done.now) c.vertices-v.ensures c.requires.sh_in_bounds c.requires.markable.0.held a.done.now refl c.requires.done_value
     (c.is_known.ensures c.if-is_known.true)
 
 pub row_at-row-requires : goal.row_at-row-requires
-row_at-row-requires c = 
+row_at-row-requires c =
     let a = c.args in
     row_in a.sh a.lists.now a.floats.now a.rows.now _ (length a.done.now) c.vertices-v.ensures c.requires.sh_in_bounds
 
 pub mark-m-requires : goal.mark-m-requires
-mark-m-requires c = 
+mark-m-requires c =
     let a = c.args in
     let p = c.requires.markable in
     record {
@@ -33,11 +32,11 @@ mark-m-requires c =
     }
 
 pub join-requires : goal.join-requires
-join-requires c = 
+join-requires c =
     let a = c.args in
     row_few a.sh a.lists.now a.floats.now a.rows.now _ _ c.vertices-v.ensures c.requires.sh_in_bounds _ c.row_at-row.ensures c.requires.markable.0.held
 
 pub returns : goal.returns
-returns c = 
+returns c =
     let a = c.args in
     row-mark a.sh a.lists.now a.floats.now a.rows.now _ _ c.vertices-v.ensures c.requires.sh_in_bounds _ c.row_at-row.ensures _ c.mark-m.ensures

@@ -1,6 +1,5 @@
 -- The loop's invariant is that i is at most as many as there are entries. The measure is what is left of them.
 -- Assumes nothing.
-use borrow.Author.Rules.{rules}
 use Prim.Native.Nat.{◌≤◌, ◌-◌}
 use Rattle.marks.specs.Table.{first_entries}
 use Rattle.marks.proofs.products.none.Given as goal

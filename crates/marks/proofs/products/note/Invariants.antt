@@ -1,6 +1,5 @@
 -- The loop's invariant is that p is at most the row's length. The measure is what is left of it.
 -- Assumes nothing.
-use borrow.Author.Rules.{rules}
 use Prim.Native.Nat.{◌≤◌, ◌-◌}
 use lib.ListN.{length}
 use Rattle.marks.proofs.products.note.Given as goal

@@ -1,6 +1,5 @@
 -- The loop's invariant is that h is below the limit for numbers that are mixed. The measure is what is left of the entries.
 -- Assumes nothing.
-use borrow.Author.Rules.{rules}
 use Prim.Native.Nat.{◌≤◌, ◌<◌, ◌-◌}
 use Rattle.points.specs.Guesses.{mixed_limit}
 use Rattle.marks.specs.Table.{first_entries}

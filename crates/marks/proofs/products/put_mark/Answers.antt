@@ -1,6 +1,5 @@
 -- One cell is written.
 -- Assumes nothing.
-use borrow.Author.Rules.{rules}
 use Rattle.marks.proofs.products.Marked.{one_written}
 use Rattle.marks.proofs.products.put_mark.Goals as goal
 

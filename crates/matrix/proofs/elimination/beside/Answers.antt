@@ -1,15 +1,15 @@
 use mathlib.Core.Path.{◌≡◌, refl, ap, ◌∙◌}
 use mathlib.Core.List.{List}
-use Prim.Native.Nat.{◌+◌, ◌≤◌, ◌-◌}
+use Prim.Native.Nat.{◌+◌, ◌-◌}
 use native.Mathlib.Omega.{arith}
-use lib.ListN.{get_or, take, set, length, replicate}
+use lib.ListN.{take, set, length}
 use lib.Seq.{length-take-le}
 use lib.Ieee.{Float, nan, of_bits}
 use borrow.Author.Rules.{rules}
 use Rattle.spec.specs.Limits.{max_dimension}
 use Rattle.spec.specs.Float.{zero_f, one_f}
 use Rattle.matrix.specs.Reading.{width}
-use Rattle.float.proofs.Written.{Written, none, next, copied}
+use Rattle.float.proofs.Written.{none, next, copied}
 use Rattle.matrix.proofs.Beside.{beside-row}
 use Rattle.matrix.proofs.elimination.beside.Goals as goal
 

@@ -1,13 +1,10 @@
 use mathlib.Core.Path.{◌≡◌, ◌∙◌}
-use mathlib.Core.List.{◌++◌}
-use Prim.Native.Nat.{◌+◌, ◌≤◌, ◌-◌}
 use native.Mathlib.Omega.{arith}
-use lib.ListN.{take, length}
+use lib.ListN.{length}
 use borrow.Author.Rules.{rules}
 use Rattle.spec.specs.Limits.{max_dimension}
-use Rattle.spec.specs.Matrix.{row, unit}
 use Rattle.matrix.specs.Reading.{leading}
-use Rattle.float.proofs.Written.{Written, none, next, end}
+use Rattle.float.proofs.Written.{none, next, end}
 use Rattle.matrix.proofs.Beside.{beside-rows}
 use Rattle.matrix.proofs.elimination.beside_identity.Goals as goal
 

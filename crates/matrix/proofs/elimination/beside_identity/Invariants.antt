@@ -1,16 +1,10 @@
 -- The loop's invariant is that the rows below i stand beside the identity's. The measure is what is left of d.
 -- Assumes nothing.
-use mathlib.Core.Path.{◌≡◌, ◌∙◌}
 use mathlib.Core.List.{◌++◌}
 use Prim.Native.Nat.{◌+◌, ◌≤◌, ◌-◌}
-use native.Mathlib.Omega.{arith}
-use lib.ListN.{take, length}
-use borrow.Author.Rules.{rules}
-use Rattle.spec.specs.Limits.{max_dimension}
+use lib.ListN.{take}
 use Rattle.spec.specs.Matrix.{row, unit}
-use Rattle.matrix.specs.Reading.{leading}
-use Rattle.float.proofs.Written.{Written, none, next, end}
-use Rattle.matrix.proofs.Beside.{beside-rows}
+use Rattle.float.proofs.Written.{Written}
 use Rattle.matrix.proofs.elimination.beside_identity.Given as goal
 
 abbrev pub invariant-loop-i : goal.invariant-loop-i

@@ -3,7 +3,6 @@
 use mathlib.Core.Path.{◌∙◌}
 use Prim.Native.Nat.{◌+◌}
 use native.Mathlib.Omega.{arith}
-use borrow.Author.Rules.{rules}
 use Rattle.matrix.proofs.Leading.{column-leading}
 use Rattle.matrix.proofs.elimination.column.Goals as goal
 

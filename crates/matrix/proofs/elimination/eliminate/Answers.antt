@@ -1,6 +1,6 @@
 use mathlib.Core.Path.{◌≡◌, sym, ap, ◌∙◌}
 use mathlib.Core.Option.{some}
-use Prim.Native.Nat.{◌+◌, ◌≤◌, ◌-◌}
+use Prim.Native.Nat.{◌+◌, ◌≤◌}
 use native.Mathlib.Omega.{arith}
 use lib.ListN.{length}
 use lib.Ieee.{of_bits}
@@ -9,7 +9,7 @@ use Rattle.spec.specs.Float.{zero_f, one_f}
 use Rattle.spec.specs.Matrix.{entry}
 use Rattle.matrix.specs.Reading.{leading, padded_rows, if_regular, inverse_cells}
 use Rattle.matrix.proofs.Leading.{entry-leading}
-use Rattle.matrix.proofs.Columns.{ColumnsDone, first, stop, next, inverse-none, determinant-none, inverse-end, determinant-end}
+use Rattle.matrix.proofs.Columns.{first, stop, next, inverse-none, determinant-none, inverse-end, determinant-end}
 use Rattle.matrix.proofs.elimination.eliminate.Goals.{After-entry-x, Start}
 use Rattle.matrix.proofs.elimination.eliminate.Goals as goal
 

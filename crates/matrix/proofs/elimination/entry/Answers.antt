@@ -6,7 +6,6 @@ use lib.ListN.{get_or, length}
 use lib.Ieee.{nan, binary64}
 use denote.Floats.{FloatOf}
 use mathlib.Core.Path.{◌≡◌}
-use borrow.Author.Rules.{rules}
 use Rattle.spec.specs.Limits.{max_dimension}
 use Rattle.spec.specs.Float.{zero_f}
 use Rattle.matrix.specs.Reading.{width}

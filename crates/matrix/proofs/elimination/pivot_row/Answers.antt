@@ -1,14 +1,12 @@
 use mathlib.Core.Path.{◌≡◌, sym, ap, ◌∙◌}
-use mathlib.Core.Logic.{⊎_elim}
-use Prim.Native.Nat.{◌+◌, ◌≤◌, ◌<◌, ◌-◌}
+use Prim.Native.Nat.{◌+◌, ◌<◌}
 use native.Mathlib.Omega.{arith}
 use lib.ListN.{length}
 use borrow.Author.Rules.{rules}
 use Rattle.spec.specs.Limits.{max_dimension}
 use Rattle.spec.specs.Float.{abs_f}
-use Rattle.matrix.specs.Reading.{leading}
 use Rattle.matrix.proofs.Leading.{length-leading, entry-leading}
-use Rattle.matrix.proofs.PivotScan.{Scanned, first, larger, not_larger, end}
+use Rattle.matrix.proofs.PivotScan.{first, larger, not_larger, end}
 use Rattle.matrix.proofs.elimination.pivot_row.Goals.{then-magnitude, else-magnitude}
 use Rattle.matrix.proofs.elimination.pivot_row.Goals as goal
 
@@ -28,8 +26,8 @@ loop-r-preserved c =
     let ev = c.magnitude-in-loop-r.ensures ∙ ap abs_f (c.entry-in-loop-r.ensures ∙ sym (view l.loop-r.r a.c (omega arith) (omega arith))) in
     let h : l.loop-r.r < a.d = n.loop-r-test.true in
     elim c.if-magnitude.branch [
-    | then-magnitude w ↦ rw w.p-is (omega arith, h, larger _ _ h eu ev l.loop-r.invariant.2 w.if-magnitude.true)
-    | else-magnitude w ↦ rw w.p-is (omega arith, l.loop-r.invariant.1, not_larger _ _ h eu ev l.loop-r.invariant.2 w.if-magnitude.false)
+      | then-magnitude w ↦ rw w.p-is (omega arith, h, larger _ _ h eu ev l.loop-r.invariant.2 w.if-magnitude.true)
+      | else-magnitude w ↦ rw w.p-is (omega arith, l.loop-r.invariant.1, not_larger _ _ h eu ev l.loop-r.invariant.2 w.if-magnitude.false)
     ]
 
 pub returns : goal.returns

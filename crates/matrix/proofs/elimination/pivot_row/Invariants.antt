@@ -1,16 +1,8 @@
 -- The loop's invariant is that p is the pivot of the rows before r, and is a row. The measure is what is left of d.
 -- Assumes nothing.
-use mathlib.Core.Path.{◌≡◌, sym, ap, ◌∙◌}
-use mathlib.Core.Logic.{⊎_elim}
 use Prim.Native.Nat.{◌+◌, ◌≤◌, ◌<◌, ◌-◌}
-use native.Mathlib.Omega.{arith}
-use lib.ListN.{length}
-use borrow.Author.Rules.{rules}
-use Rattle.spec.specs.Limits.{max_dimension}
-use Rattle.spec.specs.Float.{abs_f}
 use Rattle.matrix.specs.Reading.{leading}
-use Rattle.matrix.proofs.Leading.{length-leading, entry-leading}
-use Rattle.matrix.proofs.PivotScan.{Scanned, first, larger, not_larger, end}
+use Rattle.matrix.proofs.PivotScan.{Scanned}
 use Rattle.matrix.proofs.elimination.pivot_row.Given as goal
 
 abbrev pub invariant-loop-r : goal.invariant-loop-r

@@ -1,16 +1,14 @@
 use mathlib.Core.Path.{◌≡◌, sym, ap, ◌∙◌}
 use mathlib.Core.List.{map-id}
-use Prim.Native.Nat.{◌≤◌, ◌-◌}
 use native.Mathlib.Omega.{arith}
-use lib.ListN.{get_or, take, drop, length, length-drop, replicate}
+use lib.ListN.{take, drop, length, length-drop}
 use lib.Seq.{get_or-drop}
 use lib.Ieee.{nan, of_bits}
 use borrow.Author.Rules.{rules}
-use Rattle.spec.specs.Limits.{max_dimension}
 use Rattle.spec.specs.Float.{zero_f}
 use Rattle.float.specs.Reading.{padded}
 use Rattle.matrix.specs.Reading.{width}
-use Rattle.float.proofs.Written.{Written, none, next, drop-take, table_map}
+use Rattle.float.proofs.Written.{none, next, drop-take, table_map}
 use Rattle.float.proofs.Padded.{padded_table}
 use Rattle.matrix.proofs.elimination.right_half.Goals as goal
 

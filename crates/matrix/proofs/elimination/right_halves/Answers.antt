@@ -1,17 +1,15 @@
 use mathlib.Core.Path.{◌≡◌, ap, ◌∙◌}
-use mathlib.Core.List.{List}
-use Prim.Native.Nat.{ℕ, ◌+◌, ◌≤◌, ◌<◌, ◌-◌}
+use Prim.Native.Nat.{ℕ, ◌+◌, ◌<◌}
 use native.Mathlib.Omega.{arith}
-use lib.ListN.{take, drop, length}
-use lib.Ieee.{Float, binary64, of_bits}
+use lib.ListN.{drop, length}
+use lib.Ieee.{binary64, of_bits}
 use denote.Floats.{FloatOf}
 use borrow.Author.Rules.{rules}
 use Rattle.spec.specs.Limits.{max_dimension}
 use Rattle.spec.specs.Float.{zero_f}
 use Rattle.spec.specs.Matrix.{row}
-use Rattle.float.specs.Reading.{padded}
 use Rattle.matrix.specs.Reading.{width, padded_rows}
-use Rattle.float.proofs.Written.{Written, none, next}
+use Rattle.float.proofs.Written.{none, next}
 use Rattle.matrix.proofs.Sized.{wide}
 use Rattle.matrix.proofs.Corner.{over-leading}
 use Rattle.matrix.proofs.Beside.{half_long}

@@ -1,5 +1,4 @@
 use mathlib.Core.Path.{◌≡◌, ap, ◌∙◌}
-use Prim.Native.Nat.{◌≤◌, ◌-◌}
 use native.Mathlib.Omega.{arith}
 use lib.ListN.{get_or, length}
 use lib.Seq.{take_all}
@@ -8,7 +7,7 @@ use borrow.Author.Rules.{rules}
 use Rattle.spec.specs.Float.{zero_f, minus, times}
 use Rattle.spec.specs.Matrix.{cleared}
 use Rattle.matrix.specs.Reading.{width}
-use Rattle.float.proofs.Written.{Written, none, next, all, table_zip}
+use Rattle.float.proofs.Written.{none, next, all, table_zip}
 use Rattle.matrix.proofs.Sized.{get_d_any}
 use Rattle.matrix.proofs.elimination.row_cleared.Goals.{Start}
 use Rattle.matrix.proofs.elimination.row_cleared.Goals as goal

@@ -1,17 +1,11 @@
 -- The loop's invariant is that the cells below j are cleared, by the factor as it was. The measure is what is left of the row.
 -- Assumes nothing.
-use mathlib.Core.Path.{◌≡◌, ap, ◌∙◌}
 use Prim.Native.Nat.{◌≤◌, ◌-◌}
-use native.Mathlib.Omega.{arith}
-use lib.ListN.{get_or, length}
-use lib.Seq.{take_all}
-use lib.Ieee.{Float, nan}
-use borrow.Author.Rules.{rules}
+use lib.ListN.{get_or}
+use lib.Ieee.{nan}
 use Rattle.spec.specs.Float.{zero_f, minus, times}
-use Rattle.spec.specs.Matrix.{cleared}
 use Rattle.matrix.specs.Reading.{width}
-use Rattle.float.proofs.Written.{Written, none, next, all, table_zip}
-use Rattle.matrix.proofs.Sized.{get_d_any}
+use Rattle.float.proofs.Written.{Written}
 use Rattle.matrix.proofs.elimination.row_cleared.Given as goal
 
 abbrev pub invariant-loop-j : goal.invariant-loop-j

@@ -1,14 +1,13 @@
 use mathlib.Core.Path.{◌≡◌, refl, ◌∙◌}
-use Prim.Native.Nat.{◌≤◌, ◌-◌}
 use native.Mathlib.Omega.{arith}
-use lib.ListN.{get_or, length}
+use lib.ListN.{length}
 use lib.Seq.{take_all}
 use lib.Ieee.{nan}
 use borrow.Author.Rules.{rules}
 use Rattle.spec.specs.Float.{over}
 use Rattle.spec.specs.Matrix.{divided}
 use Rattle.matrix.specs.Reading.{width}
-use Rattle.float.proofs.Written.{Written, none, next, all, table_map}
+use Rattle.float.proofs.Written.{none, next, all, table_map}
 use Rattle.matrix.proofs.elimination.row_divided.Goals.{Start}
 use Rattle.matrix.proofs.elimination.row_divided.Goals as goal
 

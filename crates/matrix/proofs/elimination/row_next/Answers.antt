@@ -1,6 +1,5 @@
 -- Each of the two cases of the test, the pivot row and any other row, is a case of the definition.
 -- Assumes nothing.
-use borrow.Author.Rules.{rules}
 use borrow.Author.Tests.{eq-eqb, ne_eqb}
 use Rattle.matrix.proofs.elimination.row_next.Goals as goal
 

@@ -1,13 +1,13 @@
 use mathlib.Core.Path.{◌≡◌, ap, ◌∙◌}
-use Prim.Native.Nat.{◌+◌, ◌≤◌, ◌<◌, ◌-◌}
+use Prim.Native.Nat.{◌+◌, ◌<◌}
 use native.Mathlib.Omega.{arith}
 use lib.ListN.{take, length}
 use borrow.Author.Rules.{rules}
 use Rattle.spec.specs.Limits.{max_dimension}
 use Rattle.spec.specs.Matrix.{row}
 use Rattle.matrix.specs.Reading.{leading}
-use Rattle.float.proofs.Written.{Written, none, next, end}
-use Rattle.matrix.proofs.Leading.{next_row, next-take, clear-leading}
+use Rattle.float.proofs.Written.{none, next, end}
+use Rattle.matrix.proofs.Leading.{next-take, clear-leading}
 use Rattle.matrix.proofs.elimination.rows_cleared.Goals.{Start}
 use Rattle.matrix.proofs.elimination.rows_cleared.Goals as goal
 

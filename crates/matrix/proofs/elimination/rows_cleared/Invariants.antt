@@ -1,15 +1,10 @@
 -- The loop's invariant is that the rows below r are done, as their first d + d entries show. The measure is what is left of d.
 -- Assumes nothing.
-use mathlib.Core.Path.{◌≡◌, ap, ◌∙◌}
-use Prim.Native.Nat.{◌+◌, ◌≤◌, ◌<◌, ◌-◌}
-use native.Mathlib.Omega.{arith}
-use lib.ListN.{take, length}
-use borrow.Author.Rules.{rules}
-use Rattle.spec.specs.Limits.{max_dimension}
+use Prim.Native.Nat.{◌+◌, ◌≤◌, ◌-◌}
+use lib.ListN.{take}
 use Rattle.spec.specs.Matrix.{row}
-use Rattle.matrix.specs.Reading.{leading}
-use Rattle.float.proofs.Written.{Written, none, next, end}
-use Rattle.matrix.proofs.Leading.{next_row, next-take, clear-leading}
+use Rattle.float.proofs.Written.{Written}
+use Rattle.matrix.proofs.Leading.{next_row}
 use Rattle.matrix.proofs.elimination.rows_cleared.Given as goal
 
 abbrev pub invariant-loop-r : goal.invariant-loop-r

@@ -1,7 +1,6 @@
 -- The two rows that are written are those of the definition.
 -- Assumes nothing.
 use mathlib.Core.Path.{refl}
-use borrow.Author.Rules.{rules}
 use Rattle.spec.specs.Matrix.{swap_rows}
 use Rattle.matrix.proofs.elimination.swapped.Goals as goal
 

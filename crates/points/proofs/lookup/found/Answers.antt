@@ -1,6 +1,5 @@
 -- A guess that names a number is right; without one the scan decides.
 -- Assumes nothing.
-use borrow.Author.Rules.{rules}
 use Rattle.points.proofs.lookup.found.Goals as goal
 
 pub returns : goal.returns

@@ -1,11 +1,11 @@
 use mathlib.Core.Path.{◌≡◌, sym, ◌∙◌}
-use Prim.Native.Nat.{◌+◌, ◌-◌, ◌%◌, ◌≤◌}
+use Prim.Native.Nat.{◌+◌, ◌%◌}
 use native.Mathlib.Omega.{arith}
 use lib.ListN.{length}
 use lib.Seq.{length-take-le}
 use borrow.Author.Rules.{rules}
 use Rattle.spec.specs.Limits.{max_dimension}
-use Rattle.points.specs.Guesses.{places, tries}
+use Rattle.points.specs.Guesses.{places}
 use Rattle.points.proofs.Parts.{length-parts, part_end}
 use Rattle.points.proofs.Finding.{at_is}
 use Rattle.points.proofs.Hits.{lone_number}

@@ -1,12 +1,11 @@
 use mathlib.Core.Path.{ap}
 use mathlib.Core.Bool.{false≢true}
-use Prim.Native.Nat.{◌+◌, ◌*◌, ◌≤◌, ◌-◌}
+use Prim.Native.Nat.{◌+◌, ◌*◌, ◌≤◌}
 use native.Mathlib.Omega.{arith}
 use lib.ListN.{length}
 use borrow.Author.Rules.{rules}
 use Rattle.points.proofs.Parts.{part_end}
 use Rattle.points.proofs.Nearness.{part-wide}
-use Rattle.points.specs.Guesses.{Clear}
 use Rattle.points.proofs.Lone.{far-part, clear_none, clear_next, clear-end}
 use Rattle.points.proofs.lookup.is_clear.Goals.{After-is_far, In-loop-j, Start}
 use Rattle.points.proofs.lookup.is_clear.Goals as goal

@@ -1,9 +1,8 @@
 use mathlib.Core.Bool.{false≢true}
-use Prim.Native.Nat.{◌≤◌, ◌-◌}
 use native.Mathlib.Omega.{arith}
 use borrow.Author.Rules.{rules}
 use Rattle.points.proofs.Parts.{part_end}
-use Rattle.points.proofs.Lone.{ClearTo, each_none, each_next, each-end}
+use Rattle.points.proofs.Lone.{each_none, each_next, each-end}
 use Rattle.points.proofs.lookup.is_lone.Goals.{Start}
 use Rattle.points.proofs.lookup.is_lone.Goals as goal
 

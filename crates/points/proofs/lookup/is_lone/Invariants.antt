@@ -1,11 +1,7 @@
 -- The loop's invariant is that every point before k is clear of those before it. The measure is what is left of n.
 -- Assumes nothing.
-use mathlib.Core.Bool.{false≢true}
 use Prim.Native.Nat.{◌≤◌, ◌-◌}
-use native.Mathlib.Omega.{arith}
-use borrow.Author.Rules.{rules}
-use Rattle.points.proofs.Parts.{part_end}
-use Rattle.points.proofs.Lone.{ClearTo, each_none, each_next, each-end}
+use Rattle.points.proofs.Lone.{ClearTo}
 use Rattle.points.proofs.lookup.is_lone.Given as goal
 
 abbrev pub invariant-loop-k : goal.invariant-loop-k

@@ -1,7 +1,6 @@
 -- The loop's invariant is that h is below the limit for numbers that are mixed. The measure is what is left of the axes.
 -- Assumes nothing.
 use Prim.Native.Nat.{◌≤◌, ◌<◌, ◌-◌}
-use borrow.Author.Rules.{rules}
 use Rattle.points.specs.Guesses.{mixed_limit}
 use Rattle.points.proofs.lookup.place.Given as goal
 

@@ -1,11 +1,6 @@
-use mathlib.Core.Path.{◌≡◌, refl, sym, ◌∙◌}
-use Prim.Native.Nat.{◌≤◌, ◌-◌}
+use mathlib.Core.Path.{refl, sym, ◌∙◌}
 use native.Mathlib.Omega.{arith}
-use lib.ListN.{length}
 use borrow.Author.Rules.{rules}
-use borrow.Author.Tests.{not-false}
-use Rattle.spec.specs.Lists.{parts}
-use Rattle.points.specs.Guesses.{Lone, places}
 use Rattle.points.proofs.Parts.{length-parts, part_end}
 use Rattle.points.proofs.Lone.{guesses_none}
 use Rattle.points.proofs.lookup.places.Goals.{Start}

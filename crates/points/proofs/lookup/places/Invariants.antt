@@ -1,15 +1,10 @@
 -- The loop's invariant: k is at most n, the points are lone, and the table has its length. The measure is what is left of n.
 -- Assumes nothing.
-use mathlib.Core.Path.{◌≡◌, refl, sym, ◌∙◌}
+use mathlib.Core.Path.{◌≡◌}
 use Prim.Native.Nat.{◌≤◌, ◌-◌}
-use native.Mathlib.Omega.{arith}
 use lib.ListN.{length}
-use borrow.Author.Rules.{rules}
-use borrow.Author.Tests.{not-false}
 use Rattle.spec.specs.Lists.{parts}
 use Rattle.points.specs.Guesses.{Lone, places}
-use Rattle.points.proofs.Parts.{length-parts, part_end}
-use Rattle.points.proofs.Lone.{guesses_none}
 use Rattle.points.proofs.lookup.places.Given as goal
 
 abbrev pub invariant-loop-k : goal.invariant-loop-k

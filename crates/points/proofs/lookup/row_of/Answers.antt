@@ -1,6 +1,6 @@
 use mathlib.Core.Path.{◌≡◌, refl, sym, ap, ◌∙◌}
 use mathlib.Core.List.{List, [], ◌∷◌}
-use Prim.Native.Nat.{ℕ, ◌≤◌, ◌<◌, ◌-◌}
+use Prim.Native.Nat.{ℕ, ◌<◌}
 use native.Mathlib.Omega.{arith}
 use lib.ListN.{length, get_or, length-set}
 use borrow.Author.Rules.{rules}
@@ -15,7 +15,7 @@ use Rattle.matrix.proofs.Corner.{length-corner}
 use Rattle.matrix.proofs.Padded.{take-image}
 use Rattle.points.proofs.Parts.{length-parts, part_at, part_end}
 use Rattle.points.proofs.Finding.{at-number, is_missing}
-use Rattle.points.proofs.Filled.{CellsFilled, Piece, filled_none, filled_next, filled_open, filled_end, cell, cell_set, cell_is, length-row, one_held, one-other}
+use Rattle.points.proofs.Filled.{Piece, filled_none, filled_next, filled_open, filled_end, cell, cell_set, cell_is, length-row, one_held, one-other}
 use Rattle.points.proofs.lookup.row_of.Goals.{After-found, In-At, Start}
 use Rattle.points.proofs.lookup.row_of.Goals as goal
 

@@ -1,6 +1,6 @@
-use mathlib.Core.Path.{◌≡◌, refl, ap}
+use mathlib.Core.Path.{refl, ap}
 use mathlib.Core.Logic.{inl, inr}
-use Prim.Native.Nat.{ℕ, ◌+◌, ◌-◌, ◌%◌, ◌≤◌, ◌<◌}
+use Prim.Native.Nat.{ℕ, ◌+◌, ◌%◌, ◌<◌}
 use native.Mathlib.Nat.{mod-lt}
 use native.Mathlib.Omega.{arith}
 use lib.ListN.{length, length-set}
@@ -37,7 +37,7 @@ pub shape_of-table-then-table-p : goal.shape_of-table-then-table-p
 shape_of-table-then-table-p c = simp length-set (ap length c.loop-i.invariant.1)
 
 pub returns-then-table-p : goal.returns-then-table-p
-returns-then-table-p c = 
+returns-then-table-p c =
     let s = (goal.at.returns-then-table-p c).Start in
     let l = c.loop-i in
     inr ((s.args.from + l.i) % length s.args.table.now, rw l.invariant.1 refl)

@@ -1,13 +1,8 @@
 -- The loop's invariant: i is at most as many as there are tries, and the table is as it was, since a number that is stored ends the loop. The
 -- measure is what is left of the tries.
 -- Assumes nothing.
-use mathlib.Core.Path.{◌≡◌, refl, ap}
-use mathlib.Core.Logic.{inl, inr}
-use Prim.Native.Nat.{ℕ, ◌+◌, ◌-◌, ◌%◌, ◌≤◌, ◌<◌}
-use native.Mathlib.Nat.{mod-lt}
-use native.Mathlib.Omega.{arith}
-use lib.ListN.{length, length-set}
-use borrow.Author.Rules.{rules}
+use mathlib.Core.Path.{◌≡◌}
+use Prim.Native.Nat.{◌-◌, ◌≤◌}
 use Rattle.points.proofs.lookup.store.Given as goal
 
 abbrev pub invariant-loop-i : goal.invariant-loop-i

@@ -1,13 +1,12 @@
 -- Either list has as many, since they are the same.
 -- Assumes nothing.
-use borrow.Author.Rules.{rules}
 use Rattle.preflight.proofs.check.between.Goals as goal
 
 pub counting-requires-else-count_at : goal.counting-requires-else-count_at
 counting-requires-else-count_at c = let f = c.requires in record {
-      lies = f.down;
-      each = rw c.sups_beside.ensures f.downs;
-    }
+  lies = f.down;
+  each = rw c.sups_beside.ensures f.downs;
+}
 
 pub returns-else-count_at : goal.returns-else-count_at
 returns-else-count_at c = cc

@@ -1,16 +1,10 @@
 use borrow.Author.Rules.{rules}
 use native.Mathlib.Omega.{arith}
-use mathlib.Core.Path.{◌≡◌, refl}
-use mathlib.Core.Bool.{Bool}
-use mathlib.Core.List.{List}
-use Prim.Native.Nat.{ℕ, ◌≤◌, ◌-◌}
-use lib.ListN.{length}
-use lib.Dec.{ltb}
-use Rattle.spec.specs.Lists.{range}
-use Rattle.ranked.specs.Words.{first_at, size_at, list_at, sups_word}
+use mathlib.Core.Path.{refl}
+use Rattle.ranked.specs.Words.{first_at, sups_word}
 use Rattle.ranked.specs.Reading.{Lies}
 use Rattle.ranked.proofs.Solids.{sups_lie}
-use Rattle.ranked.proofs.Turns.{none_read, some_read, Every, range_yes, range_no, range-end}
+use Rattle.ranked.proofs.Turns.{none_read, some_read, range_yes, range_no, range-end}
 use Rattle.preflight.specs.Check.{bound_in}
 use Rattle.preflight.proofs.check.bound_rank.Goals.{In-loop-e}
 use Rattle.preflight.proofs.check.bound_rank.Invariants.{p}
@@ -40,7 +34,7 @@ count_at-requires c = rw c.sups.ensures (lies (goal.at.count_at-requires c).In-l
 
 pub returns-then-count_at-eq0 : goal.returns-then-count_at-eq0
 unfolding bound_in
-returns-then-count_at-eq0 c = 
+returns-then-count_at-eq0 c =
     let a = c.args in
     range_no (p a.lists.now (first_at a.sh a.r)) 0 _ c.loop-e.e c.loop-e.e (omega arith) (omega (arith, c.loop-e-test.true, c.loop-e.invariant.1)) c.loop-e.invariant.2
     (none_read _ _ (rw c.sups.ensures at c.count_at.ensures) c.if-count_at-eq0.true)
@@ -51,7 +45,7 @@ loop-e-smaller c = search rules
 
 pub loop-e-preserved : goal.loop-e-preserved
 unfolding bound_in
-loop-e-preserved c = 
+loop-e-preserved c =
     let a = c.args in (
       search rules,
       c.loop-e.invariant.1,

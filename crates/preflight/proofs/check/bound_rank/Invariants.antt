@@ -1,8 +1,6 @@
 -- What is left of the rank is bound exactly if the whole is.
 -- Assumes nothing.
-use borrow.Author.Rules.{rules}
-use native.Mathlib.Omega.{arith}
-use mathlib.Core.Path.{◌≡◌, refl}
+use mathlib.Core.Path.{◌≡◌}
 use mathlib.Core.Bool.{Bool}
 use mathlib.Core.List.{List}
 use Prim.Native.Nat.{ℕ, ◌≤◌, ◌-◌}
@@ -10,10 +8,7 @@ use lib.ListN.{length}
 use lib.Dec.{ltb}
 use Rattle.spec.specs.Lists.{range}
 use Rattle.ranked.specs.Words.{first_at, size_at, list_at, sups_word}
-use Rattle.ranked.specs.Reading.{Lies}
-use Rattle.ranked.proofs.Solids.{sups_lie}
-use Rattle.ranked.proofs.Turns.{none_read, some_read, Every, range_yes, range_no, range-end}
-use Rattle.preflight.specs.Check.{bound_in}
+use Rattle.ranked.proofs.Turns.{Every}
 use Rattle.preflight.proofs.check.bound_rank.Given as goal
 
 abbrev pub p : List ℕ → ℕ → ℕ → Bool

@@ -2,14 +2,11 @@ use borrow.Author.Rules.{rules}
 use native.Mathlib.Omega.{arith}
 use mathlib.Core.Path.{◌≡◌, sym, ◌∙◌}
 use mathlib.Core.Bool.{Bool}
-use mathlib.Core.List.{List}
-use Prim.Native.Nat.{ℕ, ◌+◌, ◌*◌, ◌≤◌, ◌<◌, ◌-◌}
+use Prim.Native.Nat.{◌+◌, ◌*◌, ◌<◌}
 use lib.ListN.{length, get_or}
-use lib.Dec.{eqb}
-use Rattle.spec.specs.Lists.{holds}
 use Rattle.ranked.specs.Words.{list_at}
 use Rattle.ranked.specs.Reading.{Lies, holding}
-use Rattle.ranked.proofs.Turns.{entry_in, Met, met_yes, met_no, met_end}
+use Rattle.ranked.proofs.Turns.{entry_in, met_yes, met_no, met_end}
 use Rattle.preflight.proofs.check.counting.Goals.{After-entry_at-y, After-holds_at, In-loop-k}
 use Rattle.preflight.proofs.check.counting.Invariants.{p}
 use Rattle.preflight.proofs.check.counting.Goals as goal
@@ -36,9 +33,9 @@ loop-k-init c = (search rules, search rules, c.count_at-n.ensures, omega arith)
 pub entry_at-y-requires : goal.entry_at-y-requires
 unfolding holding
 entry_at-y-requires c = record {
-      lies = search rules;
-      k_in_bounds = search rules;
-    }
+  lies = search rules;
+  k_in_bounds = search rules;
+}
 
 pub list_word-requires : goal.list_word-requires
 unfolding holding
@@ -54,7 +51,7 @@ loop-k-smaller-then-holds_at c = search rules
 
 pub loop-k-preserved-then-holds_at : goal.loop-k-preserved-then-holds_at
 unfolding holding
-loop-k-preserved-then-holds_at c = 
+loop-k-preserved-then-holds_at c =
     let l = c.loop-k in
     (search rules, search rules, l.invariant.2, met_yes _ _ l.k l.m (within (goal.at.loop-k-preserved-then-holds_at c).In-loop-k) l.invariant.3 (said (goal.at.loop-k-preserved-then-holds_at c).After-holds_at _ c.if-holds_at.true))
 
@@ -64,7 +61,7 @@ loop-k-smaller c = search rules
 
 pub loop-k-preserved : goal.loop-k-preserved
 unfolding holding
-loop-k-preserved c = 
+loop-k-preserved c =
     let l = c.loop-k in
     (search rules, search rules, l.invariant.2, met_no _ _ l.k l.m (within (goal.at.loop-k-preserved c).In-loop-k) l.invariant.3 (said (goal.at.loop-k-preserved c).After-holds_at _ c.if-holds_at.false))
 

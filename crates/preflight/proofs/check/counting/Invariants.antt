@@ -1,17 +1,14 @@
 -- What was met and what is left to be met are all there are.
 -- Assumes nothing.
-use borrow.Author.Rules.{rules}
-use native.Mathlib.Omega.{arith}
-use mathlib.Core.Path.{◌≡◌, sym, ◌∙◌}
+use mathlib.Core.Path.{◌≡◌}
 use mathlib.Core.Bool.{Bool}
 use mathlib.Core.List.{List}
-use Prim.Native.Nat.{ℕ, ◌+◌, ◌*◌, ◌≤◌, ◌<◌, ◌-◌}
-use lib.ListN.{length, get_or}
+use Prim.Native.Nat.{ℕ, ◌+◌, ◌*◌, ◌≤◌, ◌-◌}
+use lib.ListN.{length}
 use lib.Dec.{eqb}
 use Rattle.spec.specs.Lists.{holds}
 use Rattle.ranked.specs.Words.{list_at}
-use Rattle.ranked.specs.Reading.{Lies, holding}
-use Rattle.ranked.proofs.Turns.{entry_in, Met, met_yes, met_no, met_end}
+use Rattle.ranked.proofs.Turns.{Met}
 use Rattle.preflight.proofs.check.counting.Given as goal
 
 abbrev pub p : List ℕ → ℕ → ℕ → ℕ → Bool

@@ -1,17 +1,15 @@
 use borrow.Author.Rules.{rules}
-use borrow.Author.Tests.{not-true, not-false}
 use native.Mathlib.Omega.{arith}
 use native.Mathlib.Numerals.{add-one}
 use mathlib.Core.Path.{◌≡◌, refl, sym, ◌∙◌, ap}
-use mathlib.Core.Bool.{Bool}
 use mathlib.Core.List.{List}
-use Prim.Native.Nat.{ℕ, suc, ◌+◌, ◌*◌, ◌≤◌, ◌<◌, ◌-◌}
+use Prim.Native.Nat.{ℕ, suc, ◌+◌, ◌*◌, ◌≤◌, ◌<◌}
 use lib.ListN.{length}
 use Rattle.spec.specs.Lists.{In, every}
 use Rattle.ranked.specs.declared.Shape.{Shape}
 use Rattle.ranked.specs.Words.{first_at, size_at, list_at, Held, subs_word, sups_word}
 use Rattle.ranked.specs.Reading.{Lies, Fork}
-use Rattle.ranked.proofs.Turns.{entry_in, Every, every_yes, every_no, every-end}
+use Rattle.ranked.proofs.Turns.{entry_in, every_yes, every_no, every-end}
 use Rattle.ranked.proofs.Agree.{every_same}
 use Rattle.ranked.proofs.Solids.{subs_lie}
 use Rattle.ranked.proofs.Forks.{sub_read, middle, fork}
@@ -118,9 +116,9 @@ loop-k-init c = (search rules, c.count_at-n.ensures, refl)
 
 pub entry_at-f-requires : goal.entry_at-f-requires
 entry_at-f-requires c = record {
-      lies = lies (goal.at.entry_at-f-requires c).After-subs-i;
-      k_in_bounds = omega (arith, c.loop-k-test.true, c.loop-k.invariant.1);
-    }
+  lies = lies (goal.at.entry_at-f-requires c).After-subs-i;
+  k_in_bounds = omega (arith, c.loop-k-test.true, c.loop-k.invariant.1);
+}
 
 pub list_word-requires : goal.list_word-requires
 list_word-requires c = omega (arith, (call c).0)
@@ -131,18 +129,18 @@ diamond_under-requires c =
     rw c.list_word.ensures (record { lies = both.0; by_index = both.1 })
 
 pub returns-then-not-diamond_under : goal.returns-then-not-diamond_under
-returns-then-not-diamond_under c = 
+returns-then-not-diamond_under c =
     every_no _ 0 _ c.loop-k.k (omega (arith, c.loop-k-test.true, c.loop-k.invariant.1)) c.loop-k.invariant.2
     (rw (c.list_word.ensures, c.entry_at-f.ensures) at (sym c.diamond_under.ensures ∙ c.if-not-diamond_under.true))
     ∙ all-judged (goal.at.returns-then-not-diamond_under c).After-count_at-n
 
 pub loop-k-preserved : goal.loop-k-preserved
 loop-k-preserved c = (
-      search rules,
-      c.loop-k.invariant.1,
-      every_yes _ 0 _ c.loop-k.k (omega (arith, c.loop-k-test.true, c.loop-k.invariant.1)) c.loop-k.invariant.2
-          (rw (c.list_word.ensures, c.entry_at-f.ensures) at (sym c.diamond_under.ensures ∙ c.if-not-diamond_under.false)),
-    )
+  search rules,
+  c.loop-k.invariant.1,
+  every_yes _ 0 _ c.loop-k.k (omega (arith, c.loop-k-test.true, c.loop-k.invariant.1)) c.loop-k.invariant.2
+      (rw (c.list_word.ensures, c.entry_at-f.ensures) at (sym c.diamond_under.ensures ∙ c.if-not-diamond_under.false)),
+)
 
 pub returns : goal.returns
 returns c = every-end _ _ c.loop-k.k (omega (arith, c.loop-k-test.false, c.loop-k.invariant.1)) c.loop-k.invariant.2 ∙ all-judged (goal.at.returns c).After-count_at-n

@@ -1,23 +1,13 @@
 -- What is left of g's subs passes exactly if all do.
 -- Assumes nothing.
-use borrow.Author.Rules.{rules}
-use borrow.Author.Tests.{not-true, not-false}
-use native.Mathlib.Omega.{arith}
-use native.Mathlib.Numerals.{add-one}
-use mathlib.Core.Path.{◌≡◌, refl, sym, ◌∙◌, ap}
+use mathlib.Core.Path.{◌≡◌}
 use mathlib.Core.Bool.{Bool}
 use mathlib.Core.List.{List}
-use Prim.Native.Nat.{ℕ, suc, ◌+◌, ◌*◌, ◌≤◌, ◌<◌, ◌-◌}
+use Prim.Native.Nat.{ℕ, ◌+◌, ◌*◌, ◌≤◌, ◌-◌}
 use lib.ListN.{length}
-use Rattle.spec.specs.Lists.{In, every}
-use Rattle.ranked.specs.declared.Shape.{Shape}
-use Rattle.ranked.specs.Words.{first_at, size_at, list_at, Held, subs_word, sups_word}
-use Rattle.ranked.specs.Reading.{Lies, Fork}
-use Rattle.ranked.proofs.Turns.{entry_in, Every, every_yes, every_no, every-end}
-use Rattle.ranked.proofs.Agree.{every_same}
-use Rattle.ranked.proofs.Solids.{subs_lie}
-use Rattle.ranked.proofs.Forks.{sub_read, middle, fork}
-use Rattle.preflight.specs.Check.{two_under, two_at}
+use Rattle.ranked.specs.Words.{list_at}
+use Rattle.ranked.proofs.Turns.{Every}
+use Rattle.preflight.specs.Check.{two_under}
 use Rattle.preflight.proofs.check.diamond_at.Given as goal
 
 abbrev pub p : List ℕ → ℕ → ℕ → ℕ → Bool

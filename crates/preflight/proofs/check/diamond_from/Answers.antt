@@ -1,15 +1,11 @@
 use borrow.Author.Rules.{rules}
-use borrow.Author.Tests.{not-true, not-false}
 use native.Mathlib.Omega.{arith}
 use mathlib.Core.Path.{◌≡◌, refl, sym, ◌∙◌}
 use mathlib.Core.Bool.{Bool}
 use mathlib.Core.List.{List}
 use Prim.Native.Nat.{ℕ, suc, ◌+◌, ◌≤◌, ◌-◌}
-use Rattle.spec.specs.Lists.{range}
-use Rattle.ranked.specs.declared.Shape.{Shape}
-use Rattle.ranked.specs.Words.{first_at, size_at}
 use Rattle.ranked.proofs.Turns.{Every, range_yes, range_no, range-end}
-use Rattle.preflight.specs.Check.{two_rank, two_from}
+use Rattle.preflight.specs.Check.{two_from}
 use Rattle.preflight.proofs.check.diamond_from.Invariants.{p}
 use Rattle.preflight.proofs.check.diamond_from.Goals as goal
 
@@ -27,7 +23,7 @@ diamond_rank-requires c = (c.requires.0, omega (arith, c.loop-r-test.true))
 
 pub returns-then-not-diamond_rank : goal.returns-then-not-diamond_rank
 unfolding two_from
-returns-then-not-diamond_rank c = 
+returns-then-not-diamond_rank c =
     let more = c.loop-r-test.true in let after = c.loop-r.invariant.0 in
     range_no (p c.args.sh c.args.lists.now) (suc c.args.from) _ (c.loop-r.r - c.args.from) (suc c.loop-r.r) (omega arith) (omega arith) c.loop-r.invariant.2
     (sym c.diamond_rank.ensures ∙ c.if-not-diamond_rank.true)
@@ -38,7 +34,7 @@ loop-r-smaller c = search rules
 
 pub loop-r-preserved : goal.loop-r-preserved
 unfolding two_from
-loop-r-preserved c = 
+loop-r-preserved c =
     let more = c.loop-r-test.true in let after = c.loop-r.invariant.0 in (
       omega arith,
       omega arith,
@@ -49,6 +45,6 @@ loop-r-preserved c =
 
 pub returns : goal.returns
 unfolding two_from
-returns c = 
+returns c =
     let after = c.loop-r.invariant.0 in
     range-end (p c.args.sh c.args.lists.now) (suc c.args.from) _ (c.loop-r.r - c.args.from) (omega (arith, c.loop-r-test.false)) c.loop-r.invariant.2

@@ -1,17 +1,13 @@
 -- What is left of the ranks passes exactly if all do.
 -- Assumes nothing.
-use borrow.Author.Rules.{rules}
-use borrow.Author.Tests.{not-true, not-false}
-use native.Mathlib.Omega.{arith}
-use mathlib.Core.Path.{◌≡◌, refl, sym, ◌∙◌}
 use mathlib.Core.Bool.{Bool}
 use mathlib.Core.List.{List}
-use Prim.Native.Nat.{ℕ, suc, ◌+◌, ◌≤◌, ◌-◌}
+use Prim.Native.Nat.{ℕ, suc, ◌≤◌, ◌-◌}
 use Rattle.spec.specs.Lists.{range}
 use Rattle.ranked.specs.declared.Shape.{Shape}
 use Rattle.ranked.specs.Words.{first_at, size_at}
-use Rattle.ranked.proofs.Turns.{Every, range_yes, range_no, range-end}
-use Rattle.preflight.specs.Check.{two_rank, two_from}
+use Rattle.ranked.proofs.Turns.{Every}
+use Rattle.preflight.specs.Check.{two_rank}
 use Rattle.preflight.proofs.check.diamond_from.Given as goal
 
 abbrev pub p : Shape → List ℕ → ℕ → Bool

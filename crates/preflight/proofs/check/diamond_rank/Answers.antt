@@ -1,15 +1,10 @@
 use borrow.Author.Rules.{rules}
-use borrow.Author.Tests.{not-true, not-false}
 use native.Mathlib.Omega.{arith}
 use mathlib.Core.Path.{◌≡◌, refl, sym, ◌∙◌, ap}
-use mathlib.Core.Bool.{Bool}
-use mathlib.Core.List.{List}
-use Prim.Native.Nat.{ℕ, suc, ◌+◌, ◌≤◌, ◌-◌}
-use Rattle.spec.specs.Lists.{range}
-use Rattle.ranked.specs.declared.Shape.{Shape}
-use Rattle.ranked.specs.Words.{first_at, size_at}
-use Rattle.ranked.proofs.Turns.{Every, range_yes, range_no, range-end}
-use Rattle.preflight.specs.Check.{two_at, two_rank}
+use Prim.Native.Nat.{ℕ, suc, ◌+◌}
+use Rattle.ranked.specs.Words.{size_at}
+use Rattle.ranked.proofs.Turns.{range_yes, range_no, range-end}
+use Rattle.preflight.specs.Check.{two_rank}
 use Rattle.preflight.proofs.check.diamond_rank.Invariants.{p}
 use Rattle.preflight.proofs.check.diamond_rank.Goals as goal
 
@@ -35,7 +30,7 @@ diamond_at-requires c = (c.requires.0, c.requires.1, omega (arith, c.loop-g-test
 
 pub returns-then-not-diamond_at : goal.returns-then-not-diamond_at
 unfolding two_rank
-returns-then-not-diamond_at c = 
+returns-then-not-diamond_at c =
     let a = c.args in
     range_no (p a.sh a.lists.now a.r) 0 _ c.loop-g.g c.loop-g.g (omega arith) (omega (arith, c.loop-g-test.true, c.loop-g.invariant.1)) c.loop-g.invariant.2
     (sym c.diamond_at.ensures ∙ c.if-not-diamond_at.true)
@@ -46,7 +41,7 @@ loop-g-smaller c = search rules
 
 pub loop-g-preserved : goal.loop-g-preserved
 unfolding two_rank
-loop-g-preserved c = 
+loop-g-preserved c =
     let a = c.args in (
       search rules,
       c.loop-g.invariant.1,

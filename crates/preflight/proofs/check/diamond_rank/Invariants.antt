@@ -1,17 +1,14 @@
 -- What is left of the rank passes exactly if all of it does.
 -- Assumes nothing.
-use borrow.Author.Rules.{rules}
-use borrow.Author.Tests.{not-true, not-false}
-use native.Mathlib.Omega.{arith}
-use mathlib.Core.Path.{◌≡◌, refl, sym, ◌∙◌, ap}
+use mathlib.Core.Path.{◌≡◌}
 use mathlib.Core.Bool.{Bool}
 use mathlib.Core.List.{List}
-use Prim.Native.Nat.{ℕ, suc, ◌+◌, ◌≤◌, ◌-◌}
+use Prim.Native.Nat.{ℕ, suc, ◌≤◌, ◌-◌}
 use Rattle.spec.specs.Lists.{range}
 use Rattle.ranked.specs.declared.Shape.{Shape}
 use Rattle.ranked.specs.Words.{first_at, size_at}
-use Rattle.ranked.proofs.Turns.{Every, range_yes, range_no, range-end}
-use Rattle.preflight.specs.Check.{two_at, two_rank}
+use Rattle.ranked.proofs.Turns.{Every}
+use Rattle.preflight.specs.Check.{two_at}
 use Rattle.preflight.proofs.check.diamond_rank.Given as goal
 
 abbrev pub p : Shape → List ℕ → ℕ → ℕ → Bool

@@ -1,15 +1,11 @@
 use borrow.Author.Rules.{rules}
 use borrow.Author.Tests.{eq-eqb, ne_eqb}
 use native.Mathlib.Omega.{arith}
-use mathlib.Core.Path.{◌≡◌, refl, sym, ◌∙◌}
-use mathlib.Core.Bool.{Bool}
-use mathlib.Core.List.{List}
-use Prim.Native.Nat.{ℕ, ◌+◌, ◌*◌, ◌≤◌, ◌-◌}
-use lib.ListN.{length}
-use lib.Dec.{eqb}
+use mathlib.Core.Path.{refl, sym, ◌∙◌}
+use Prim.Native.Nat.{◌+◌, ◌*◌}
 use Rattle.ranked.specs.Words.{list_at}
-use Rattle.ranked.specs.Reading.{Fork, holding}
-use Rattle.ranked.proofs.Turns.{entry_in, Every, every_yes, every_no, every-end}
+use Rattle.ranked.specs.Reading.{Fork}
+use Rattle.ranked.proofs.Turns.{entry_in, every_yes, every_no, every-end}
 use Rattle.preflight.specs.Check.{two_under}
 use Rattle.preflight.proofs.check.diamond_under.Goals.{After-entry_at-h}
 use Rattle.preflight.proofs.check.diamond_under.Invariants.{p}
@@ -29,9 +25,9 @@ loop-k-init c = (search rules, c.count_at-n.ensures, refl)
 pub entry_at-h-requires : goal.entry_at-h-requires
 unfolding two_under
 entry_at-h-requires c = record {
-      lies = search rules;
-      k_in_bounds = search rules;
-    }
+  lies = search rules;
+  k_in_bounds = search rules;
+}
 
 pub list_word-requires : goal.list_word-requires
 unfolding two_under
@@ -43,7 +39,7 @@ between-requires c = rw c.list_word.ensures (fork (goal.at.between-requires c).A
 
 pub returns-then-between-ne2 : goal.returns-then-between-ne2
 unfolding two_under
-returns-then-between-ne2 c = 
+returns-then-between-ne2 c =
     let a = c.args in
     every_no (p a.lists.now a.i a.base) 0 _ c.loop-k.k (omega (arith, c.loop-k-test.true, c.loop-k.invariant.1)) c.loop-k.invariant.2
     (ne_eqb _ _ (λ q. c.if-between-ne2.true (c.between.ensures ∙ rw c.entry_at-h.ensures q)))
@@ -54,7 +50,7 @@ loop-k-smaller c = search rules
 
 pub loop-k-preserved : goal.loop-k-preserved
 unfolding two_under
-loop-k-preserved c = 
+loop-k-preserved c =
     let a = c.args in (
       search rules,
       c.loop-k.invariant.1,

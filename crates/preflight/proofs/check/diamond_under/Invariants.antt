@@ -1,18 +1,14 @@
 -- What is left of the list passes exactly if the whole does.
 -- Assumes nothing.
-use borrow.Author.Rules.{rules}
-use borrow.Author.Tests.{eq-eqb, ne_eqb}
-use native.Mathlib.Omega.{arith}
-use mathlib.Core.Path.{◌≡◌, refl, sym, ◌∙◌}
+use mathlib.Core.Path.{◌≡◌}
 use mathlib.Core.Bool.{Bool}
 use mathlib.Core.List.{List}
-use Prim.Native.Nat.{ℕ, ◌+◌, ◌*◌, ◌≤◌, ◌-◌}
+use Prim.Native.Nat.{ℕ, ◌≤◌, ◌-◌}
 use lib.ListN.{length}
 use lib.Dec.{eqb}
 use Rattle.ranked.specs.Words.{list_at}
-use Rattle.ranked.specs.Reading.{Fork, holding}
-use Rattle.ranked.proofs.Turns.{entry_in, Every, every_yes, every_no, every-end}
-use Rattle.preflight.specs.Check.{two_under}
+use Rattle.ranked.specs.Reading.{holding}
+use Rattle.ranked.proofs.Turns.{Every}
 use Rattle.preflight.proofs.check.diamond_under.Given as goal
 
 abbrev pub p : List ℕ → ℕ → ℕ → ℕ → Bool

@@ -1,15 +1,8 @@
 use borrow.Author.Rules.{rules}
-use borrow.Author.Tests.{not-true, not-false}
 use native.Mathlib.Omega.{arith}
 use mathlib.Core.Path.{refl, sym, ◌∙◌}
-use mathlib.Core.Bool.{Bool}
-use mathlib.Core.List.{List}
-use Prim.Native.Nat.{ℕ, ◌+◌, ◌≤◌, ◌-◌}
-use Rattle.spec.specs.Lists.{range}
-use Rattle.ranked.specs.declared.Shape.{Shape}
-use Rattle.ranked.specs.Words.{first_at, size_at}
-use Rattle.ranked.proofs.Turns.{Every, range_yes, range_no, range-end}
-use Rattle.preflight.specs.Check.{bound_in}
+use Prim.Native.Nat.{◌+◌}
+use Rattle.ranked.proofs.Turns.{range_yes, range_no, range-end}
 use Rattle.preflight.proofs.check.Refusals.{bound_is}
 use Rattle.preflight.proofs.check.is_bound.Invariants.{p}
 use Rattle.preflight.proofs.check.is_bound.Goals as goal
@@ -21,14 +14,14 @@ pub bound_rank-requires : goal.bound_rank-requires
 bound_rank-requires c = (c.requires, omega (arith, c.loop-k-test.true))
 
 pub returns-then-not-bound_rank : goal.returns-then-not-bound_rank
-returns-then-not-bound_rank c = 
+returns-then-not-bound_rank c =
     let more = c.loop-k-test.true in
     range_no (p c.args.sh c.args.lists.now) 1 _ c.loop-k.k (c.loop-k.k + 1) (omega arith) (omega arith) c.loop-k.invariant.1
     (sym c.bound_rank.ensures ∙ c.if-not-bound_rank.true)
     ∙ sym (bound_is c.args.sh c.args.lists.now c.requires)
 
 pub loop-k-preserved : goal.loop-k-preserved
-loop-k-preserved c = 
+loop-k-preserved c =
     let more = c.loop-k-test.true in (
       omega arith,
       range_yes (p c.args.sh c.args.lists.now) 1 _ c.loop-k.k (c.loop-k.k + 1) (omega arith) (omega arith) c.loop-k.invariant.1
@@ -36,6 +29,6 @@ loop-k-preserved c =
     )
 
 pub returns : goal.returns
-returns c = 
+returns c =
     range-end (p c.args.sh c.args.lists.now) 1 _ c.loop-k.k (omega (arith, c.loop-k-test.false)) c.loop-k.invariant.1
     ∙ sym (bound_is c.args.sh c.args.lists.now c.requires)

@@ -1,7 +1,5 @@
 -- The ranks at the top are judged first, as a part of all, and then all are.
 -- Assumes nothing.
-use borrow.Author.Rules.{rules}
-use borrow.Author.Tests.{not-true}
 use native.Mathlib.Omega.{arith}
 use mathlib.Core.Path.{sym, ◌∙◌}
 use Rattle.preflight.proofs.check.Refusals.{diamond-whole, diamond_not}

@@ -1,5 +1,4 @@
 -- `ranked::Shape::coordinates` meets its contract. Assumes nothing.
-use borrow.Author.Rules.{rules}
 use native.Mathlib.Omega.{arith}
 use Rattle.ranked.proofs.Shape.coordinates.Goals as goal
 

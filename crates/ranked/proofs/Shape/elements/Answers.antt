@@ -1,5 +1,4 @@
 -- `ranked::Shape::elements` meets its contract. Assumes nothing.
-use borrow.Author.Rules.{rules}
 use Rattle.ranked.proofs.Numbered.{total_is}
 use Rattle.ranked.proofs.Shape.elements.Reads as reads
 use Rattle.ranked.proofs.Shape.elements.Lts as lts

@@ -1,7 +1,6 @@
 -- `ranked::Shape::lists` meets its contract. Assumes nothing.
 use mathlib.Core.Path.{sym}
 use lib.Seq.{length-take-le}
-use borrow.Author.Rules.{rules}
 use Rattle.ranked.proofs.Shape.lists.Goals as goal
 
 pub slice_bounds-result-end : goal.slice_bounds-result-end

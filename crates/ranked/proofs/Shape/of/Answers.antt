@@ -4,12 +4,12 @@ use Rattle.ranked.proofs.Shape.of.Goals as goal
 
 pub starts_of-first-requires : goal.starts_of-first-requires
 starts_of-first-requires c = record {
-      rank_le_max_rank = c.requires.rank_le_max_rank.0;
-      counts_fit = c.requires.counts_fit;
-    }
+  rank_le_max_rank = c.requires.rank_le_max_rank.0;
+  counts_fit = c.requires.counts_fit;
+}
 
 pub sized-requires : goal.sized-requires
-sized-requires c = 
+sized-requires c =
     let a = c.args in
     let both = starts_fit a.rank a.dimension a.counts c.starts_of-first.result a.entries c.requires.rank_le_max_rank.0 c.requires.rank_le_max_rank.1 c.requires.counts_fit c.starts_of-first.ensures in
     record {
@@ -18,6 +18,6 @@ sized-requires c =
     }
 
 pub returns : goal.returns
-returns c = 
+returns c =
     let a = c.args in
     counted a.rank a.dimension a.counts c.starts_of-first.result a.entries c.requires.rank_le_max_rank.0 c.requires.rank_le_max_rank.1 c.requires.counts_fit c.starts_of-first.ensures c.sized.result c.sized.ensures

@@ -1,6 +1,5 @@
 -- `ranked::Shape::size` meets its contract. Assumes nothing.
 use native.Mathlib.Omega.{arith}
-use borrow.Author.Rules.{rules}
 use Rattle.ranked.proofs.Numbered.{next_start, size_is}
 use Rattle.ranked.proofs.Shape.size.Reads as reads
 use Rattle.ranked.proofs.Shape.size.Lts as lts

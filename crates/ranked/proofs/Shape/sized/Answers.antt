@@ -1,5 +1,4 @@
 -- `ranked::Shape::sized` meets its contract. Assumes nothing.
-use borrow.Author.Rules.{rules}
 use native.Mathlib.Omega.{arith}
 use Rattle.ranked.specs.Layout.{low_of, sized}
 use Rattle.ranked.proofs.Low.{entries_small}

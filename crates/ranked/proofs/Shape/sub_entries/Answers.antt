@@ -1,6 +1,5 @@
 -- `ranked::Shape::sub_entries` meets its contract. Assumes nothing.
 use mathlib.Core.Path.{◌≡◌, sym}
-use borrow.Author.Rules.{rules}
 use native.Mathlib.Omega.{arith}
 use Prim.Native.Nat.{◌+◌, ◌-◌, ◌^◌, ◌<◌}
 use Rattle.ranked.specs.Words.{size_at}

@@ -1,6 +1,5 @@
 -- The word after the start is the length.
 -- Assumes nothing.
-use borrow.Author.Rules.{rules}
 use mathlib.Core.Path.{sym, ◌∙◌}
 use Rattle.ranked.proofs.Solids.{count_is}
 use Rattle.ranked.proofs.lists.count_at.Goals as goal

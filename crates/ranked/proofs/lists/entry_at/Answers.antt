@@ -1,6 +1,5 @@
 -- Entry k stands k words past the start.
 -- Assumes nothing.
-use borrow.Author.Rules.{rules}
 use native.Mathlib.Omega.{arith}
 use mathlib.Core.Path.{sym, ◌∙◌}
 use Rattle.ranked.proofs.Solids.{list_in, entry_is}

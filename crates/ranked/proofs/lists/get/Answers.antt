@@ -1,6 +1,5 @@
 -- The element that is read fits 32 bits, and so 64.
 -- Assumes nothing.
-use borrow.Author.Rules.{rules}
 use native.Mathlib.Omega.{arith}
 use Rattle.ranked.proofs.lists.get.Goals as goal
 

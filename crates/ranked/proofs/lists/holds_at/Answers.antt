@@ -1,6 +1,5 @@
 -- The list holds x exactly if x has a place in it.
 -- Assumes nothing.
-use borrow.Author.Rules.{rules}
 use Rattle.ranked.proofs.Turns.{place-holds}
 use Rattle.ranked.proofs.lists.holds_at.Goals as goal
 

@@ -1,12 +1,10 @@
 -- What was passed, and the place in what is left, are the place in the whole.
 -- Assumes nothing.
-use borrow.Author.Rules.{rules}
-use native.Mathlib.Omega.{arith}
-use mathlib.Core.Path.{◌≡◌, sym, ◌∙◌}
+use mathlib.Core.Path.{◌≡◌}
 use Prim.Native.Nat.{◌≤◌, ◌-◌}
 use lib.ListN.{length}
 use Rattle.ranked.specs.Words.{list_at}
-use Rattle.ranked.proofs.Turns.{PlaceFrom, place_yes, place_no, place_end}
+use Rattle.ranked.proofs.Turns.{PlaceFrom}
 use Rattle.ranked.proofs.lists.place_at.Given as goal
 
 abbrev pub invariant-loop-k : goal.invariant-loop-k

@@ -6,7 +6,7 @@ use Rattle.search.proofs.both_calls.Both.{both}
 use Rattle.search.proofs.both_calls.types_and_rotations.Goals as goal
 
 pub returns : goal.returns
-returns c = 
+returns c =
     let t = c.element_types-given.ensures in
     let m = c.rotations-rotations.ensures in
     record {

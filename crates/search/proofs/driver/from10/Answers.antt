@@ -1,6 +1,5 @@
 -- The judgement behind refusal 10, the exchange, and what follows give the rest of the call.
 -- Assumes nothing.
-use borrow.Author.Rules.{rules}
 use mathlib.Core.Path.{◌≡◌}
 use Prim.Native.Nat.{◌-◌, ◌≤◌, ◌<◌}
 use Rattle.spec.specs.Lists.{range}
@@ -29,19 +28,19 @@ lists-requires c = c.requires.bench.words_in
 
 pub first_far-far-requires : goal.first_far-far-requires
 first_far-far-requires c = record {
-      held = rw c.lists.ensures c.requires.bench.held;
-      le_rank = c.requires.le_rank;
-      sh_in_bounds = coordinates_in c.requires.bench;
-    }
+  held = rw c.lists.ensures c.requires.bench.held;
+  le_rank = c.requires.le_rank;
+  sh_in_bounds = coordinates_in c.requires.bench;
+}
 
 pub exchange-requires : goal.exchange-requires
 exchange-requires c = record {
-      laid = laid c.requires.bench;
-      le_rank = found (goal.at.exchange-requires c).In-Facet;
-    }
+  laid = laid c.requires.bench;
+  le_rank = found (goal.at.exchange-requires c).In-Facet;
+}
 
 pub from15-requires : goal.from15-requires
-from15-requires c = 
+from15-requires c =
     let a = c.args in
     let far = far-is (goal.at.from15-requires c).After-first_far-far in
     record {
@@ -51,11 +50,11 @@ from15-requires c =
     }
 
 pub returns-in-Nothing : goal.returns-in-Nothing
-returns-in-Nothing c = 
+returns-in-Nothing c =
     let a = c.args in
     centred a.sh a.words.now a.floats.now c.requires.le_rank _ (far-is (goal.at.returns-in-Nothing c).After-first_far-far) _ _ c.in-Nothing.is
 
 pub returns-in-Facet : goal.returns-in-Facet
-returns-in-Facet c = 
+returns-in-Facet c =
     let a = c.args in
     far_off a.sh a.words.now a.floats.now c.requires.le_rank _ (far-is (goal.at.returns-in-Facet c).After-first_far-far) _ c.in-Facet.is c.requires.bench _ c.exchange.ensures.words_after _ _ _ c.from15.ensures

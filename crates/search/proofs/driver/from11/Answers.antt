@@ -1,7 +1,5 @@
 -- The judgement behind refusal 11, and then the members and their marks, give the rest of the call.
 -- Assumes nothing.
-use borrow.Author.Rules.{rules}
-use borrow.Author.Tests.{not-true, not-false}
 use mathlib.Core.Path.{◌≡◌, ap, ◌∙◌}
 use mathlib.Core.List.{List}
 use Prim.Native.Nat.{ℕ}
@@ -37,31 +35,31 @@ lists-requires c = c.requires.bench.words_in
 
 pub first_inverse-inverse-requires : goal.first_inverse-inverse-requires
 first_inverse-inverse-requires c = rw c.lists.ensures (record {
-      held = c.requires.bench.held;
-      lists_value = c.requires.bench.diamonds;
-      le_rank = c.requires.le_rank.0;
-      sh_in_bounds = coordinates_in c.requires.bench;
-    })
+  held = c.requires.bench.held;
+  lists_value = c.requires.bench.diamonds;
+  le_rank = c.requires.le_rank.0;
+  sh_in_bounds = coordinates_in c.requires.bench;
+})
 
 pub is_regular-requires : goal.is_regular-requires
 is_regular-requires c = c.requires.bench.held.wide
 
 pub returns-then-not-is_regular : goal.returns-then-not-is_regular
-returns-then-not-is_regular c = 
+returns-then-not-is_regular c =
     let a = c.args in
     flat _ (solid_in a.sh a.words.now a.floats.now) _ _ _ (inverse-is (goal.at.returns-then-not-is_regular c).After-is_regular) _ c.is_regular.ensures a.rotations (old (goal.at.returns-then-not-is_regular c).Start) c.if-not-is_regular.true
 
 pub write_fingerprints-requires : goal.write_fingerprints-requires
 write_fingerprints-requires c = let b = c.requires.bench in record {
-      held = b.held;
-      rank_in_bounds = fingerprints_in b;
-    }
+  held = b.held;
+  rank_in_bounds = fingerprints_in b;
+}
 
 pub list_members-members-requires : goal.list_members-members-requires
 list_members-members-requires c = searching _ _ _ c.write_fingerprints.auto.words c.write_fingerprints.ensures.words_unchanged c.requires.countable.0 c.requires.bench c.write_fingerprints.ensures.fingerprinted c.requires.le_rank.0 c.requires.parted
 
 pub mark_members-requires : goal.mark_members-requires
-mark_members-requires c = 
+mark_members-requires c =
     let a = c.args in record {
       marks_ready = marks_ready _ _ _ c.write_fingerprints.auto.words c.write_fingerprints.ensures.words_unchanged c.requires.countable.0 c.requires.bench c.write_fingerprints.ensures.fingerprinted c.requires.countable.1;
       le_rank = c.requires.le_rank;
@@ -69,7 +67,7 @@ mark_members-requires c =
     }
 
 pub returns : goal.returns
-returns c = 
+returns c =
     let a = c.args in
     not_flat _ (solid_in a.sh a.words.now a.floats.now) _ _ _ (inverse-is (goal.at.returns c).After-is_regular) _ c.is_regular.ensures a.rotations (old (goal.at.returns c).Start) c.if-not-is_regular.false _
     (all_listed _ _ _ c.write_fingerprints.auto.words c.write_fingerprints.ensures.words_unchanged c.requires.countable.0 _ a.f _ a.rotations (old (goal.at.returns c).Start) _ _ _ c.list_members-members.ensures

@@ -1,6 +1,5 @@
 -- The judgement behind refusal 15 and what follows it give the rest of the call.
 -- Assumes nothing.
-use borrow.Author.Rules.{rules}
 use Rattle.search.proofs.Steps.{typed_bench, typed_classes, typed_parted, unsettled, settled}
 use Rattle.search.proofs.driver.from15.Goals as goal
 
@@ -8,7 +7,7 @@ pub types_of-requires : goal.types_of-requires
 types_of-requires c = c.requires.bench
 
 pub from11-requires : goal.from11-requires
-from11-requires c = 
+from11-requires c =
     let e = c.types_of.ensures in
     record {
       bench = typed_bench _ _ _ _ _ _ e c.requires.bench;

@@ -1,6 +1,5 @@
 -- The judgement behind refusal 8 and what follows it give the rest of the call.
 -- Assumes nothing.
-use borrow.Author.Rules.{rules}
 use Rattle.search.proofs.Steps.{tall, not_full, is_full}
 use Rattle.search.proofs.driver.from8.Goals as goal
 

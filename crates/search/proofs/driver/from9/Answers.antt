@@ -1,6 +1,5 @@
 -- The judgement behind refusal 9 and what follows it give the rest of the call.
 -- Assumes nothing.
-use borrow.Author.Rules.{rules}
 use Rattle.search.proofs.Benched.{coordinates_in}
 use Rattle.search.proofs.Steps.{parted, doubled, not_doubled}
 use Rattle.search.proofs.driver.from9.Goals as goal
@@ -17,11 +16,11 @@ from10-requires c =
     }
 
 pub returns-then-no_double : goal.returns-then-no_double
-returns-then-no_double c = 
+returns-then-no_double c =
     let a = c.args in
     not_doubled a.sh a.words.now a.floats.now _ c.vertices.ensures _ c.no_double.ensures _ _ c.if-no_double.true _ c.from10.ensures
 
 pub returns : goal.returns
-returns c = 
+returns c =
     let a = c.args in
     doubled a.sh a.words.now a.floats.now _ c.vertices.ensures _ c.no_double.ensures _ _ c.if-no_double.false

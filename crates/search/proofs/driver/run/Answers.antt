@@ -1,6 +1,5 @@
 -- Preflight's refusals, 1 to 7, come first, and then what is after them.
 -- Assumes nothing.
-use borrow.Author.Rules.{rules}
 use Rattle.search.proofs.Steps.{unready-call, benched, passed_call}
 use Rattle.search.proofs.driver.run.Goals as goal
 

@@ -1,6 +1,5 @@
 -- The first flag is found, then its columns, and then their inverse.
 -- Assumes nothing.
-use borrow.Author.Rules.{rules}
 use native.Mathlib.Omega.{arith}
 use mathlib.Core.Path.{ap, ◌∙◌}
 use Rattle.spec.specs.Matrix.{inverse}
@@ -19,18 +18,18 @@ is-flag c = rw c.first-first.ensures (every_first _ c.requires.held.sound c.requ
 
 pub vertex_sequence-requires : goal.vertex_sequence-requires
 vertex_sequence-requires c = record {
-      held = c.requires.held;
-      lists_value = c.requires.lists_value;
-      flag = is-flag c;
-      le_rank = omega (arith, c.requires.le_rank);
-      sh_in_bounds = c.requires.sh_in_bounds;
-    }
+  held = c.requires.held;
+  lists_value = c.requires.lists_value;
+  flag = is-flag c;
+  le_rank = omega (arith, c.requires.le_rank);
+  sh_in_bounds = c.requires.sh_in_bounds;
+}
 
 pub inverse-requires : goal.inverse-requires
 inverse-requires c = c.requires.held.wide
 
 pub returns : goal.returns
-returns c = 
+returns c =
     let a = c.args in
     let C = solid_on a.sh a.lists.now a.floats.now in
     c.inverse.ensures.0 ∙ ap inverse (c.vertex_sequence.ensures ∙ ap (flag_columns C) c.first-first.ensures)

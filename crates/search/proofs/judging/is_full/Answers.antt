@@ -1,6 +1,5 @@
 -- The test goes by the rank and the dimension.
 -- Assumes nothing.
-use borrow.Author.Rules.{rules}
 use borrow.Author.Tests.{le-leb, lt-leb}
 use Rattle.search.proofs.judging.is_full.Goals as goal
 

@@ -1,6 +1,5 @@
 -- The test goes by whether an inverse was found.
 -- Assumes nothing.
-use borrow.Author.Rules.{rules}
 use Rattle.matrix.specs.Reading.{if_regular}
 use Rattle.search.specs.Reading.{regular}
 use Rattle.search.proofs.judging.is_regular.Goals as goal

@@ -1,6 +1,5 @@
 -- No member has no mark; else the solid as read is there again, and the marks are written.
 -- Assumes nothing.
-use borrow.Author.Rules.{rules}
 use mathlib.Core.Path.{refl, sym}
 use lib.Seq.{length-take-le}
 use Rattle.spec.specs.Lists.{parts, written}
@@ -14,9 +13,9 @@ returns-then-n-eq0 c = rw c.if-n-eq0.true refl
 pub restore-requires : goal.restore-requires
 unfolding parts written
 restore-requires c = record {
-      marks_ready = c.requires.marks_ready;
-      le_rank = c.requires.le_rank;
-    }
+  marks_ready = c.requires.marks_ready;
+  le_rank = c.requires.le_rank;
+}
 
 pub slice_bounds-write_marks-end : goal.slice_bounds-write_marks-end
 unfolding parts written
@@ -29,9 +28,9 @@ slice_bounds-write_marks-end-2 c = sym (length-take-le c.args.n c.args.marks.now
 pub write_marks-requires : goal.write_marks-requires
 unfolding parts written
 write_marks-requires c = record {
-      marks_ready = c.restore.ensures.marks_ready_2;
-      sh_in_bounds = rw (length-take-le c.args.n c.args.marks.now c.requires.sh_in_bounds.1) c.requires.sh_in_bounds.0;
-    }
+  marks_ready = c.restore.ensures.marks_ready_2;
+  sh_in_bounds = rw (length-take-le c.args.n c.args.marks.now c.requires.sh_in_bounds.1) c.requires.sh_in_bounds.0;
+}
 
 pub returns : goal.returns
 unfolding parts written

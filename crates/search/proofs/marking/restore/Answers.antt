@@ -1,8 +1,5 @@
 -- Where facet 0 was searched from, or R = 2, there is nothing to do; else the facets go back, and the classes and the fingerprints are worked out.
 -- Assumes nothing.
-use borrow.Author.Rules.{rules}
-use borrow.Author.Tests.{eqb-true}
-use mathlib.Core.Logic.{⊎_elim}
 use Rattle.preflight.specs.Bench.{Bench}
 use Rattle.preflight.proofs.Benches.{laid}
 use Rattle.geometry.proofs.elements.Room.{roomy-floats}
@@ -27,15 +24,15 @@ returns-then-f-eq0 c =
 
 pub exchange-requires : goal.exchange-requires
 exchange-requires c = record {
-      laid = laid c.requires.marks_ready.bench;
-      le_rank = c.requires.le_rank;
-    }
+  laid = laid c.requires.marks_ready.bench;
+  le_rank = c.requires.le_rank;
+}
 
 pub lists-requires : goal.lists-requires
 lists-requires c = (back (goal.at.lists-requires c).After-exchange).words_in
 
 pub all_classes-requires : goal.all_classes-requires
-all_classes-requires c = 
+all_classes-requires c =
     let b = back (goal.at.all_classes-requires c).After-exchange in
     record {
       held = rw c.lists.ensures b.held;
@@ -44,9 +41,9 @@ all_classes-requires c =
 
 pub write_fingerprints-requires : goal.write_fingerprints-requires
 write_fingerprints-requires c = let b = back (goal.at.write_fingerprints-requires c).After-exchange in record {
-      held = b.held;
-      rank_in_bounds = fingerprints_in b;
-    }
+  held = b.held;
+  rank_in_bounds = fingerprints_in b;
+}
 
 pub returns : goal.returns
 returns c = let both = restored c.requires.marks_ready _ c.requires.le_rank _ c.exchange.ensures.words_after c.exchange.ensures.laid_2 _ _ (rw c.lists.ensures at c.all_classes.ensures) _ c.write_fingerprints.auto.words c.write_fingerprints.ensures.words_unchanged c.write_fingerprints.ensures.fingerprinted in

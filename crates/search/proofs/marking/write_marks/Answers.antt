@@ -1,6 +1,5 @@
 -- Whether the vertex sets are apart is told first, and then the marks are written.
 -- Assumes nothing.
-use borrow.Author.Rules.{rules}
 use Rattle.preflight.proofs.Benches.{elements_few}
 use Rattle.search.proofs.marking.write_marks.Goals as goal
 
@@ -11,7 +10,7 @@ pub lists-requires : goal.lists-requires
 lists-requires c = c.requires.marks_ready.bench.words_in
 
 pub mark_rows-requires : goal.mark_rows-requires
-mark_rows-requires c = 
+mark_rows-requires c =
     let m = c.requires.marks_ready in
     rw c.lists.ensures (record {
       markable = (record { held = m.bench.held; classes = m.classes; room = elements_few m.bench }, c.are_apart-apart.ensures);

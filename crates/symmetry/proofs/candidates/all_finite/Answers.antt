@@ -2,7 +2,6 @@ use borrow.Author.Rules.{rules}
 use native.Mathlib.Omega.{arith}
 use mathlib.Core.Path.{◌≡◌, refl, sym, ap, ◌∙◌}
 use mathlib.Core.List.{[]}
-use Prim.Native.Nat.{◌≤◌, ◌-◌}
 use lib.ListN.{length}
 use Rattle.spec.specs.Limits.{max_dimension}
 use Rattle.spec.specs.Lists.{every}
@@ -10,7 +9,7 @@ use Rattle.spec.specs.Float.{finite}
 use Rattle.spec.specs.Search.{all_finite}
 use Rattle.matrix.specs.Reading.{corner}
 use Rattle.matrix.proofs.Corner.{length-corner}
-use Rattle.ranked.proofs.Turns.{Every, every_yes, every_no, every-end}
+use Rattle.ranked.proofs.Turns.{every_yes, every_no, every-end}
 use Rattle.symmetry.proofs.candidates.Finite.{row-corner}
 use Rattle.symmetry.proofs.candidates.all_finite.Goals.{Start}
 use Rattle.symmetry.proofs.candidates.all_finite.Goals as goal
@@ -28,7 +27,7 @@ loop-i-smaller c = search rules
 
 pub loop-i-preserved : goal.loop-i-preserved
 unfolding all_finite
-loop-i-preserved c = 
+loop-i-preserved c =
     let l = c.loop-i in let h = c.loop-i-test.true in (
       omega (arith, h),
       every_yes (every finite) [] _ l.i (omega (arith, h, long (goal.at.loop-i-preserved c).Start)) l.invariant.1 (ap (every finite) (row-corner c.args.d c.args.m l.i h) ∙ sym c.row_finite.ensures ∙ c.if-row_finite.true),
@@ -36,7 +35,7 @@ loop-i-preserved c =
 
 pub returns-else-row_finite : goal.returns-else-row_finite
 unfolding all_finite
-returns-else-row_finite c = 
+returns-else-row_finite c =
     let l = c.loop-i in let h = c.loop-i-test.true in
     every_no (every finite) [] _ l.i (omega (arith, h, long (goal.at.returns-else-row_finite c).Start)) l.invariant.1 (ap (every finite) (row-corner c.args.d c.args.m l.i h) ∙ sym c.row_finite.ensures ∙ c.if-row_finite.false)
 

@@ -13,18 +13,18 @@ use Rattle.symmetry.proofs.candidates.candidate.Goals as goal
 
 pub vertex_sequence-requires : goal.vertex_sequence-requires
 vertex_sequence-requires c = record {
-      held = c.requires.held;
-      lists_value = c.requires.lists_value;
-      flag = c.requires.flag;
-      le_rank = c.requires.le_rank;
-      sh_in_bounds = c.requires.sh_in_bounds;
-    }
+  held = c.requires.held;
+  lists_value = c.requires.lists_value;
+  flag = c.requires.flag;
+  le_rank = c.requires.le_rank;
+  sh_in_bounds = c.requires.sh_in_bounds;
+}
 
 pub product-requires : goal.product-requires
 product-requires c = c.requires.held.wide
 
 pub returns : goal.returns
-returns c = 
+returns c =
     let a = c.args in
     let d = a.sh.dimension in
     let wide = c.requires.held.wide in

@@ -1,6 +1,5 @@
 -- What is not finite is not below infinity.
 -- Assumes nothing.
-use borrow.Author.Rules.{rules}
 use mathlib.Core.Path.{◌≡◌, refl}
 use mathlib.Core.Bool.{false}
 use lib.Ieee.{inf, binary64, of_bits, div}

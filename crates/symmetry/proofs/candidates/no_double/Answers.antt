@@ -1,11 +1,11 @@
 use borrow.Author.Rules.{rules}
 use native.Mathlib.Omega.{arith}
 use mathlib.Core.Path.{refl}
-use Prim.Native.Nat.{◌+◌, ◌*◌, ◌≤◌, ◌-◌}
+use Prim.Native.Nat.{◌+◌, ◌*◌, ◌≤◌}
 use lib.ListN.{length}
 use Rattle.spec.specs.Lists.{parts}
 use Rattle.points.proofs.Parts.{length-parts, part_end}
-use Rattle.symmetry.proofs.candidates.Doubles.{Apart, apart-end, start_in_lem, later_in, double_not, double_next}
+use Rattle.symmetry.proofs.candidates.Doubles.{apart-end, start_in_lem, later_in, double_not, double_next}
 use Rattle.symmetry.proofs.candidates.no_double.Goals.{After-loaded-q}
 use Rattle.symmetry.proofs.candidates.no_double.Goals as goal
 
@@ -35,7 +35,7 @@ pub slice_bounds-later-end : goal.slice_bounds-later-end
 slice_bounds-later-end c = omega (arith, start c)
 
 pub find-requires : goal.find-requires
-find-requires c = 
+find-requires c =
     let a = c.args in
     (c.requires.0, later_in a.n a.d c.loop-i.i a.points.now c.loop-i-test.true c.requires.1)
 
@@ -54,6 +54,6 @@ loop-i-preserved c =
     )
 
 pub returns : goal.returns
-returns c = 
+returns c =
     let a = c.args in
     apart-end (parts a.n a.d a.points.now) c.loop-i.i (omega (arith, c.loop-i-test.false, length-parts a.n a.d a.points.now)) c.loop-i.invariant.1

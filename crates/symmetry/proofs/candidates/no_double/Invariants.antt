@@ -1,13 +1,8 @@
 -- The loop's invariant is that no point before i is near a later one. The measure is what is left of n.
 -- Assumes nothing.
-use borrow.Author.Rules.{rules}
-use native.Mathlib.Omega.{arith}
-use mathlib.Core.Path.{refl}
-use Prim.Native.Nat.{◌+◌, ◌*◌, ◌≤◌, ◌-◌}
-use lib.ListN.{length}
+use Prim.Native.Nat.{◌≤◌, ◌-◌}
 use Rattle.spec.specs.Lists.{parts}
-use Rattle.points.proofs.Parts.{length-parts, part_end}
-use Rattle.symmetry.proofs.candidates.Doubles.{Apart, apart-end, start_in_lem, later_in, double_not, double_next}
+use Rattle.symmetry.proofs.candidates.Doubles.{Apart}
 use Rattle.symmetry.proofs.candidates.no_double.Given as goal
 
 abbrev pub invariant-loop-i : goal.invariant-loop-i

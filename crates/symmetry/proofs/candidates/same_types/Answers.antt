@@ -3,12 +3,11 @@ use borrow.Author.Tests.{eq-eqb, ne_eqb}
 use native.Mathlib.Omega.{arith}
 use mathlib.Core.Path.{◌≡◌, refl, sym, ap, ◌∙◌}
 use mathlib.Core.List.{List}
-use Prim.Native.Nat.{ℕ, suc, ◌+◌, ◌≤◌, ◌<◌, ◌-◌}
+use Prim.Native.Nat.{ℕ, suc, ◌+◌, ◌<◌}
 use lib.ListN.{length, get_or}
-use Rattle.spec.specs.Lists.{range}
 use Rattle.ranked.specs.Layout.{types_at}
-use Rattle.ranked.proofs.Turns.{Every, range_yes, range_no, range-end}
-use Rattle.symmetry.proofs.candidates.Types.{agree, word_in, agree_is}
+use Rattle.ranked.proofs.Turns.{range_yes, range_no, range-end}
+use Rattle.symmetry.proofs.candidates.Types.{word_in, agree_is}
 use Rattle.symmetry.proofs.candidates.same_types.Goals.{After-types-types, In-loop-r}
 use Rattle.symmetry.proofs.candidates.same_types.Goals as goal
 
@@ -47,14 +46,14 @@ pub get-requires-in-loop-r : goal.get-requires-in-loop-r
 get-requires-in-loop-r c = omega (arith, c.types-types.ensures, word-2 (goal.at.get-requires-in-loop-r c).In-loop-r)
 
 pub returns-then-get : goal.returns-then-get
-returns-then-get c = 
+returns-then-get c =
     let l = c.loop-r in let a = c.args in
     range_no _ 0 (suc a.sh.rank) l.r l.r (omega arith) (omega (arith, c.loop-r-test.true)) l.invariant.1
     (ne_eqb _ _ (λ e. c.if-get.true (read (goal.at.returns-then-get c).After-types-types a.flag.elements _ c.get.ensures ∙ e ∙ sym (read (goal.at.returns-then-get c).After-types-types a.first.elements _ c.get-in-loop-r.ensures))))
     ∙ agree_is a.sh a.words.now c.requires.held c.requires.sh_in_bounds a.flag.elements a.first.elements c.requires.flag c.requires.flag_2
 
 pub loop-r-preserved : goal.loop-r-preserved
-loop-r-preserved c = 
+loop-r-preserved c =
     let l = c.loop-r in let a = c.args in (
       omega (arith, c.loop-r-test.true),
       range_yes _ 0 (suc a.sh.rank) l.r l.r (omega arith) (omega (arith, c.loop-r-test.true)) l.invariant.1
@@ -62,7 +61,7 @@ loop-r-preserved c =
     )
 
 pub returns : goal.returns
-returns c = 
+returns c =
     let l = c.loop-r in let a = c.args in
     range-end _ 0 (suc a.sh.rank) l.r (omega (arith, c.loop-r-test.false)) l.invariant.1
     ∙ agree_is a.sh a.words.now c.requires.held c.requires.sh_in_bounds a.flag.elements a.first.elements c.requires.flag c.requires.flag_2

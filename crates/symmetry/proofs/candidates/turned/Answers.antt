@@ -1,18 +1,14 @@
-use borrow.Author.Rules.{rules}
 use native.Mathlib.Omega.{arith}
-use Prim.Native.Nat.{◌-◌}
-use Rattle.ranked.specs.Words.{abs_in}
 use Rattle.ranked.proofs.Solids.{top_is}
-use Rattle.flag.specs.Reading.{flag_in}
 use Rattle.flag.proofs.Flags.{flag_in_lem}
-use Rattle.symmetry.proofs.candidates.Rounds.{Turning, turn_first, turn_next, turn_end}
+use Rattle.symmetry.proofs.candidates.Rounds.{turn_first, turn_next, turn_end}
 use Rattle.symmetry.proofs.candidates.turned.Goals as goal
 
 pub loop-r-init : goal.loop-r-init
 loop-r-init c = let a = c.args in turn_first _ _ c.requires.flag (omega (arith, c.requires.le_rank, top_is a.sh a.lists.now))
 
 pub change-next-requires : goal.change-next-requires
-change-next-requires c = 
+change-next-requires c =
     let l = c.loop-r in let a = c.args in
     let inside = flag_in_lem a.sh a.lists.now c.requires.held l.f.elements l.invariant.flag in record {
       held = c.requires.held;
@@ -25,11 +21,11 @@ pub loop-r-smaller : goal.loop-r-smaller
 loop-r-smaller c = omega (arith, c.loop-r-test.true)
 
 pub loop-r-preserved : goal.loop-r-preserved
-loop-r-preserved c = 
+loop-r-preserved c =
     let l = c.loop-r in let a = c.args in
     turn_next _ _ _ l.r l.invariant c.requires.held.sound c.requires.lists_value (omega (arith, c.loop-r-test.true, top_is a.sh a.lists.now)) _ c.change-next.ensures
 
 pub returns : goal.returns
-returns c = 
+returns c =
     let l = c.loop-r in let a = c.args in
     turn_end _ _ _ l.r l.invariant (omega (arith, c.loop-r-test.false, top_is a.sh a.lists.now))

@@ -1,13 +1,9 @@
 -- The loop's invariant is that ranks 1 to r - 1 are changed. The measure is what is left of the ranks.
 -- Assumes nothing.
-use borrow.Author.Rules.{rules}
-use native.Mathlib.Omega.{arith}
 use Prim.Native.Nat.{◌-◌}
 use Rattle.ranked.specs.Words.{abs_in}
-use Rattle.ranked.proofs.Solids.{top_is}
 use Rattle.flag.specs.Reading.{flag_in}
-use Rattle.flag.proofs.Flags.{flag_in_lem}
-use Rattle.symmetry.proofs.candidates.Rounds.{Turning, turn_first, turn_next, turn_end}
+use Rattle.symmetry.proofs.candidates.Rounds.{Turning}
 use Rattle.symmetry.proofs.candidates.turned.Given as goal
 
 abbrev pub invariant-loop-r : goal.invariant-loop-r

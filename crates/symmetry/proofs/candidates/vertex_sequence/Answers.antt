@@ -1,34 +1,31 @@
-use borrow.Author.Rules.{rules}
 use native.Mathlib.Omega.{arith}
-use Prim.Native.Nat.{◌-◌}
 use lib.ListN.{replicate}
 use lib.Ieee.{binary64, of_bits}
 use Rattle.spec.specs.Limits.{max_dimension}
 use Rattle.matrix.specs.Reading.{corner}
 use Rattle.matrix.proofs.Corner.{length-corner}
 use Rattle.matrix.proofs.Padded.{corner-columns}
-use Rattle.flag.specs.Reading.{flag_in}
-use Rattle.symmetry.proofs.candidates.Rounds.{Walking, vertex_in, walk_first, walk-next, columns_are}
+use Rattle.symmetry.proofs.candidates.Rounds.{vertex_in, walk_first, walk-next, columns_are}
 use Rattle.symmetry.proofs.candidates.vertex_sequence.Goals as goal
 
 pub loaded-requires : goal.loaded-requires
 loaded-requires c = let a = c.args in (c.requires.held.wide, vertex_in a.sh a.lists.now a.floats.now c.requires.held c.requires.le_rank c.requires.sh_in_bounds a.flag.elements c.requires.flag)
 
 pub loop-i-init : goal.loop-i-init
-loop-i-init c = 
+loop-i-init c =
     let a = c.args in
     walk_first a.sh a.lists.now a.floats.now c.requires.held c.requires.le_rank c.requires.sh_in_bounds a.flag.elements c.requires.flag (replicate max_dimension (replicate max_dimension (of_bits binary64 0))) (omega arith) c.loaded.result c.loaded.ensures
 
 pub turned-next-requires : goal.turned-next-requires
 turned-next-requires c = let l = c.loop-i in record {
-      held = c.requires.held;
-      lists_value = c.requires.lists_value;
-      flag = l.invariant.flag;
-      le_rank = c.requires.le_rank;
-    }
+  held = c.requires.held;
+  lists_value = c.requires.lists_value;
+  flag = l.invariant.flag;
+  le_rank = c.requires.le_rank;
+}
 
 pub loaded-requires-in-loop-i : goal.loaded-requires-in-loop-i
-loaded-requires-in-loop-i c = 
+loaded-requires-in-loop-i c =
     let u = c.turned-next in let a = c.args in
     (c.requires.held.wide, vertex_in a.sh a.lists.now a.floats.now c.requires.held c.requires.le_rank c.requires.sh_in_bounds u.result.elements u.ensures.flag)
 
@@ -36,7 +33,7 @@ pub bounds-rows-i : goal.bounds-rows-i
 bounds-rows-i c = omega (arith, c.loop-i-test.true, c.requires.held.wide)
 
 pub loop-i-preserved : goal.loop-i-preserved
-loop-i-preserved c = 
+loop-i-preserved c =
     let u = c.turned-next in let l = c.loop-i in let a = c.args in
     walk-next a.sh a.lists.now a.floats.now c.requires.held c.requires.le_rank c.requires.sh_in_bounds u.result.elements u.ensures.flag _ _ _ l.rows l.i l.invariant c.loop-i-test.true (omega (arith, c.loop-i-test.true, c.requires.held.wide)) u.ensures c.loaded-in-loop-i.result c.loaded-in-loop-i.ensures
 
@@ -44,7 +41,7 @@ pub from_columns-requires : goal.from_columns-requires
 from_columns-requires c = c.requires.held.wide
 
 pub returns : goal.returns
-returns c = 
+returns c =
     let l = c.loop-i in let a = c.args in
     columns_are a.sh a.lists.now a.floats.now c.requires.held c.requires.le_rank c.requires.sh_in_bounds _ _ _ l.rows c.from_columns.result l.i l.invariant c.loop-i-test.false
     (corner-columns a.sh.dimension (corner a.sh.dimension l.rows) (length-corner a.sh.dimension l.rows (omega (arith, l.invariant.written.long, c.requires.held.wide))) _ c.from_columns.ensures)

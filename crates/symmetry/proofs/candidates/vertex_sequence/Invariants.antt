@@ -1,17 +1,9 @@
 -- The loop's invariant is that the flag has gone through i - 1 rounds, and that the first i rows hold its vertices so far.
 -- The measure is what is left of d.
 -- Assumes nothing.
-use borrow.Author.Rules.{rules}
-use native.Mathlib.Omega.{arith}
 use Prim.Native.Nat.{◌-◌}
-use lib.ListN.{replicate}
-use lib.Ieee.{binary64, of_bits}
-use Rattle.spec.specs.Limits.{max_dimension}
-use Rattle.matrix.specs.Reading.{corner}
-use Rattle.matrix.proofs.Corner.{length-corner}
-use Rattle.matrix.proofs.Padded.{corner-columns}
 use Rattle.flag.specs.Reading.{flag_in}
-use Rattle.symmetry.proofs.candidates.Rounds.{Walking, vertex_in, walk_first, walk-next, columns_are}
+use Rattle.symmetry.proofs.candidates.Rounds.{Walking}
 use Rattle.symmetry.proofs.candidates.vertex_sequence.Given as goal
 
 abbrev pub invariant-loop-i : goal.invariant-loop-i

@@ -1,5 +1,4 @@
 -- `symmetry::exchange::exchange` meets its contract: its steps are those of `Exchanged`, and exchanging facet 0 changes nothing. Assumes nothing.
-use borrow.Author.Rules.{rules}
 use native.Mathlib.Omega.{arith}
 use mathlib.Core.Path.{refl, sym, ap, ◌∙◌}
 use Prim.Native.Nat.{ℕ}
@@ -10,7 +9,7 @@ use Rattle.symmetry.proofs.exchange.Exchanged.{tall, facet_fits, lists_fit, deri
 use Rattle.symmetry.proofs.exchange.exchange.Goals as goal
 
 pub returns-then-f-eq0 : goal.returns-then-f-eq0
-returns-then-f-eq0 c = 
+returns-then-f-eq0 c =
     let d = abs_in c.args.sh (lists_of c.args.sh c.args.words.now) in
     record {
       words_after = sym (ap (λ (f : ℕ). exchanged_in d f) c.if-f-eq0.true ∙ exchange-none d);
@@ -35,7 +34,7 @@ derive_sups-requires c = let both = derive_call _ c.args.words.now c.requires.la
     }
 
 pub returns : goal.returns
-returns c = 
+returns c =
     let e = c.derive_sups.ensures in
     let k = c.derive_sups.auto.words in
     record {

@@ -1,5 +1,4 @@
 -- `symmetry::exchange::swap_lists` meets its contract. Assumes nothing.
-use borrow.Author.Rules.{rules}
 use Rattle.symmetry.proofs.exchange.Swaps.{lists_are}
 use Rattle.symmetry.proofs.exchange.swap_lists.Goals as goal
 

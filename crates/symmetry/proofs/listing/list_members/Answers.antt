@@ -1,5 +1,4 @@
 use mathlib.Core.Path.{◌≡◌, refl, sym, ap, subst, ◌∙◌}
-use mathlib.Core.Logic.{⊎_elim}
 use mathlib.Core.List.{List, ◌∷◌}
 use Prim.Native.Nat.{ℕ, ◌+◌, ◌-◌, ◌*◌, ◌≤◌, ◌<◌}
 use native.Mathlib.Nat.{mul-le-mul_left}
@@ -18,7 +17,7 @@ use Rattle.flag.proofs.Numbered.{nth_first, nth_flag}
 use Rattle.symmetry.specs.declared.listing.Tried.TheVariants.{Skipped, Added}
 use Rattle.symmetry.proofs.Bounds.{vertices_few, coordinates_in, points-read}
 use Rattle.symmetry.proofs.Members.{Tally, tally_first, tally_end, inside, tally_skipped, tally_added, tally_short}
-use Rattle.symmetry.proofs.Turning.{FlagsFrom, to_come, flags-first, flags-end, later, flags-at, flags-next, fewer}
+use Rattle.symmetry.proofs.Turning.{flags-first, flags-end, later, flags-at, flags-next, fewer}
 use Rattle.symmetry.proofs.listing.list_members.Goals.{After-first-first, After-next-next, After-try_flag-tried, After-vertices-v, At-loop-n, Joined-tried, Start, in-Skipped, in-Added}
 use Rattle.symmetry.proofs.listing.list_members.Goals as goal
 
@@ -135,8 +134,8 @@ follows : (m : Joined-tried) → let t = (goal.at.lists-requires-in-loop-n m).Af
 follows m =
     let t = (goal.at.lists-requires-in-loop-n m).After-try_flag-tried in
     elim m.match-tried.branch [
-    | in-Skipped w ↦ subst (λ n. TalliedAfter t n (remaining t)) (sym w.n-is) (skipped t w.in-Skipped.is)
-    | in-Added w ↦ subst (λ n. TalliedAfter t n (remaining t)) (sym w.n-is) (added t w.in-Added.is)
+      | in-Skipped w ↦ subst (λ n. TalliedAfter t n (remaining t)) (sym w.n-is) (skipped t w.in-Skipped.is)
+      | in-Added w ↦ subst (λ n. TalliedAfter t n (remaining t)) (sym w.n-is) (added t w.in-Added.is)
     ]
 
 pub lists-requires : goal.lists-requires
@@ -233,13 +232,12 @@ loop-n-smaller c =
 
 pub loop-n-preserved : goal.loop-n-preserved
 unfolding more_of
-loop-n-preserved c =
-    (
-      many (goal.at.loop-n-preserved c).After-try_flag-tried,
-      long (goal.at.loop-n-preserved c).After-try_flag-tried,
-      flags-next c.args.sh (lists_of c.args.sh c.args.words.now) c.requires.bench.held (Tallied (goal.at.loop-n-preserved c).At-loop-n) (flag (goal.at.loop-n-preserved c).At-loop-n) c.loop-n.invariant.2
-          (more_of c.next-next.result.advance) (flag_in c.args.sh.rank c.next-next.result.flag) (next_is (goal.at.loop-n-preserved c).After-next-next) (ap more_of c.in-More.is) (TalliedAfter (goal.at.loop-n-preserved c).After-try_flag-tried c.match-tried.n) (follows (goal.at.loop-n-preserved c).Joined-tried),
-    )
+loop-n-preserved c = (
+  many (goal.at.loop-n-preserved c).After-try_flag-tried,
+  long (goal.at.loop-n-preserved c).After-try_flag-tried,
+  flags-next c.args.sh (lists_of c.args.sh c.args.words.now) c.requires.bench.held (Tallied (goal.at.loop-n-preserved c).At-loop-n) (flag (goal.at.loop-n-preserved c).At-loop-n) c.loop-n.invariant.2
+      (more_of c.next-next.result.advance) (flag_in c.args.sh.rank c.next-next.result.flag) (next_is (goal.at.loop-n-preserved c).After-next-next) (ap more_of c.in-More.is) (TalliedAfter (goal.at.loop-n-preserved c).After-try_flag-tried c.match-tried.n) (follows (goal.at.loop-n-preserved c).Joined-tried),
+)
 
 pub shape_of-matrices-in-Ended : goal.shape_of-matrices-in-Ended
 shape_of-matrices-in-Ended c = many (goal.at.shape_of-matrices-in-Ended c).After-try_flag-tried

@@ -3,8 +3,6 @@
 use mathlib.Core.Path.{subst}
 use mathlib.Core.Bool.{false≢true}
 use native.Mathlib.Omega.{arith}
-use borrow.Author.Rules.{rules}
-use borrow.Author.Tests.{not-true, not-false}
 use Rattle.matrix.specs.Reading.{corner}
 use Rattle.points.specs.Guesses.{Guesses}
 use Rattle.element_types.specs.State.{state_in}

@@ -1,13 +1,11 @@
 -- The outcome goes by whether the candidate is wanted, whether it passes, and whether there is room.
 -- Assumes nothing.
 use mathlib.Core.Path.{◌≡◌, sym, ap, ◌∙◌}
-use mathlib.Core.Logic.{◌⊎◌, inl, inr, ⊎_elim}
+use mathlib.Core.Logic.{◌⊎◌, inl, inr}
 use mathlib.Core.Bool.{true, false}
 use native.Mathlib.Omega.{arith}
 use lib.ListN.{length, take}
 use lib.Ieee.{lt}
-use borrow.Author.Rules.{rules}
-use borrow.Author.Tests.{not-true, not-false}
 use Rattle.spec.specs.Limits.{max_count}
 use Rattle.spec.specs.Float.{zero_f}
 use Rattle.spec.specs.Types.{State}
@@ -46,8 +44,8 @@ wanted : (j : Joined-trial) → (j.args.trial.rotations ≡ false) ⊎ (lt zero_
 unfolding zero_f
 wanted j =
     elim j.if-trial.branch [
-    | then-trial+else-not-determinant w ↦ inr (ap (lt zero_f) (sym w.determinant.ensures) ∙ w.if-not-determinant.false)
-    | else-trial w ↦ inl w.if-trial.false
+      | then-trial+else-not-determinant w ↦ inr (ap (lt zero_f) (sym w.determinant.ensures) ∙ w.if-not-determinant.false)
+      | else-trial w ↦ inl w.if-trial.false
     ]
 
 -- The candidate passes.

@@ -2,8 +2,6 @@
 -- Assumes nothing.
 use mathlib.Core.Path.{sym, ◌∙◌}
 use native.Mathlib.Omega.{arith}
-use borrow.Author.Rules.{rules}
-use borrow.Author.Tests.{not-true, not-false}
 use Rattle.spec.specs.Flags.{Flag}
 use Rattle.spec.specs.Matrix.{Matrix}
 use Rattle.spec.specs.Solid.{Concrete}
@@ -66,9 +64,9 @@ candidate-m-requires c =
 
 pub try_candidate-requires : goal.try_candidate-requires
 try_candidate-requires c = record {
-      searching = c.requires.searching;
-      guesses = c.requires.guesses;
-    }
+  searching = c.requires.searching;
+  guesses = c.requires.guesses;
+}
 
 pub returns : goal.returns
 returns c x =

@@ -1,8 +1,6 @@
 use mathlib.Core.Path.{refl}
-use Prim.Native.Nat.{◌≤◌, ◌-◌}
-use lib.ListN.{get_or}
 use borrow.Author.Rules.{rules}
-use Rattle.float.proofs.Written.{Written, none, next}
+use Rattle.float.proofs.Written.{none, next}
 use Rattle.points.proofs.Tails.{front_copied}
 use Rattle.symmetry.proofs.writing.put_entries.Goals as goal
 

@@ -1,11 +1,8 @@
 -- The loop's invariant is that the first i entries are in place. The measure is what is left of n.
 -- Assumes nothing.
-use mathlib.Core.Path.{refl}
 use Prim.Native.Nat.{◌≤◌, ◌-◌}
 use lib.ListN.{get_or}
-use borrow.Author.Rules.{rules}
-use Rattle.float.proofs.Written.{Written, none, next}
-use Rattle.points.proofs.Tails.{front_copied}
+use Rattle.float.proofs.Written.{Written}
 use Rattle.symmetry.proofs.writing.put_entries.Given as goal
 
 abbrev pub invariant-loop-i : goal.invariant-loop-i

@@ -1,13 +1,9 @@
 -- The loop's invariant is that the marks before i are counted. The measure is what is left of n.
 -- Assumes nothing.
-use mathlib.Core.Path.{◌≡◌, refl, sym, ap, ◌∙◌}
-use Prim.Native.Nat.{◌+◌, ◌*◌, ◌≤◌, ◌-◌}
-use native.Mathlib.Numerals.{add-one}
-use native.Mathlib.Omega.{arith}
-use lib.ListN.{length, get_or, take}
-use borrow.Author.Rules.{rules}
+use mathlib.Core.Path.{◌≡◌}
+use Prim.Native.Nat.{◌*◌, ◌≤◌, ◌-◌}
+use lib.ListN.{take}
 use Rattle.spec.specs.Lists.{sum}
-use Rattle.text.proofs.Counted.{sum-next}
 use Rattle.text.proofs.counting.confirmed.Given as goal
 
 abbrev pub invariant-loop-i : goal.invariant-loop-i

@@ -2,7 +2,6 @@
 -- Assumes nothing.
 use mathlib.Core.Path.{◌∙◌, sym, ap}
 use lib.Ieee.{of_bits, lt}
-use borrow.Author.Rules.{rules}
 use Rattle.spec.specs.Float.{zero_f}
 use Rattle.text.proofs.Counted.{count-one, count_none}
 use Rattle.text.proofs.counting.rotation.Goals as goal

@@ -1,7 +1,6 @@
 -- The pieces are put one after another, each where the one before it ended.
 -- Assumes nothing.
 use mathlib.Core.Path.{sym}
-use borrow.Author.Rules.{rules}
 use Rattle.spec.specs.Ascii.{ascii}
 use Rattle.text.proofs.Growing.{puts_then, puts_is, room-then}
 use Rattle.text.proofs.Pieces.{type-rooms, type_pieces}

@@ -1,7 +1,6 @@
 -- The line of their number comes first, and then the types' own.
 -- Assumes nothing.
 use mathlib.Core.Path.{sym}
-use borrow.Author.Rules.{rules}
 use Rattle.spec.specs.Ascii.{ascii}
 use Rattle.text.proofs.Growing.{puts_then, puts_is, room-then}
 use Rattle.text.proofs.Tables.{types_pieces, types-rooms}

@@ -1,8 +1,6 @@
 -- The line is put in two pieces, the label with the number and then the rest, and there is room for both.
 -- Assumes nothing.
-use mathlib.Core.Path.{sym, ap}
-use Rattle.spec.specs.KitText.{decimal}
-use borrow.Author.Rules.{rules}
+use mathlib.Core.Path.{sym}
 use Rattle.spec.specs.Ascii.{ascii}
 use Rattle.text.proofs.Growing.{puts_then, puts_is, room-then}
 use Rattle.text.proofs.Pieces.{refused_rooms, refused_pieces}

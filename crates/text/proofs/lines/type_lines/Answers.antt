@@ -1,11 +1,10 @@
 use mathlib.Core.Path.{◌≡◌, refl, sym, ap, ◌∙◌}
 use mathlib.Core.List.{List, ◌++◌}
-use Prim.Native.Nat.{ℕ, ◌+◌, ◌*◌, ◌≤◌, ◌-◌}
+use Prim.Native.Nat.{ℕ, ◌*◌}
 use native.Mathlib.Omega.{arith}
-use lib.ListN.{length, drop}
+use lib.ListN.{drop}
 use borrow.Author.Rules.{rules}
 use Rattle.spec.specs.KitText.{type_line}
-use Rattle.text.specs.Puts.{Puts}
 use Rattle.text.specs.Cells.{lines_to}
 use Rattle.text.proofs.Growing.{puts_none, puts_then, puts_is, puts_long, room-then}
 use Rattle.text.proofs.Tables.{type_of, lines_none, lines_next, lines_room, type_read}

@@ -1,12 +1,8 @@
-use mathlib.Core.Path.{◌≡◌, refl, sym, ap, ◌∙◌}
-use Prim.Native.Nat.{◌+◌, ◌≤◌, ◌-◌}
-use native.Mathlib.Numerals.{add-one}
+use mathlib.Core.Path.{refl}
 use native.Mathlib.Nat.{add-zero}
 use native.Mathlib.Omega.{arith}
-use lib.ListN.{length, take, length-set}
-use lib.Seq.{take-suc, take_all}
+use lib.ListN.{length-set}
 use borrow.Author.Rules.{rules}
-use Rattle.text.specs.Puts.{Puts}
 use Rattle.text.proofs.Growing.{puts_none, puts_next, puts_all}
 use Rattle.text.proofs.writing.put_bytes.Goals as goal
 

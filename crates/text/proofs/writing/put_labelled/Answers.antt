@@ -1,9 +1,7 @@
 -- The label and the number are put one after the other, and there is room for both.
 -- Assumes nothing.
-use mathlib.Core.List.{◌++◌}
 use native.Mathlib.Omega.{arith}
 use lib.ListN.{length-append}
-use borrow.Author.Rules.{rules}
 use Rattle.spec.specs.KitText.{decimal}
 use Rattle.text.proofs.Growing.{puts_then, room-then}
 use Rattle.text.proofs.writing.put_labelled.Goals as goal

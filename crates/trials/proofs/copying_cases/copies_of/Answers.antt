@@ -1,6 +1,5 @@
 -- The turns that are lent are those of the 48.
 -- Assumes nothing.
-use borrow.Author.Rules.{rules}
 use Rattle.trials.proofs.copying_cases.copies_of.Goals as goal
 
 pub returns : goal.returns

@@ -1,7 +1,6 @@
 -- The answer and the outputs are the call's, and the answer is that of the trial with outputs of zeros.
 -- Assumes nothing.
 use mathlib.Core.Path.{ap, ◌∙◌}
-use borrow.Author.Rules.{rules}
 use lib.Ieee.{of_bits}
 use Rattle.spec.specs.Float.{zero_f, one_f}
 use Rattle.trials.specs.Trials.{trials}

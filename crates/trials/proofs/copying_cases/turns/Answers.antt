@@ -2,7 +2,6 @@
 -- Assumes nothing.
 use mathlib.Core.Path.{ap, ◌∙◌}
 use mathlib.Core.List.{List, map}
-use borrow.Author.Rules.{rules}
 use Rattle.spec.specs.Lists.{join}
 use Rattle.spec.specs.Matrix.{Matrix}
 use Rattle.matrix.specs.Reading.{corner}

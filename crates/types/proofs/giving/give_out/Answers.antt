@@ -1,6 +1,5 @@
 -- The cells are counted before any is written.
 -- Assumes nothing.
-use borrow.Author.Rules.{rules}
 use native.Mathlib.Omega.{arith}
 use Prim.Native.Nat.{◌*◌, ◌≤◌}
 use lib.ListN.{length}
@@ -36,11 +35,11 @@ returns-then-table-n c = short_types _ _ c.requires (old (goal.at.returns-then-t
 
 pub write_types-requires : goal.write_types-requires
 write_types-requires c = record {
-      countable = c.requires;
-      words_in_bounds = omega (arith, room (goal.at.write_types-requires c).Else-table-n, proper_is c.args.sh (lists_of c.args.sh c.args.words.now) c.requires.held);
-    }
+  countable = c.requires;
+  words_in_bounds = omega (arith, room (goal.at.write_types-requires c).Else-table-n, proper_is c.args.sh (lists_of c.args.sh c.args.words.now) c.requires.held);
+}
 
 pub returns : goal.returns
-returns c = 
+returns c =
     let r = room (goal.at.returns c).Else-table-n in
     all_handed _ _ c.requires (old (goal.at.returns c).Start) r.0 r.1 _ c.type_count-n.ensures _ _ c.write_types.ensures c.write_table.ensures

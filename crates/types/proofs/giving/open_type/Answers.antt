@@ -1,6 +1,5 @@
 -- There are four stores, one after another.
 -- Assumes nothing.
-use borrow.Author.Rules.{rules}
 use native.Mathlib.Omega.{arith}
 use lib.ListN.{length-set}
 use Rattle.types.proofs.Sets.{sets_four}

@@ -1,10 +1,9 @@
-use borrow.Author.Rules.{rules}
 use native.Mathlib.Omega.{arith}
 use mathlib.Core.Path.{◌≡◌}
-use Prim.Native.Nat.{◌+◌, ◌-◌, ◌*◌, ◌≤◌, ◌<◌}
+use Prim.Native.Nat.{◌+◌, ◌*◌, ◌≤◌, ◌<◌}
 use lib.ListN.{length}
 use Rattle.spec.specs.Limits.{max_rank, max_count}
-use Rattle.types.proofs.Rows.{Rows, rows-first, rows_end, rows_long, type_small, record_in, record_fits, rows_new, cell_in, count_small, rows_old}
+use Rattle.types.proofs.Rows.{rows-first, rows_end, rows_long, type_small, record_in, record_fits, rows_new, cell_in, count_small, rows_old}
 use Rattle.types.proofs.giving.write_rank.Goals.{After-get-t, Else-t-k}
 use Rattle.types.proofs.giving.write_rank.Goals as goal
 
@@ -12,22 +11,20 @@ use Rattle.types.proofs.giving.write_rank.Goals as goal
 fits : (c : After-get-t)
     → let a = c.args in
     (c.get-t.result < max_count) × (4 * (a.m + c.loop-e.k) ≤ length a.table.now) × (a.r ≤ max_rank) × (a.n ≤ max_count)
-fits c =
-    (
-      type_small _ _ _ _ _ _ c.requires _ _ _ c.loop-e.invariant c.loop-e-test.true _ c.get-t.ensures,
-      record_in _ _ _ _ _ _ c.requires _ _ _ c.loop-e.invariant c.loop-e-test.true _ c.get-t.ensures,
-      c.requires.low,
-      c.requires.few,
-    )
+fits c = (
+  type_small _ _ _ _ _ _ c.requires _ _ _ c.loop-e.invariant c.loop-e-test.true _ c.get-t.ensures,
+  record_in _ _ _ _ _ _ c.requires _ _ _ c.loop-e.invariant c.loop-e-test.true _ c.get-t.ensures,
+  c.requires.low,
+  c.requires.few,
+)
 
 cell : (c : Else-t-k)
     → let a = c.args in
     (4 * (a.m + c.get-t.result) + 3 < length c.loop-e.table) × (length c.loop-e.table ≡ length a.table.now)
-cell c =
-    (
-      cell_in _ _ _ _ _ _ c.requires _ _ _ c.loop-e.invariant c.loop-e-test.true _ c.get-t.ensures c.if-t-k.false,
-      rows_long _ _ _ _ _ _ c.requires _ _ _ c.loop-e.invariant,
-    )
+cell c = (
+  cell_in _ _ _ _ _ _ c.requires _ _ _ c.loop-e.invariant c.loop-e-test.true _ c.get-t.ensures c.if-t-k.false,
+  rows_long _ _ _ _ _ _ c.requires _ _ _ c.loop-e.invariant,
+)
 
 pub loop-e-init : goal.loop-e-init
 loop-e-init c = rows-first _ _ _ _ _ _
@@ -57,7 +54,7 @@ pub overflow_add-k : goal.overflow_add-k
 overflow_add-k c = omega (arith, fits (goal.at.overflow_add-k c).After-get-t)
 
 pub loop-e-preserved-then-t-k : goal.loop-e-preserved-then-t-k
-loop-e-preserved-then-t-k c = 
+loop-e-preserved-then-t-k c =
     rw c.open_type.ensures
     (rows_new _ _ _ _ _ _ c.requires _ _ _ c.loop-e.invariant c.loop-e-test.true _ c.get-t.ensures c.if-t-k.true)
 
@@ -77,7 +74,7 @@ pub bounds-table-cell : goal.bounds-table-cell
 bounds-table-cell c = (cell (goal.at.bounds-table-cell c).Else-t-k).0
 
 pub overflow_add-table : goal.overflow_add-table
-overflow_add-table c = 
+overflow_add-table c =
     omega (
       arith,
       count_small _ _ _ _ _ _ c.requires _ _ _ c.loop-e.invariant c.loop-e-test.true _ c.get-t.ensures c.if-t-k.false,

@@ -1,9 +1,8 @@
-use borrow.Author.Rules.{rules}
 use native.Mathlib.Omega.{arith}
-use Prim.Native.Nat.{suc, ◌-◌, ◌≤◌, ◌<◌}
+use Prim.Native.Nat.{suc, ◌≤◌, ◌<◌}
 use Rattle.ranked.specs.Words.{first_at, total}
 use Rattle.element_types.proofs.Tallied.{offsets}
-use Rattle.types.proofs.Ranks.{RanksTabled, tabled_first, tabled_long, listable, types_fit, tabled_next, tabled_end}
+use Rattle.types.proofs.Ranks.{tabled_first, tabled_long, listable, types_fit, tabled_next, tabled_end}
 use Rattle.types.proofs.giving.write_table.Goals.{In-loop-r}
 use Rattle.types.proofs.giving.write_table.Goals as goal
 
@@ -32,7 +31,7 @@ pub overflow_add-r : goal.overflow_add-r
 overflow_add-r c = omega (arith, c.loop-r-test.true, c.requires.countable.held.tall)
 
 pub loop-r-preserved : goal.loop-r-preserved
-loop-r-preserved c = 
+loop-r-preserved c =
     rw c.write_rank-m.ensures.table_after
     (tabled_next _ _ c.requires.countable _ c.requires.words_in_bounds _ _ _ c.loop-r.invariant c.loop-r-test.true _ _ c.types-from.ensures c.size-n.ensures _ c.write_rank-m.ensures.value)
 

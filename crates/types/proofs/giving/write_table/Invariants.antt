@@ -1,11 +1,7 @@
 -- The types of the ranks below r stand in their cells.
 -- Assumes nothing.
-use borrow.Author.Rules.{rules}
-use native.Mathlib.Omega.{arith}
-use Prim.Native.Nat.{suc, ◌-◌, ◌≤◌, ◌<◌}
-use Rattle.ranked.specs.Words.{first_at, total}
-use Rattle.element_types.proofs.Tallied.{offsets}
-use Rattle.types.proofs.Ranks.{RanksTabled, tabled_first, tabled_long, listable, types_fit, tabled_next, tabled_end}
+use Prim.Native.Nat.{◌-◌}
+use Rattle.types.proofs.Ranks.{RanksTabled}
 use Rattle.types.proofs.giving.write_table.Given as goal
 
 abbrev pub invariant-loop-r : goal.invariant-loop-r

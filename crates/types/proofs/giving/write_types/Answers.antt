@@ -1,8 +1,7 @@
-use borrow.Author.Rules.{rules}
 use native.Mathlib.Omega.{arith}
-use Prim.Native.Nat.{◌+◌, ◌-◌, ◌≤◌}
+use Prim.Native.Nat.{◌+◌, ◌≤◌}
 use lib.ListN.{length}
-use Rattle.types.proofs.Ranks.{types_in_lem, Copied, copied-first, copied_long, run_in_words, cells_in_lem, copied_small, copied_next, copied-end}
+use Rattle.types.proofs.Ranks.{types_in_lem, copied-first, copied_long, run_in_words, cells_in_lem, copied_small, copied_next, copied-end}
 use Rattle.types.proofs.giving.write_types.Goals.{After-types-from}
 use Rattle.types.proofs.giving.write_types.Goals as goal
 
@@ -10,11 +9,10 @@ use Rattle.types.proofs.giving.write_types.Goals as goal
 inside : (c : After-types-from)
     → let a = c.args in
     (c.types-from.result + c.proper-n.result ≤ length a.words.now) × (c.proper-n.result ≤ length a.of.now)
-inside c =
-    (
-      run_in_words _ _ c.requires.countable c.args.of.now c.requires.words_in_bounds _ _ c.proper-n.ensures c.types-from.ensures,
-      cells_in_lem _ _ c.requires.countable c.args.of.now c.requires.words_in_bounds _ _ c.proper-n.ensures c.types-from.ensures,
-    )
+inside c = (
+  run_in_words _ _ c.requires.countable c.args.of.now c.requires.words_in_bounds _ _ c.proper-n.ensures c.types-from.ensures,
+  cells_in_lem _ _ c.requires.countable c.args.of.now c.requires.words_in_bounds _ _ c.proper-n.ensures c.types-from.ensures,
+)
 
 pub proper-n-requires : goal.proper-n-requires
 proper-n-requires c = c.requires.countable.held.tall

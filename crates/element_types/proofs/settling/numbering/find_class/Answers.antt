@@ -1,11 +1,8 @@
 use borrow.Author.Rules.{rules}
 use native.Mathlib.Omega.{arith}
 use mathlib.Core.Path.{sym, ◌∙◌}
-use Prim.Native.Nat.{◌+◌, ◌-◌, ◌≤◌, ◌<◌}
+use Prim.Native.Nat.{◌+◌, ◌<◌}
 use lib.ListN.{length}
-use Rattle.geometry.specs.Classes.{same_class}
-use Rattle.element_types.specs.Start.{rep_cells}
-use Rattle.element_types.proofs.settling.Places.{PlaceSought}
 use Rattle.element_types.proofs.settling.Scanned.{class-first, class_yes, class_no, class-end}
 use Rattle.element_types.proofs.settling.numbering.find_class.Goals.{After-get-g}
 use Rattle.element_types.proofs.settling.numbering.find_class.Goals as goal
@@ -31,9 +28,9 @@ returns-then-same_class c = class_yes _ _ _ _ _ _ c.loop-j.j c.loop-j.invariant.
 
 pub loop-j-preserved : goal.loop-j-preserved
 loop-j-preserved c = (
-      search rules,
-      class_no _ _ _ _ _ _ c.loop-j.j c.loop-j.invariant.1 c.loop-j-test.true (rw c.get-g.ensures at (sym c.same_class.ensures ∙ c.if-same_class.false)),
-    )
+  search rules,
+  class_no _ _ _ _ _ _ c.loop-j.j c.loop-j.invariant.1 c.loop-j-test.true (rw c.get-g.ensures at (sym c.same_class.ensures ∙ c.if-same_class.false)),
+)
 
 pub returns : goal.returns
 returns c = omega (arith, c.loop-j-test.false, c.loop-j.invariant.0, class-end _ _ _ _ _ _ c.loop-j.j c.loop-j.invariant.1 c.loop-j-test.false)

@@ -1,14 +1,9 @@
 -- What is left has the class where all have it.
 -- Assumes nothing.
-use borrow.Author.Rules.{rules}
-use native.Mathlib.Omega.{arith}
-use mathlib.Core.Path.{sym, ◌∙◌}
-use Prim.Native.Nat.{◌+◌, ◌-◌, ◌≤◌, ◌<◌}
-use lib.ListN.{length}
+use Prim.Native.Nat.{◌-◌, ◌≤◌}
 use Rattle.geometry.specs.Classes.{same_class}
 use Rattle.element_types.specs.Start.{rep_cells}
 use Rattle.element_types.proofs.settling.Places.{PlaceSought}
-use Rattle.element_types.proofs.settling.Scanned.{class-first, class_yes, class_no, class-end}
 use Rattle.element_types.proofs.settling.numbering.find_class.Given as goal
 
 abbrev pub invariant-loop-j : goal.invariant-loop-j

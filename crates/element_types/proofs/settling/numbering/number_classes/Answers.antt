@@ -1,8 +1,8 @@
 use borrow.Author.Rules.{rules}
 use native.Mathlib.Omega.{arith}
-use Prim.Native.Nat.{◌+◌, ◌-◌, ◌≤◌, ◌<◌}
+use Prim.Native.Nat.{◌+◌, ◌≤◌, ◌<◌}
 use lib.ListN.{length, length-set}
-use Rattle.element_types.proofs.settling.Scanned.{ClassesScan, scan-first, scan-end, reps_in, number-within, cells_in_lem, scan_old, scan_new}
+use Rattle.element_types.proofs.settling.Scanned.{scan-first, scan-end, reps_in, number-within, cells_in_lem, scan_old, scan_new}
 use Rattle.element_types.proofs.settling.numbering.number_classes.Goals.{After-find_class-p}
 use Rattle.element_types.proofs.settling.numbering.number_classes.Goals as goal
 

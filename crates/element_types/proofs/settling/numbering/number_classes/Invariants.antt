@@ -1,10 +1,7 @@
 -- The elements are numbered one after another, as `ClassesScan` says.
 -- Assumes nothing.
-use borrow.Author.Rules.{rules}
-use native.Mathlib.Omega.{arith}
-use Prim.Native.Nat.{◌+◌, ◌-◌, ◌≤◌, ◌<◌}
-use lib.ListN.{length, length-set}
-use Rattle.element_types.proofs.settling.Scanned.{ClassesScan, scan-first, scan-end, reps_in, number-within, cells_in_lem, scan_old, scan_new}
+use Prim.Native.Nat.{◌-◌}
+use Rattle.element_types.proofs.settling.Scanned.{ClassesScan}
 use Rattle.element_types.proofs.settling.numbering.number_classes.Given as goal
 
 abbrev pub invariant-loop-e : goal.invariant-loop-e

@@ -2,7 +2,7 @@ use borrow.Author.Rules.{rules}
 use native.Mathlib.Omega.{arith}
 use mathlib.Core.Path.{◌∙◌}
 use Rattle.element_types.specs.Settle.{end_of}
-use Rattle.element_types.proofs.settling.Ended.{ReachedBySteps, Settling, settling_first, first_countable, ready, left_countable, none_left, u-lists, next_countable, stays, settling_next, once, ended}
+use Rattle.element_types.proofs.settling.Ended.{ReachedBySteps, settling_first, first_countable, ready, left_countable, none_left, u-lists, next_countable, stays, settling_next, once, ended}
 use Rattle.element_types.proofs.settling.settled.settle.Goals.{After-sweep}
 use Rattle.element_types.proofs.settling.settled.settle.Goals as goal
 
@@ -44,7 +44,7 @@ shape_of-words-then-next-count c = c.sweep-in-loop-left.auto.words ∙ c.loop-le
 
 pub returns-then-next-count : goal.returns-then-next-count
 unfolding end_of
-returns-then-next-count c = 
+returns-then-next-count c =
     ended _ _ c.requires _ c.sweep.auto.words c.sweep.ensures.words_unchanged c.sweep.ensures.words_after _ c.proper-left.ensures _ _
     (u-lists _ _ _ (swept (goal.at.returns-then-next-count c).After-sweep) _ _ _ _ c.loop-left.invariant _ c.sweep-in-loop-left.auto.words c.sweep-in-loop-left.ensures.words_unchanged c.sweep-in-loop-left.ensures.words_after)
     (next_countable _ _ _ (swept (goal.at.returns-then-next-count c).After-sweep) _ _ _ _ c.loop-left.invariant _ c.sweep-in-loop-left.auto.words c.sweep-in-loop-left.ensures.words_unchanged c.sweep-in-loop-left.ensures.words_after)
@@ -64,6 +64,6 @@ shape_of-words c = c.loop-left.invariant.long ∙ c.sweep.auto.words
 
 pub returns : goal.returns
 unfolding end_of
-returns c = 
+returns c =
     ended _ _ c.requires _ c.sweep.auto.words c.sweep.ensures.words_unchanged c.sweep.ensures.words_after _ c.proper-left.ensures _ _
     c.loop-left.invariant.lists (left_countable _ _ _ (swept (goal.at.returns c).After-sweep) _ _ _ _ c.loop-left.invariant) (none_left _ _ _ (swept (goal.at.returns c).After-sweep) _ _ _ _ c.loop-left.invariant c.loop-left-test.false)

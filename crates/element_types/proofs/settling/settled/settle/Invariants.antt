@@ -1,10 +1,6 @@
 -- What is left of the sweeps gives what those after the first give.
 -- Assumes nothing.
-use borrow.Author.Rules.{rules}
-use native.Mathlib.Omega.{arith}
-use mathlib.Core.Path.{◌∙◌}
-use Rattle.element_types.specs.Settle.{end_of}
-use Rattle.element_types.proofs.settling.Ended.{ReachedBySteps, Settling, settling_first, first_countable, ready, left_countable, none_left, u-lists, next_countable, stays, settling_next, once, ended}
+use Rattle.element_types.proofs.settling.Ended.{Settling}
 use Rattle.element_types.proofs.settling.settled.settle.Given as goal
 
 abbrev pub invariant-loop-left : goal.invariant-loop-left

@@ -1,12 +1,11 @@
-use borrow.Author.Rules.{rules}
 use native.Mathlib.Omega.{arith}
 use mathlib.Core.Path.{◌∙◌}
-use Prim.Native.Nat.{suc, ◌-◌, ◌≤◌, ◌<◌}
+use Prim.Native.Nat.{suc, ◌≤◌, ◌<◌}
 use lib.ListN.{length, length-set}
 use Rattle.ranked.specs.Words.{first_at}
 use Rattle.ranked.specs.Layout.{types_at}
 use Rattle.element_types.specs.Start.{Startable}
-use Rattle.element_types.proofs.settling.Begun.{TypesBegun, opened, long₂, startable_opened, starts_in, begun_first, offsets, fitting, begun-next, begun-end}
+use Rattle.element_types.proofs.settling.Begun.{opened, long₂, startable_opened, starts_in, begun_first, offsets, fitting, begun-next, begun-end}
 use Rattle.element_types.proofs.settling.starting.start.Goals.{After-scratch-out, In-loop-r}
 use Rattle.element_types.proofs.settling.starting.start.Goals as goal
 
@@ -65,7 +64,7 @@ pub overflow_add-r : goal.overflow_add-r
 overflow_add-r c = omega (arith, c.loop-r-test.true, c.requires.sweepable.held.tall)
 
 pub loop-r-preserved : goal.loop-r-preserved
-loop-r-preserved c = 
+loop-r-preserved c =
     begun-next _ _ _ (ready (goal.at.loop-r-preserved c).After-scratch-out) _ _ c.loop-r.invariant c.loop-r-test.true _ _ _ _ c.types-to.ensures c.scratch-out.ensures c.size-n.ensures
     c.proper_number-from.ensures _ c.number_classes.ensures
 

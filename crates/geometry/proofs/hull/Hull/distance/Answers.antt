@@ -5,7 +5,6 @@ use native.Mathlib.Omega.{arith}
 use lib.ListN.{take, length, replicate, length-replicate}
 use lib.Seq.{length-take-le}
 use lib.Ieee.{of_bits}
-use borrow.Author.Rules.{rules}
 use Rattle.spec.specs.Limits.{max_dimension}
 use Rattle.spec.specs.Float.{zero_f, norm}
 use Rattle.spec.specs.Matrix.{Vector}

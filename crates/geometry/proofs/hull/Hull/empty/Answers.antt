@@ -3,7 +3,6 @@
 use mathlib.Core.Path.{refl, ap}
 use mathlib.Core.List.{[]}
 use lib.ListN.{length}
-use borrow.Author.Rules.{rules}
 use Rattle.spec.specs.Lists.{range}
 use Rattle.spec.specs.Matrix.{Vector}
 use Rattle.spec.specs.Hull.{Hull}

@@ -1,6 +1,6 @@
 use mathlib.Core.Path.{◌≡◌, sym, ap, ◌∙◌}
 use mathlib.Core.List.{map}
-use Prim.Native.Nat.{◌+◌, ◌*◌, ◌≤◌, ◌-◌}
+use Prim.Native.Nat.{◌+◌, ◌*◌, ◌-◌}
 use native.Mathlib.Omega.{arith}
 use lib.ListN.{take, drop, length}
 use lib.Seq.{length-take-le}
@@ -11,7 +11,7 @@ use Rattle.spec.specs.Float.{dot}
 use Rattle.spec.specs.Matrix.{Vector}
 use Rattle.spec.specs.Hull.{along, project}
 use Rattle.geometry.specs.Reading.{vector_at, hull_in}
-use Rattle.geometry.proofs.Along.{Along, none, next, end, part_is, vector_long, moved_is}
+use Rattle.geometry.proofs.Along.{none, next, end, part_is, vector_long, moved_is}
 use Rattle.geometry.proofs.hull.Hull.project.Goals.{After-difference-away, In-loop-k, Start}
 use Rattle.geometry.proofs.hull.Hull.project.Goals as goal
 

@@ -1,7 +1,6 @@
 -- The difference is that of the definition, once the projection is.
 -- Assumes nothing.
 use mathlib.Core.Path.{ap, ◌∙◌}
-use borrow.Author.Rules.{rules}
 use Rattle.spec.specs.Float.{minus, zip}
 use Rattle.spec.specs.Hull.{rest}
 use Rattle.geometry.proofs.hull.Hull.rest.Goals as goal

@@ -1,13 +1,10 @@
 use borrow.Author.Rules.{rules}
 use native.Mathlib.Omega.{arith}
 use mathlib.Core.Path.{sym, ◌∙◌}
-use Prim.Native.Nat.{◌-◌}
-use borrow.Author.Tests.{not-true, not-false}
-use Rattle.spec.specs.Lists.{eq_list, no_repeats}
-use Rattle.spec.specs.Types.{top, proper_ranks, vertex_sets}
-use Rattle.ranked.specs.Words.{lists_of, abs_in}
+use Rattle.spec.specs.Types.{proper_ranks}
+use Rattle.ranked.specs.Words.{lists_of}
 use Rattle.ranked.proofs.Solids.{top_is}
-use Rattle.symmetry.proofs.vertex_sets.Ranks.{RanksPass, ranks-none, ranks_yes, ranks_no, ranks-all}
+use Rattle.symmetry.proofs.vertex_sets.Ranks.{ranks-none, ranks_yes, ranks_no, ranks-all}
 use Rattle.symmetry.proofs.vertex_sets.apart.are_apart.Goals as goal
 
 pub loop-r-init : goal.loop-r-init
@@ -17,9 +14,9 @@ loop-r-init c = ranks-none _ _ _
 pub rank_apart-requires : goal.rank_apart-requires
 unfolding proper_ranks
 rank_apart-requires c = record {
-      fingerprinted = c.requires;
-      le_r = (c.loop-r.invariant.low, c.loop-r-test.true);
-    }
+  fingerprinted = c.requires;
+  le_r = (c.loop-r.invariant.low, c.loop-r-test.true);
+}
 
 pub returns-then-not-rank_apart : goal.returns-then-not-rank_apart
 unfolding proper_ranks

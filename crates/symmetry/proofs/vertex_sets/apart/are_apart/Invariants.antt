@@ -1,15 +1,10 @@
 -- The ranks below r pass.
 -- Assumes nothing.
-use borrow.Author.Rules.{rules}
-use native.Mathlib.Omega.{arith}
-use mathlib.Core.Path.{sym, ◌∙◌}
 use Prim.Native.Nat.{◌-◌}
-use borrow.Author.Tests.{not-true, not-false}
 use Rattle.spec.specs.Lists.{eq_list, no_repeats}
-use Rattle.spec.specs.Types.{top, proper_ranks, vertex_sets}
+use Rattle.spec.specs.Types.{top, vertex_sets}
 use Rattle.ranked.specs.Words.{lists_of, abs_in}
-use Rattle.ranked.proofs.Solids.{top_is}
-use Rattle.symmetry.proofs.vertex_sets.Ranks.{RanksPass, ranks-none, ranks_yes, ranks_no, ranks-all}
+use Rattle.symmetry.proofs.vertex_sets.Ranks.{RanksPass}
 use Rattle.symmetry.proofs.vertex_sets.apart.are_apart.Given as goal
 
 abbrev pub invariant-loop-r : goal.invariant-loop-r

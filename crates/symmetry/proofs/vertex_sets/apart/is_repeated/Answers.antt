@@ -1,6 +1,5 @@
 -- The element's vertices are listed and looked for among the later elements' sets.
 -- Assumes nothing.
-use borrow.Author.Rules.{rules}
 use native.Mathlib.Omega.{arith}
 use native.Mathlib.Numerals.{add-one}
 use mathlib.Core.Path.{ap₂, ◌∙◌}
@@ -35,13 +34,13 @@ slice_bounds-is_vertex_set-end c = list-part (held (goal.at.slice_bounds-is_vert
 
 pub is_vertex_set-requires : goal.is_vertex_set-requires
 is_vertex_set-requires c = record {
-      fingerprinted = c.requires.fingerprinted;
-      le_r = (c.requires.proper_element.above, c.requires.proper_element.under, omega (arith, c.requires.proper_element.inside));
-      list_len_bound = list_short (held (goal.at.is_vertex_set-requires c).After-lists) c.requires.proper_element c.vertex_list-n.ensures;
-    }
+  fingerprinted = c.requires.fingerprinted;
+  le_r = (c.requires.proper_element.above, c.requires.proper_element.under, omega (arith, c.requires.proper_element.inside));
+  list_len_bound = list_short (held (goal.at.is_vertex_set-requires c).After-lists) c.requires.proper_element c.vertex_list-n.ensures;
+}
 
 pub returns : goal.returns
-returns c = 
+returns c =
     let a = c.args in
     c.is_vertex_set.ensures
     ∙ ap₂ (λ (c : List ℕ) (i : ℕ). holds eq_list c (drop i (vertex_sets (abs_in a.sh (lists_of a.sh a.words.now)) a.r))) (rw c.lists.ensures at (list_is (held (goal.at.returns c).After-lists) c.requires.proper_element c.vertex_list-n.ensures)) (add-one a.e)

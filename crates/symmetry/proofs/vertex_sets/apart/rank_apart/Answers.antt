@@ -1,10 +1,9 @@
-use borrow.Author.Rules.{rules}
 use native.Mathlib.Omega.{arith}
-use mathlib.Core.Path.{◌≡◌, refl, sym, ◌∙◌}
-use Prim.Native.Nat.{◌-◌, ◌<◌}
+use mathlib.Core.Path.{refl, sym, ◌∙◌}
+use Prim.Native.Nat.{◌<◌}
 use Rattle.spec.specs.Types.{size}
 use Rattle.ranked.specs.Words.{lists_of, abs_in}
-use Rattle.symmetry.proofs.vertex_sets.Sets.{Alone, alone_yes, alone_no, alone_end}
+use Rattle.symmetry.proofs.vertex_sets.Sets.{alone_yes, alone_no, alone_end}
 use Rattle.symmetry.proofs.vertex_sets.Looks.{can_count, many_is, few_here, element}
 use Rattle.symmetry.proofs.vertex_sets.apart.rank_apart.Goals.{In-loop-e}
 use Rattle.symmetry.proofs.vertex_sets.apart.rank_apart.Goals as goal
@@ -20,9 +19,9 @@ loop-e-init c = (many_is c.requires.fingerprinted.held _ c.requires.le_r.1 _ c.s
 
 pub is_repeated-requires : goal.is_repeated-requires
 is_repeated-requires c = record {
-      fingerprinted = c.requires.fingerprinted;
-      proper_element = element c.requires.fingerprinted.held _ _ c.requires.le_r.0 c.requires.le_r.1 (inside c);
-    }
+  fingerprinted = c.requires.fingerprinted;
+  proper_element = element c.requires.fingerprinted.held _ _ c.requires.le_r.0 c.requires.le_r.1 (inside c);
+}
 
 pub returns-then-is_repeated : goal.returns-then-is_repeated
 returns-then-is_repeated c = alone_no _ _ c.loop-e.e (inside (goal.at.returns-then-is_repeated c).In-loop-e) c.loop-e.invariant.1 (sym c.if-is_repeated.true ∙ c.is_repeated.ensures)

@@ -1,13 +1,10 @@
 -- What is left repeats no set exactly where the whole repeats none.
 -- Assumes nothing.
-use borrow.Author.Rules.{rules}
-use native.Mathlib.Omega.{arith}
-use mathlib.Core.Path.{◌≡◌, refl, sym, ◌∙◌}
-use Prim.Native.Nat.{◌-◌, ◌<◌}
+use mathlib.Core.Path.{◌≡◌}
+use Prim.Native.Nat.{◌-◌}
 use Rattle.spec.specs.Types.{size}
 use Rattle.ranked.specs.Words.{lists_of, abs_in}
-use Rattle.symmetry.proofs.vertex_sets.Sets.{Alone, alone_yes, alone_no, alone_end}
-use Rattle.symmetry.proofs.vertex_sets.Looks.{can_count, many_is, few_here, element}
+use Rattle.symmetry.proofs.vertex_sets.Sets.{Alone}
 use Rattle.symmetry.proofs.vertex_sets.apart.rank_apart.Given as goal
 
 abbrev pub invariant-loop-e : goal.invariant-loop-e

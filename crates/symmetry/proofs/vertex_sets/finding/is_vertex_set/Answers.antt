@@ -1,12 +1,11 @@
-use borrow.Author.Rules.{rules}
 use native.Mathlib.Omega.{arith}
-use mathlib.Core.Path.{◌≡◌, refl, sym, ◌∙◌}
-use Prim.Native.Nat.{◌+◌, ◌-◌, ◌<◌}
+use mathlib.Core.Path.{refl, sym, ◌∙◌}
+use Prim.Native.Nat.{◌+◌, ◌<◌}
 use lib.ListN.{length}
 use Rattle.spec.specs.Types.{size}
 use Rattle.ranked.specs.Words.{lists_of, abs_in}
 use Rattle.symmetry.specs.Fingerprints.{ProperElement}
-use Rattle.symmetry.proofs.vertex_sets.Sets.{SetSought, sought_yes, sought_no, sought_end}
+use Rattle.symmetry.proofs.vertex_sets.Sets.{sought_yes, sought_no, sought_end}
 use Rattle.symmetry.proofs.vertex_sets.Looks.{can_count, many_is, few_here, element, fingerprint_in, fingerprints_in, fingerprint_differs}
 use Rattle.symmetry.proofs.vertex_sets.finding.is_vertex_set.Goals.{In-loop-e}
 use Rattle.symmetry.proofs.vertex_sets.finding.is_vertex_set.Goals as goal
@@ -29,7 +28,7 @@ pub fingerprint_of-p-requires : goal.fingerprint_of-p-requires
 fingerprint_of-p-requires c = c.requires.list_len_bound
 
 pub fingerprints-first-requires : goal.fingerprints-first-requires
-fingerprints-first-requires c = 
+fingerprints-first-requires c =
     let f = fingerprints_in c.args.sh c.args.words.now c.requires.fingerprinted.held c.requires.fingerprinted.room c.args.r c.requires.le_r.1 in
     (f.0, f.1, omega (arith, f.2))
 
@@ -53,9 +52,9 @@ lists-requires c = omega (arith, c.requires.fingerprinted.room)
 
 pub same_vertices-requires : goal.same_vertices-requires
 same_vertices-requires c = record {
-      held = rw c.lists.ensures c.requires.fingerprinted.held;
-      proper_element = here (goal.at.same_vertices-requires c).In-loop-e;
-    }
+  held = rw c.lists.ensures c.requires.fingerprinted.held;
+  proper_element = here (goal.at.same_vertices-requires c).In-loop-e;
+}
 
 pub returns-then-same_vertices : goal.returns-then-same_vertices
 returns-then-same_vertices c = sought_yes _ _ _ c.args.from c.loop-e.e (inside (goal.at.returns-then-same_vertices c).In-loop-e) c.loop-e.invariant.1 (sym c.if-same_vertices.true ∙ (rw c.lists.ensures at c.same_vertices.ensures))
@@ -65,10 +64,10 @@ loop-e-preserved-else-same_vertices c = (c.loop-e.invariant.0, sought_no _ _ _ c
 
 pub loop-e-preserved : goal.loop-e-preserved
 loop-e-preserved c = (
-      c.loop-e.invariant.0,
-      sought_no _ _ _ c.args.from c.loop-e.e (inside (goal.at.loop-e-preserved c).In-loop-e) c.loop-e.invariant.1
-          (fingerprint_differs c.requires.fingerprinted _ _ (here (goal.at.loop-e-preserved c).In-loop-e) _ _ _ (rw c.fingerprints-first.ensures at c.get.ensures) c.fingerprint_of-p.ensures c.if-get-p.false),
-    )
+  c.loop-e.invariant.0,
+  sought_no _ _ _ c.args.from c.loop-e.e (inside (goal.at.loop-e-preserved c).In-loop-e) c.loop-e.invariant.1
+      (fingerprint_differs c.requires.fingerprinted _ _ (here (goal.at.loop-e-preserved c).In-loop-e) _ _ _ (rw c.fingerprints-first.ensures at c.get.ensures) c.fingerprint_of-p.ensures c.if-get-p.false),
+)
 
 pub returns : goal.returns
 returns c = sought_end _ _ _ c.args.from c.loop-e.e (rw c.loop-e.invariant.0 at c.loop-e-test.false) c.loop-e.invariant.1

@@ -1,15 +1,10 @@
 -- What is left holds the list exactly where all that was to be looked at does.
 -- Assumes nothing.
-use borrow.Author.Rules.{rules}
-use native.Mathlib.Omega.{arith}
-use mathlib.Core.Path.{◌≡◌, refl, sym, ◌∙◌}
-use Prim.Native.Nat.{◌+◌, ◌-◌, ◌<◌}
-use lib.ListN.{length}
+use mathlib.Core.Path.{◌≡◌}
+use Prim.Native.Nat.{◌-◌}
 use Rattle.spec.specs.Types.{size}
 use Rattle.ranked.specs.Words.{lists_of, abs_in}
-use Rattle.symmetry.specs.Fingerprints.{ProperElement}
-use Rattle.symmetry.proofs.vertex_sets.Sets.{SetSought, sought_yes, sought_no, sought_end}
-use Rattle.symmetry.proofs.vertex_sets.Looks.{can_count, many_is, few_here, element, fingerprint_in, fingerprints_in, fingerprint_differs}
+use Rattle.symmetry.proofs.vertex_sets.Sets.{SetSought}
 use Rattle.symmetry.proofs.vertex_sets.finding.is_vertex_set.Given as goal
 
 abbrev pub invariant-loop-e : goal.invariant-loop-e

@@ -1,8 +1,7 @@
 use borrow.Author.Rules.{rules}
 use native.Mathlib.Omega.{arith}
 use mathlib.Core.Path.{refl, sym}
-use Prim.Native.Nat.{◌≤◌, ◌-◌}
-use Rattle.element_types.proofs.Compared.{Same, same_yes, same_no, same_end, other_length}
+use Rattle.element_types.proofs.Compared.{same_yes, same_no, same_end, other_length}
 use Rattle.symmetry.proofs.vertex_sets.finding.same_list.Goals as goal
 
 pub returns-then-b-n : goal.returns-then-b-n

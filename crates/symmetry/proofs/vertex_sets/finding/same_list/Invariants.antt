@@ -1,10 +1,7 @@
 -- What is left is the same exactly if all is.
 -- Assumes nothing.
-use borrow.Author.Rules.{rules}
-use native.Mathlib.Omega.{arith}
-use mathlib.Core.Path.{refl, sym}
 use Prim.Native.Nat.{◌≤◌, ◌-◌}
-use Rattle.element_types.proofs.Compared.{Same, same_yes, same_no, same_end, other_length}
+use Rattle.element_types.proofs.Compared.{Same}
 use Rattle.symmetry.proofs.vertex_sets.finding.same_list.Given as goal
 
 abbrev pub invariant-loop-k : goal.invariant-loop-k

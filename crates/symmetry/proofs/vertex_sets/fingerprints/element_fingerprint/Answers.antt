@@ -1,6 +1,5 @@
 -- The element's vertices are listed, and their fingerprint fits a word.
 -- Assumes nothing.
-use borrow.Author.Rules.{rules}
 use native.Mathlib.Omega.{arith}
 use mathlib.Core.Path.{ap, ◌∙◌}
 use Rattle.ranked.specs.Words.{abs_in}
@@ -24,7 +23,7 @@ pub fingerprint_of-requires : goal.fingerprint_of-requires
 fingerprint_of-requires c = list_short c.requires.held c.requires.proper_element c.vertex_list-n.ensures
 
 pub overflow_cast-result : goal.overflow_cast-result
-overflow_cast-result c = 
+overflow_cast-result c =
     let a = c.args in
     omega (
       arith,

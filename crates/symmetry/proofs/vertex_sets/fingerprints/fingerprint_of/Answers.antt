@@ -1,8 +1,7 @@
-use borrow.Author.Rules.{rules}
 use native.Mathlib.Omega.{arith}
-use Prim.Native.Nat.{◌-◌, ◌^◌, ◌<◌}
+use Prim.Native.Nat.{◌^◌, ◌<◌}
 use lib.ListN.{get_or}
-use Rattle.symmetry.proofs.vertex_sets.Summed.{Summed, summed_first, square-fits, sum_fits, summed_next, summed_end}
+use Rattle.symmetry.proofs.vertex_sets.Summed.{summed_first, square-fits, sum_fits, summed_next, summed_end}
 use Rattle.symmetry.proofs.vertex_sets.fingerprints.fingerprint_of.Goals.{After-shared_slice_known-in-loop-k-1}
 use Rattle.symmetry.proofs.vertex_sets.fingerprints.fingerprint_of.Goals as goal
 

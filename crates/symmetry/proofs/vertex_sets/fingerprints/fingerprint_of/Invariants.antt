@@ -1,10 +1,7 @@
 -- The sum over the entries passed and that over those left are the sum over all.
 -- Assumes nothing.
-use borrow.Author.Rules.{rules}
-use native.Mathlib.Omega.{arith}
-use Prim.Native.Nat.{◌-◌, ◌^◌, ◌<◌}
-use lib.ListN.{get_or}
-use Rattle.symmetry.proofs.vertex_sets.Summed.{Summed, summed_first, square-fits, sum_fits, summed_next, summed_end}
+use Prim.Native.Nat.{◌-◌}
+use Rattle.symmetry.proofs.vertex_sets.Summed.{Summed}
 use Rattle.symmetry.proofs.vertex_sets.fingerprints.fingerprint_of.Given as goal
 
 abbrev pub invariant-loop-k : goal.invariant-loop-k

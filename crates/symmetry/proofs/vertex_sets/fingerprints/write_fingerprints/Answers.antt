@@ -1,7 +1,5 @@
-use borrow.Author.Rules.{rules}
 use native.Mathlib.Omega.{arith}
-use Prim.Native.Nat.{◌-◌}
-use Rattle.symmetry.proofs.vertex_sets.Rows.{RanksStand, ranks-first, ranks_held, ranks-next, ranks-end}
+use Rattle.symmetry.proofs.vertex_sets.Rows.{ranks-first, ranks_held, ranks-next, ranks-end}
 use Rattle.symmetry.proofs.vertex_sets.fingerprints.write_fingerprints.Goals as goal
 
 pub loop-r-init : goal.loop-r-init
@@ -9,10 +7,10 @@ loop-r-init c = ranks-first _ _
 
 pub write_rank-requires : goal.write_rank-requires
 write_rank-requires c = record {
-      held = ranks_held c.loop-r.invariant c.requires.held;
-      rank_in_bounds = omega (arith, c.loop-r.invariant.long, c.requires.rank_in_bounds);
-      le_r = (c.loop-r.invariant.proper, c.loop-r-test.true);
-    }
+  held = ranks_held c.loop-r.invariant c.requires.held;
+  rank_in_bounds = omega (arith, c.loop-r.invariant.long, c.requires.rank_in_bounds);
+  le_r = (c.loop-r.invariant.proper, c.loop-r-test.true);
+}
 
 pub overflow_add-r : goal.overflow_add-r
 overflow_add-r c = omega (arith, c.loop-r-test.true, c.requires.held.tall)
@@ -25,6 +23,6 @@ shape_of-words c = c.loop-r.invariant.long
 
 pub returns : goal.returns
 returns c = record {
-      words_unchanged = c.loop-r.invariant.kept;
-      fingerprinted = ranks-end c.loop-r.invariant c.requires.held c.loop-r-test.false c.requires.rank_in_bounds;
-    }
+  words_unchanged = c.loop-r.invariant.kept;
+  fingerprinted = ranks-end c.loop-r.invariant c.requires.held c.loop-r-test.false c.requires.rank_in_bounds;
+}

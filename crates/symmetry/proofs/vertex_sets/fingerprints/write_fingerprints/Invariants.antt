@@ -1,9 +1,7 @@
 -- The fingerprints below rank r stand, and nothing before the first of them changed.
 -- Assumes nothing.
-use borrow.Author.Rules.{rules}
-use native.Mathlib.Omega.{arith}
 use Prim.Native.Nat.{◌-◌}
-use Rattle.symmetry.proofs.vertex_sets.Rows.{RanksStand, ranks-first, ranks_held, ranks-next, ranks-end}
+use Rattle.symmetry.proofs.vertex_sets.Rows.{RanksStand}
 use Rattle.symmetry.proofs.vertex_sets.fingerprints.write_fingerprints.Given as goal
 
 abbrev pub invariant-loop-r : goal.invariant-loop-r

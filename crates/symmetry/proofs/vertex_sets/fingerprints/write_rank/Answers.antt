@@ -1,8 +1,7 @@
-use borrow.Author.Rules.{rules}
 use native.Mathlib.Omega.{arith}
-use Prim.Native.Nat.{◌+◌, ◌-◌, ◌<◌}
+use Prim.Native.Nat.{◌+◌, ◌<◌}
 use lib.ListN.{length}
-use Rattle.symmetry.proofs.vertex_sets.Rows.{ElementsStand, elements-first, elements-low, elements_held, element_here, elements_in, elements-next, elements-end}
+use Rattle.symmetry.proofs.vertex_sets.Rows.{elements-first, elements-low, elements_held, element_here, elements_in, elements-next, elements-end}
 use Rattle.symmetry.proofs.vertex_sets.Looks.{can_count, fingerprints_in}
 use Rattle.symmetry.proofs.vertex_sets.fingerprints.write_rank.Goals.{After-element_fingerprint-p}
 use Rattle.symmetry.proofs.vertex_sets.fingerprints.write_rank.Goals as goal
@@ -11,7 +10,7 @@ cell : (c : After-element_fingerprint-p) → c.fingerprints-first.result + c.loo
 cell c = elements_in c.loop-e.invariant c.requires.held c.requires.rank_in_bounds c.requires.le_r c.loop-e-test.true
 
 pub fingerprints-first-requires : goal.fingerprints-first-requires
-fingerprints-first-requires c = 
+fingerprints-first-requires c =
     let f = fingerprints_in c.args.sh c.args.words.now c.requires.held c.requires.rank_in_bounds c.args.r c.requires.le_r.1 in
     (f.0, f.1, omega (arith, f.2))
 
@@ -26,9 +25,9 @@ lists-requires c = elements-low c.loop-e.invariant c.requires.held c.requires.ra
 
 pub element_fingerprint-p-requires : goal.element_fingerprint-p-requires
 element_fingerprint-p-requires c = record {
-      held = rw c.lists.ensures (elements_held c.loop-e.invariant c.requires.held c.requires.rank_in_bounds c.requires.le_r);
-      proper_element = element_here c.loop-e.invariant c.requires.held c.requires.rank_in_bounds c.requires.le_r c.loop-e-test.true;
-    }
+  held = rw c.lists.ensures (elements_held c.loop-e.invariant c.requires.held c.requires.rank_in_bounds c.requires.le_r);
+  proper_element = element_here c.loop-e.invariant c.requires.held c.requires.rank_in_bounds c.requires.le_r c.loop-e-test.true;
+}
 
 pub overflow_add-words : goal.overflow_add-words
 overflow_add-words c = omega (arith, cell c)
@@ -50,6 +49,6 @@ shape_of-words c = c.loop-e.invariant.long
 
 pub returns : goal.returns
 returns c = record {
-      words_unchanged = c.loop-e.invariant.kept;
-      by_index = elements-end c.loop-e.invariant c.requires.held c.requires.rank_in_bounds c.requires.le_r c.loop-e-test.false;
-    }
+  words_unchanged = c.loop-e.invariant.kept;
+  by_index = elements-end c.loop-e.invariant c.requires.held c.requires.rank_in_bounds c.requires.le_r c.loop-e-test.false;
+}

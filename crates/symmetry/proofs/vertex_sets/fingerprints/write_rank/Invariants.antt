@@ -1,11 +1,7 @@
 -- The fingerprints of the first e elements stand, and nothing before them changed.
 -- Assumes nothing.
-use borrow.Author.Rules.{rules}
-use native.Mathlib.Omega.{arith}
-use Prim.Native.Nat.{◌+◌, ◌-◌, ◌<◌}
-use lib.ListN.{length}
-use Rattle.symmetry.proofs.vertex_sets.Rows.{ElementsStand, elements-first, elements-low, elements_held, element_here, elements_in, elements-next, elements-end}
-use Rattle.symmetry.proofs.vertex_sets.Looks.{can_count, fingerprints_in}
+use Prim.Native.Nat.{◌-◌}
+use Rattle.symmetry.proofs.vertex_sets.Rows.{ElementsStand}
 use Rattle.symmetry.proofs.vertex_sets.fingerprints.write_rank.Given as goal
 
 abbrev pub invariant-loop-e : goal.invariant-loop-e
