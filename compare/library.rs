@@ -1,4 +1,4 @@
-//! The calls of libjidwaleb.a (crates/jidwaleb). Nothing checks these declarations against the Rattle source, so the two have to be kept alike by
+//! The calls of libjidwaleb.a (crates/jidwaleb_c). Nothing checks these declarations against the Rattle source, so the two have to be kept alike by
 //! hand. A slice is passed as a pointer and a length. Every lent buffer, the input too, stands between guard cells, which are looked at after the
 //! call. What a call only reads is lent in a way that it could be changed as well, and is looked at afterwards.
 

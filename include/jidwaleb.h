@@ -7,7 +7,7 @@
  * buffer of that call.
  *
  * Input. Nothing else is asked of the input: any bytes, any floats and any lengths get an answer, which is proved to be the one that the
- * definitions of crates/spec give. These declarations themselves are not checked against the source (crates/jidwaleb); they stand in its order.
+ * definitions of crates/spec give. These declarations themselves are not checked against the source (crates/jidwaleb_c); they stand in its order.
  *
  * Solids. docs/SHEET.md says how a solid is packed into a sheet. Distances are taken from the origin, and a member is a matrix, which leaves the origin
  * where it is: a solid is to be centred at the origin. Coordinates and distances are compared with the absolute tolerance 1e-7, so coordinates are to

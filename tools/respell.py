@@ -7,7 +7,8 @@ The toolchain's own script respells the names that its library shares with this 
 in the specs/ and proofs/ of every crate: `firstFar` becomes `first_far`, and `parts-join` becomes `parts_join`; `length-join` keeps its dash, since
 `length` and `join` are definitions both. Names from the library, names that Rust sources have, types and facts keep theirs. It also respells the
 names where contracts, must-fail edits and documents cite them. A name that would fall together with another one stays as it is, and is reported.
-With --names nothing is written, and the pairs of names are printed.
+With --names nothing is written, and the pairs of names are printed. It was run once (docs/PORT.md), on the tree that the toolchain's script left, and
+is not to be run again: the names that it gave would be taken for old ones.
 """
 import glob
 import os

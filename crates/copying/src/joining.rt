@@ -2,7 +2,7 @@
 // copies stand one after another in a lent buffer, d floats each, and `limit` says how many of them there may be.
 ghost use Rattle.std.specs.Prelude.{◌≡◌, ◌*◌, ◌≤◌, length, take, drop};
 ghost use Rattle.spec.specs.Limits.{max_dimension};
-ghost use Rattle.spec.specs.Copying.{spread as spread_of, copies as copiesOf, points as points_of, matrices};
+ghost use Rattle.spec.specs.Copying.{spread as spread_of, copies as copies_of, points as points_of, matrices};
 ghost use Rattle.spec.specs.Lists.{parts, written};
 ghost use Rattle.matrix.specs.Reading.{corner};
 ghost use Rattle.copying.specs.Post.{CopiesKept, with_image, with_point};
@@ -83,7 +83,7 @@ fn point_copied(
 // Makes all the copies. Copies only ever join at the end, so the ones that fit are the first ones.
 pub fn copies(from: &[f64], turns: &[f64], d: usize, limit: usize, out: &mut [f64]) -> CopyRoom
     requires { (1 ≤ d) × (d ≤ max_dimension) × (limit * d ≤ length out.old) }
-    ensures { CopiesKept d limit (copiesOf (matrices d turns.now) (points_of d from.now)) out.old out.new result }
+    ensures { CopiesKept d limit (copies_of (matrices d turns.now) (points_of d from.now)) out.old out.new result }
 {
     let count = from.len() / d;
     let mut n: usize = 0;

@@ -4,7 +4,7 @@
 ghost use Rattle.std.specs.Prelude.{◌≡◌, ◌/◌, ◌≤◌, min, length};
 ghost use Rattle.spec.specs.Limits.{max_count};
 ghost use Rattle.spec.specs.Judged.{passed};
-ghost use Rattle.spec.specs.Copying.{copies as copiesOf, points as points_of, matrices, judge_copy, copy_out, copy_call};
+ghost use Rattle.spec.specs.Copying.{copies as copies_of, points as points_of, matrices, judge_copy, copy_out, copy_call};
 
 use spec::{Answer, MAX_COUNT, Refusal, Verdict};
 
@@ -33,7 +33,7 @@ fn copied(d: usize, from: &[f64], turns: &[f64], out: &mut [f64], table: &mut [u
     requires { judge_copy d from.now turns.now ≡ passed tt }
     ensures { (result, out.new, table.new)
         ≡ copy_out (min max_count (length out.old / d)) (matrices d turns.now)
-        (copiesOf (matrices d turns.now) (points_of d from.now)) out.old table.old }
+        (copies_of (matrices d turns.now) (points_of d from.now)) out.old table.old }
 {
     let limit = room(out.len(), d);
     let CopyRoom::Fits(n) = joining::copies(from, turns, d, limit, out) else {

@@ -2,7 +2,7 @@
 ghost use Rattle.std.specs.Prelude.{◌≡◌, ◌⊎◌, ◌+◌, ◌*◌, ◌^◌, ◌≤◌, ◌<◌};
 ghost use Rattle.std.specs.Float.{binary64};
 ghost use Rattle.std.specs.Float.Ieee.{of_bits};
-ghost use Rattle.spec.specs.Float.{root as rootOf, root_down, root_units};
+ghost use Rattle.spec.specs.Float.{root as root_of, root_down, root_units};
 ghost use Rattle.spec.specs.Root.{in_units};
 
 // This is the bit pattern of the positive infinity. Below it are the patterns of the finite values.
@@ -113,7 +113,7 @@ fn root_bits(b: u64) -> u64
 // fails both tests against zero, and is its own root. `EveryRoot` of crate `laws` says that the definition is IEEE 754's root, and its `root_facts`
 // says that the root of a finite x that is not negative is finite, not negative, and zero only at zero.
 pub fn root(x: f64) -> f64
-    ensures { result ≡ rootOf x }
+    ensures { result ≡ root_of x }
 {
     if x > 0.0 {
         let b = f64::to_bits(x);

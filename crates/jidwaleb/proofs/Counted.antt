@@ -24,22 +24,22 @@ use Rattle.types.proofs.Few.{call-count}
 pub types-count : (b : List ℕ) (words floats : ℕ) (old : TypesOut) → answer_count (types_call b words floats old).0 < 2 ^ 32
 types-count b words floats old = omega (arith, call-count b words floats old)
 
-module _ (n : ℕ) (ms : List Matrix) (cs : List Vector) (outPoints : List Float) (outTable : List ℕ) where
+module _ (n : ℕ) (ms : List Matrix) (cs : List Vector) (out_points : List Float) (out_table : List ℕ) where
   abbrev cells : ℕ
   cells = length ms * length cs
 
   abbrev CountWithin : Answer × List Float × List ℕ → Type 0
   CountWithin o = answer_count o.0 ≤ n
 
-  out-count : CountWithin (copy_out n ms cs outPoints outTable)
+  out-count : CountWithin (copy_out n ms cs out_points out_table)
   unfolding copy_out
-  out-count = go (leb (length cs) n) refl (leb cells (length outTable)) (holds eqb (length cs) (copy_table ms cs))
+  out-count = go (leb (length cs) n) refl (leb cells (length out_table)) (holds eqb (length cs) (copy_table ms cs))
     where
       go : (a : Bool) → leb (length cs) n ≡ a → (b c : Bool) → CountWithin (elim (a && b) [
-        | false ↦ (Refused ShortSheet (length (take n cs)), written (join (take n cs)) outPoints, outTable)
+        | false ↦ (Refused ShortSheet (length (take n cs)), written (join (take n cs)) out_points, out_table)
         | true ↦ elim c [
-          | true ↦ (Refused Open (length (take n cs)), written (join (take n cs)) outPoints, written (replicate cells no_image) outTable)
-          | false ↦ (Done (length cs), written (join (take n cs)) outPoints, written (copy_table ms cs) outTable)
+          | true ↦ (Refused Open (length (take n cs)), written (join (take n cs)) out_points, written (replicate cells no_image) out_table)
+          | false ↦ (Done (length cs), written (join (take n cs)) out_points, written (copy_table ms cs) out_table)
         ]
       ])
       go false p b c = omega (arith, length-take n cs)
@@ -47,12 +47,12 @@ module _ (n : ℕ) (ms : List Matrix) (cs : List Vector) (outPoints : List Float
       go true p true true = omega (arith, length-take n cs)
       go true p true false = le_test (length cs) n p
 
-pub copy-count : (d : ℕ) (ps ts outPoints : List Float) (outTable : List ℕ) → answer_count (copy_call d ps ts outPoints outTable).0 < 2 ^ 32
+pub copy-count : (d : ℕ) (ps ts out_points : List Float) (out_table : List ℕ) → answer_count (copy_call d ps ts out_points out_table).0 < 2 ^ 32
 unfolding copy_call
-copy-count d ps ts outPoints outTable = go (judge_copy d ps ts)
+copy-count d ps ts out_points out_table = go (judge_copy d ps ts)
   where
     room : ℕ
-    room = min max_count (length outPoints / d)
+    room = min max_count (length out_points / d)
 
     ms : List Matrix
     ms = matrices d ts
@@ -64,8 +64,8 @@ copy-count d ps ts outPoints outTable = go (judge_copy d ps ts)
     CodeFits o = answer_count o.0 < 2 ^ 32
 
     go : (j : Judged (Unit {0})) → CodeFits (elim j [
-      | refused why ↦ (Refused why 0, outPoints, outTable)
-      | passed u ↦ copy_out room ms cs outPoints outTable
+      | refused why ↦ (Refused why 0, out_points, out_table)
+      | passed u ↦ copy_out room ms cs out_points out_table
     ])
     go (refused why) = omega arith
-    go (passed u) = omega (arith, out-count room ms cs outPoints outTable)
+    go (passed u) = omega (arith, out-count room ms cs out_points out_table)

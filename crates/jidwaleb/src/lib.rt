@@ -1,7 +1,8 @@
-// This crate has the public calls over C's interface, for the static library. A slice goes as a pointer and then a length, in its elements; the
-// caller lends every buffer. A call answers one number: the refusal's number of document 01's table, or 0, times 2^32, plus the count of what it gave
-// out (types; members and copies, at 13 those that fitted). The count is below 2^32, so that a caller reads both back (`Decoded`). What a call writes
-// is what its definition in crate `spec` says, and what demand 3 says of the types and the members holds of the cells, rows and marks here.
+// This crate has the public calls as C gets them, which crate `jidwaleb_c` exports from the static library. There a slice goes as a pointer and then a
+// length, in its elements; the caller lends every buffer. A call answers one number: the refusal's number of document 01's table, or 0, times 2^32,
+// plus the count of what it gave out (types; members and copies, at 13 those that fitted). The count is below 2^32, so that a caller reads both back
+// (`Decoded`). What a call writes is what its definition in crate `spec` says, and what demand 3 says of the types and the members holds of the cells,
+// rows and marks here.
 #![tactic(auto)]
 
 ghost use Rattle.std.specs.Prelude.{◌≡◌, length, ◌<◌, ◌^◌};

@@ -315,38 +315,38 @@ record PointsFit (n d l : ℕ) : Type 0 where
   cells : n * d ≤ l
   most : (n ≡ max_count) ⊎ (l < suc n * d)
 
-module _ (d : ℕ) (ms : List Matrix) (cs : List Vector) (outPoints : List Float) (outTable : List ℕ) where
+module _ (d : ℕ) (ms : List Matrix) (cs : List Vector) (out_points : List Float) (out_table : List ℕ) where
   abbrev All : ℕ → List Float → List ℕ → Type 0
-  All = AllCopies d ms cs outPoints outTable
+  All = AllCopies d ms cs out_points out_table
 
   abbrev FirstKept : ℕ → List Float → List ℕ → Type 0
-  FirstKept = FirstCopies d ms cs outPoints outTable
+  FirstKept = FirstCopies d ms cs out_points out_table
 
   abbrev Unclosed : ℕ → List Float → List ℕ → Type 0
-  Unclosed = OpenCopies d ms cs outPoints outTable
+  Unclosed = OpenCopies d ms cs out_points out_table
 
   -- A call with the copies cs under the matrices ms ends in one of these ways, which say what it answers, and what it leaves in the outputs.
   data Ends : Answer × List Float × List ℕ → Type 0 where
-    before : (why : Refusal) → Early why → Ends (Refused why 0, outPoints, outTable)
+    before : (why : Refusal) → Early why → Ends (Refused why 0, out_points, out_table)
     short : (k : ℕ) (p : List Float) (t : List ℕ) → FirstKept k p t → Ends (Refused ShortSheet k, p, t)
     unclosed : (k : ℕ) (p : List Float) (t : List ℕ) → Unclosed k p t → Ends (Refused Open k, p, t)
     whole : (n : ℕ) (p : List Float) (t : List ℕ) → All n p t → Ends (Done n, p, t)
 
-  ends : (n : ℕ) → PointsFit n d (length outPoints) → 0 < length cs → Ends (copy_out n ms cs outPoints outTable)
+  ends : (n : ℕ) → PointsFit n d (length out_points) → 0 < length cs → Ends (copy_out n ms cs out_points out_table)
   unfolding copy_out
-  ends n f s = go (leb (length cs) n) refl (leb cells (length outTable)) refl (holds eqb (length cs) (copy_table ms cs)) refl
+  ends n f s = go (leb (length cs) n) refl (leb cells (length out_table)) refl (holds eqb (length cs) (copy_table ms cs)) refl
     where
       cells : ℕ
       cells = length ms * length cs
 
-      fits : length cs ≤ n → length cs * d ≤ length outPoints
+      fits : length cs ≤ n → length cs * d ≤ length out_points
       fits h = le_trans (mul-le-mul_right d h) f.cells
 
-      go : (a : Bool) → leb (length cs) n ≡ a → (b : Bool) → leb cells (length outTable) ≡ b → (c : Bool) → holds eqb (length cs) (copy_table ms cs) ≡ c → Ends (elim (a && b) [
-        | false ↦ (Refused ShortSheet (length (take n cs)), written (join (take n cs)) outPoints, outTable)
+      go : (a : Bool) → leb (length cs) n ≡ a → (b : Bool) → leb cells (length out_table) ≡ b → (c : Bool) → holds eqb (length cs) (copy_table ms cs) ≡ c → Ends (elim (a && b) [
+        | false ↦ (Refused ShortSheet (length (take n cs)), written (join (take n cs)) out_points, out_table)
         | true ↦ elim c [
-          | true ↦ (Refused Open (length (take n cs)), written (join (take n cs)) outPoints, written (replicate cells no_image) outTable)
-          | false ↦ (Done (length cs), written (join (take n cs)) outPoints, written (copy_table ms cs) outTable)
+          | true ↦ (Refused Open (length (take n cs)), written (join (take n cs)) out_points, written (replicate cells no_image) out_table)
+          | false ↦ (Done (length cs), written (join (take n cs)) out_points, written (copy_table ms cs) out_table)
         ]
       ])
       go false p b q c r =
@@ -361,11 +361,11 @@ module _ (d : ℕ) (ms : List Matrix) (cs : List Vector) (outPoints : List Float
           }))
       go true p false q c r =
           let all = le_test (length cs) n p in
-          rw (take_all n cs all) (short (length cs) (written (join cs) outPoints) outTable (record {
+          rw (take_all n cs all) (short (length cs) (written (join cs) out_points) out_table (record {
             among = omega arith;
             limit = le_trans all f.limit;
             points_fit = fits all;
-            exceed = inr (inr (refl, nleb→lt cells (length outTable) (rw q tt)));
+            exceed = inr (inr (refl, nleb→lt cells (length out_table) (rw q tt)));
             points = rw take-length;
             table = refl;
           }))
@@ -375,7 +375,7 @@ module _ (d : ℕ) (ms : List Matrix) (cs : List Vector) (outPoints : List Float
             count = refl;
             limit = le_trans all f.limit;
             points_fit = fits all;
-            table_fit = le_test cells (length outTable) q;
+            table_fit = le_test cells (length out_table) q;
             points = refl;
             table = refl;
             missing = open_table ms cs r;
@@ -387,7 +387,7 @@ module _ (d : ℕ) (ms : List Matrix) (cs : List Vector) (outPoints : List Float
             some_copy = s;
             limit = le_trans all f.limit;
             points_fit = fits all;
-            table_fit = le_test cells (length outTable) q;
+            table_fit = le_test cells (length out_table) q;
             points = refl;
             table = refl;
             closed = closed_table ms cs r;
@@ -411,28 +411,28 @@ module _ (d : ℕ) (ms : List Matrix) (cs : List Vector) (outPoints : List Float
   ends_unclosed o (unclosed n p t h) k e = subst (λ (i : ℕ). Unclosed i p t) (same_count Open n k e) h
   ends_unclosed o (whole n p t h) k e = absurd (apart Open k n (sym e))
 
-  ends_untouched : (o : Answer × List Float × List ℕ) → Ends o → (why : Refusal) (k : ℕ) → o.0 ≡ Refused why k → why ≢ ShortSheet → why ≢ Open → (o.1 ≡ outPoints) × (o.2 ≡ outTable)
+  ends_untouched : (o : Answer × List Float × List ℕ) → Ends o → (why : Refusal) (k : ℕ) → o.0 ≡ Refused why k → why ≢ ShortSheet → why ≢ Open → (o.1 ≡ out_points) × (o.2 ≡ out_table)
   ends_untouched o (before w h) why k e s u = (refl, refl)
   ends_untouched o (short n p t h) why k e s u = absurd (s (sym (same_refusal ShortSheet why n k e)))
   ends_untouched o (unclosed n p t h) why k e s u = absurd (u (sym (same_refusal Open why n k e)))
   ends_untouched o (whole n p t h) why k e s u = absurd (apart why k n (sym e))
 
-  all-length : Wide d cs → (n : ℕ) → n ≡ length cs → n * d ≤ length outPoints → SameLength outPoints (written (join cs) outPoints)
-  all-length w n q h = written-length (join cs) outPoints (rw (wide-join d cs w, ← q) h)
+  all-length : Wide d cs → (n : ℕ) → n ≡ length cs → n * d ≤ length out_points → SameLength out_points (written (join cs) out_points)
+  all-length w n q h = written-length (join cs) out_points (rw (wide-join d cs w, ← q) h)
 
-  ends_lengths : Wide d cs → (o : Answer × List Float × List ℕ) → Ends o → SameLength outPoints o.1 × SameLength outTable o.2
+  ends_lengths : Wide d cs → (o : Answer × List Float × List ℕ) → Ends o → SameLength out_points o.1 × SameLength out_table o.2
   ends_lengths w o (before why h) = (refl, refl)
   ends_lengths w o (short k p t h) = (
-    rw h.points (written-length (join (take k cs)) outPoints (kept_fit k d (length outPoints) cs w h.points_fit)),
+    rw h.points (written-length (join (take k cs)) out_points (kept_fit k d (length out_points) cs w h.points_fit)),
     ap length h.table,
   )
   ends_lengths w o (unclosed k p t h) = (
     rw h.points (all-length w k h.count h.points_fit),
-    rw h.table (written-length (replicate (length ms * k) no_image) outTable (rw length-replicate h.table_fit)),
+    rw h.table (written-length (replicate (length ms * k) no_image) out_table (rw length-replicate h.table_fit)),
   )
   ends_lengths w o (whole n p t h) = (
     rw h.points (all-length w n h.count h.points_fit),
-    rw h.table (written-length (copy_table ms cs) outTable (rw (table_length, ← h.count) h.table_fit)),
+    rw h.table (written-length (copy_table ms cs) out_table (rw (table_length, ← h.count) h.table_fit)),
   )
 
 -- A number above the lesser of two numbers is above one of them.
@@ -449,29 +449,29 @@ either : {A : Type 0} (P : A → Type 0) (j : Judged (Unit {0})) (f : Refusal �
 either P (refused why) f x a q g h = rw q (g why refl)
 either P (passed u) f x a q g h = rw q (h u refl)
 
-call_ends : (d : ℕ) (ps ts outPoints : List Float) (outTable : List ℕ)
-    → Ends d (matrices d ts) (copies (matrices d ts) (points d ps)) outPoints outTable (copy_call d ps ts outPoints outTable)
+call_ends : (d : ℕ) (ps ts out_points : List Float) (out_table : List ℕ)
+    → Ends d (matrices d ts) (copies (matrices d ts) (points d ps)) out_points out_table (copy_call d ps ts out_points out_table)
 unfolding copy_call
-call_ends d ps ts outPoints outTable =
-    either (Ends d (matrices d ts) (copies (matrices d ts) (points d ps)) outPoints outTable) (judge_copy d ps ts) _ _ (copy_call d ps ts outPoints outTable) refl
+call_ends d ps ts out_points out_table =
+    either (Ends d (matrices d ts) (copies (matrices d ts) (points d ps)) out_points out_table) (judge_copy d ps ts) _ _ (copy_call d ps ts out_points out_table) refl
     (λ why q. before why (rw q at (early_copy d ps ts)))
     (λ u q.
     let k = judged d ps ts u q in
-    ends d (matrices d ts) (copies (matrices d ts) (points d ps)) outPoints outTable _ (record {
+    ends d (matrices d ts) (copies (matrices d ts) (points d ps)) out_points out_table _ (record {
       limit = omega arith;
-      cells = le_trans (mul-le-mul_right d (omega arith)) (div-mul-le_self (length outPoints) d);
-      most = ⊎_elim (λ p. inl (omega arith)) (λ p. inr ((div-lt_iff_lt-mul k.0).0 p)) (over-min max_count (length outPoints / d) (suc (min max_count (length outPoints / d))) (omega arith));
+      cells = le_trans (mul-le-mul_right d (omega arith)) (div-mul-le_self (length out_points) d);
+      most = ⊎_elim (λ p. inl (omega arith)) (λ p. inr ((div-lt_iff_lt-mul k.0).0 p)) (over-min max_count (length out_points / d) (suc (min max_count (length out_points / d))) (omega arith));
     }) k.1)
 
 pub every-copy-call : EveryCopyCall
-every-copy-call d ps ts outPoints outTable =
+every-copy-call d ps ts out_points out_table =
     let ms = matrices d ts in
     let cs = copies ms (points d ps) in
-    let e = call_ends d ps ts outPoints outTable in
+    let e = call_ends d ps ts out_points out_table in
     record {
-      done = ends-done d ms cs outPoints outTable _ e;
-      short = ends_short d ms cs outPoints outTable _ e;
-      unclosed = ends_unclosed d ms cs outPoints outTable _ e;
-      untouched = ends_untouched d ms cs outPoints outTable _ e;
-      lengths = ends_lengths d ms cs outPoints outTable (all-wide d ps ts) _ e;
+      done = ends-done d ms cs out_points out_table _ e;
+      short = ends_short d ms cs out_points out_table _ e;
+      unclosed = ends_unclosed d ms cs out_points out_table _ e;
+      untouched = ends_untouched d ms cs out_points out_table _ e;
+      lengths = ends_lengths d ms cs out_points out_table (all-wide d ps ts) _ e;
     }

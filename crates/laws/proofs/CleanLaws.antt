@@ -91,9 +91,9 @@ implies false b f = refl
 transitive-all : (xs : List Float) → transitive xs ≡ true → Transitive xs
 unfolding transitive
 transitive-all xs h x y z X Y Z p q =
-    let ofX = every_in _ xs h x X in
-    let ofY = implied (within_eps x y) _ (every_in _ xs ofX y Y) p in
-    implied (within_eps y z) (within_eps x z) (every_in _ xs ofY z Z) q
+    let of_x = every_in _ xs h x X in
+    let of_y = implied (within_eps x y) _ (every_in _ xs of_x y Y) p in
+    implied (within_eps y z) (within_eps x z) (every_in _ xs of_y z Z) q
 
 all-transitive : (xs : List Float) → Transitive xs → transitive xs ≡ true
 unfolding transitive

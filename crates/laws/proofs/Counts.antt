@@ -44,57 +44,57 @@ lists = record { pass = list_pass; sound = list_sound }
 
 -- ---- counts under a map hang only on the counts
 
-module _ {A B : Type 0} (sameA : A → A → Bool) (testA : Test sameA) (sameB : B → B → Bool) (testB : Test sameB) (g : A → B) where
-  into : (s : B) (t : A) (l : List A) → g t ≡ s → count sameB s (map g l) ≡ count sameA t l + count sameB s (map g (without sameA t l))
+module _ {A B : Type 0} (same_a : A → A → Bool) (test_a : Test same_a) (same_b : B → B → Bool) (test_b : Test same_b) (g : A → B) where
+  into : (s : B) (t : A) (l : List A) → g t ≡ s → count same_b s (map g l) ≡ count same_a t l + count same_b s (map g (without same_a t l))
   unfolding count without
   into s t [] q = refl
-  into s t (x ∷ l) q = go (split sameA testA x t) (split sameB testB (g x) s) (into s t l q)
+  into s t (x ∷ l) q = go (split same_a test_a x t) (split same_b test_b (g x) s) (into s t l q)
     where
-      go : Split sameA testA x t → Split sameB testB (g x) s → count sameB s (map g l) ≡ count sameA t l + count sameB s (map g (without sameA t l))
-          → count sameB s (g x ∷ map g l) ≡ count sameA t (x ∷ l) + count sameB s (map g (without sameA t (x ∷ l)))
-      go (inl (p, e)) (inl (p', e')) ih = rw (without_yes sameA testA l e, count_yes sameA testA l e, count_yes sameB testB (map g l) e') (omega arith)
+      go : Split same_a test_a x t → Split same_b test_b (g x) s → count same_b s (map g l) ≡ count same_a t l + count same_b s (map g (without same_a t l))
+          → count same_b s (g x ∷ map g l) ≡ count same_a t (x ∷ l) + count same_b s (map g (without same_a t (x ∷ l)))
+      go (inl (p, e)) (inl (p', e')) ih = rw (without_yes same_a test_a l e, count_yes same_a test_a l e, count_yes same_b test_b (map g l) e') (omega arith)
       go (inl (p, e)) (inr (p', e')) ih = absurd (p' (ap g p ∙ q))
       go (inr (p, e)) (inl (p', e')) ih =
-          rw (without_no sameA testA l e, count_no sameA testA l e, count_yes sameB testB (map g l) e', count_yes sameB testB (map g (without sameA t l)) e') (omega arith)
+          rw (without_no same_a test_a l e, count_no same_a test_a l e, count_yes same_b test_b (map g l) e', count_yes same_b test_b (map g (without same_a t l)) e') (omega arith)
       go (inr (p, e)) (inr (p', e')) ih =
-          rw (without_no sameA testA l e, count_no sameA testA l e, count_no sameB testB (map g l) e', count_no sameB testB (map g (without sameA t l)) e') ih
+          rw (without_no same_a test_a l e, count_no same_a test_a l e, count_no same_b test_b (map g l) e', count_no same_b test_b (map g (without same_a t l)) e') ih
 
-  past : (s : B) (t : A) (l : List A) → g t ≢ s → count sameB s (map g l) ≡ count sameB s (map g (without sameA t l))
+  past : (s : B) (t : A) (l : List A) → g t ≢ s → count same_b s (map g l) ≡ count same_b s (map g (without same_a t l))
   unfolding count without
   past s t [] q = refl
-  past s t (x ∷ l) q = go (split sameA testA x t) (split sameB testB (g x) s) (past s t l q)
+  past s t (x ∷ l) q = go (split same_a test_a x t) (split same_b test_b (g x) s) (past s t l q)
     where
-      go : Split sameA testA x t → Split sameB testB (g x) s → count sameB s (map g l) ≡ count sameB s (map g (without sameA t l))
-          → count sameB s (g x ∷ map g l) ≡ count sameB s (map g (without sameA t (x ∷ l)))
+      go : Split same_a test_a x t → Split same_b test_b (g x) s → count same_b s (map g l) ≡ count same_b s (map g (without same_a t l))
+          → count same_b s (g x ∷ map g l) ≡ count same_b s (map g (without same_a t (x ∷ l)))
       go (inl (p, e)) (inl (p', e')) ih = absurd (q (ap g (sym p) ∙ p'))
-      go (inl (p, e)) (inr (p', e')) ih = rw (without_yes sameA testA l e, count_no sameB testB (map g l) e') ih
+      go (inl (p, e)) (inr (p', e')) ih = rw (without_yes same_a test_a l e, count_no same_b test_b (map g l) e') ih
       go (inr (p, e)) (inl (p', e')) ih =
-          rw (without_no sameA testA l e, count_yes sameB testB (map g l) e', count_yes sameB testB (map g (without sameA t l)) e') (ap suc ih)
+          rw (without_no same_a test_a l e, count_yes same_b test_b (map g l) e', count_yes same_b test_b (map g (without same_a t l)) e') (ap suc ih)
       go (inr (p, e)) (inr (p', e')) ih =
-          rw (without_no sameA testA l e, count_no sameB testB (map g l) e', count_no sameB testB (map g (without sameA t l)) e') ih
+          rw (without_no same_a test_a l e, count_no same_b test_b (map g l) e', count_no same_b test_b (map g (without same_a t l)) e') ih
 
   -- Where d holds all that xs and ys hold, and xs and ys hold each of d as often, their maps hold each as often, too.
   pub regroup : (d xs ys : List A) → ((t : A) → In t xs → In t d) → ((t : A) → In t ys → In t d)
-      → ((t : A) → In t d → count sameA t xs ≡ count sameA t ys) → (s : B) → count sameB s (map g xs) ≡ count sameB s (map g ys)
+      → ((t : A) → In t d → count same_a t xs ≡ count same_a t ys) → (s : B) → count same_b s (map g xs) ≡ count same_b s (map g ys)
   regroup [] [] [] f h c s = refl
   regroup [] [] (y ∷ ys) f h c s = absurd (h y (inl refl))
   regroup [] (x ∷ xs) ys f h c s = absurd (f x (inl refl))
   regroup (t ∷ d) xs ys f h c s =
-      go (split sameB testB (g t) s)
-      (regroup d (without sameA t xs) (without sameA t ys) (λ u m. less u xs (f u) m) (λ u m. less u ys (h u) m) (λ u m. still u m (split sameA testA u t)) s)
+      go (split same_b test_b (g t) s)
+      (regroup d (without same_a t xs) (without same_a t ys) (λ u m. less u xs (f u) m) (λ u m. less u ys (h u) m) (λ u m. still u m (split same_a test_a u t)) s)
     where
-      less : (u : A) (l : List A) → (In u l → In u (t ∷ d)) → In u (without sameA t l) → In u d
-      less u l k m = let r = out-without sameA testA l m in last r.1 (k r.0)
+      less : (u : A) (l : List A) → (In u l → In u (t ∷ d)) → In u (without same_a t l) → In u d
+      less u l k m = let r = out-without same_a test_a l m in last r.1 (k r.0)
         where
           last : u ≢ t → In u (t ∷ d) → In u d
           last n (inl e) = absurd (n e)
           last n (inr m') = m'
 
-      still : (u : A) → In u d → Split sameA testA u t → count sameA u (without sameA t xs) ≡ count sameA u (without sameA t ys)
-      still u m (inl (p, e)) = rw p (count-without_same sameA testA t xs ∙ sym (count-without_same sameA testA t ys))
-      still u m (inr (p, e)) = count-without-other sameA testA xs p ∙ c u (inr m) ∙ sym (count-without-other sameA testA ys p)
+      still : (u : A) → In u d → Split same_a test_a u t → count same_a u (without same_a t xs) ≡ count same_a u (without same_a t ys)
+      still u m (inl (p, e)) = rw p (count-without_same same_a test_a t xs ∙ sym (count-without_same same_a test_a t ys))
+      still u m (inr (p, e)) = count-without-other same_a test_a xs p ∙ c u (inr m) ∙ sym (count-without-other same_a test_a ys p)
 
-      go : Split sameB testB (g t) s → count sameB s (map g (without sameA t xs)) ≡ count sameB s (map g (without sameA t ys)) → count sameB s (map g xs) ≡ count sameB s (map g ys)
+      go : Split same_b test_b (g t) s → count same_b s (map g (without same_a t xs)) ≡ count same_b s (map g (without same_a t ys)) → count same_b s (map g xs) ≡ count same_b s (map g ys)
       go (inl (p, e)) ih = into s t xs p ∙ ap₂ (λ (m n : ℕ). m + n) (c t (inl refl)) ih ∙ sym (into s t ys p)
       go (inr (p, e)) ih = past s t xs p ∙ ih ∙ sym (past s t ys p)
 

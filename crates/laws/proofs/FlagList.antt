@@ -252,10 +252,10 @@ module _ (s : Solid) (v : Sound s) (f : (r e : ℕ) → e < size s (suc r) → 0
       let x = get_or (subs s (suc r) e) 0 0 in
       more s r x e (first_to s r x) (first_to_lem r x (v.below r e x (first_in_lem r e h))) (first_in_lem r e h)
 
-  first_of : (g : ℕ → List Flag) (l : List ℕ) → 0 < length l → 0 < length (g (get_or l 0 0)) → get_or (join (map g l)) 0 [] ≡ get_or (g (get_or l 0 0)) 0 []
+  first_of_lem : (g : ℕ → List Flag) (l : List ℕ) → 0 < length l → 0 < length (g (get_or l 0 0)) → get_or (join (map g l)) 0 [] ≡ get_or (g (get_or l 0 0)) 0 []
   unfolding join
-  first_of g [] h k = absurd (omega arith)
-  first_of g (x ∷ l) h k = get_or-append (g x) (join (map g l)) [] 0 k
+  first_of_lem g [] h k = absurd (omega arith)
+  first_of_lem g (x ∷ l) h k = get_or-append (g x) (join (map g l)) [] 0 k
 
   first-listed : (r e : ℕ) → e < size s r → get_or (flags_to s r e) 0 [] ≡ first_to s r e
   unfolding flags_to first_to ups
@@ -264,7 +264,7 @@ module _ (s : Solid) (v : Sound s) (f : (r e : ℕ) → e < size s (suc r) → 0
       let x = get_or (subs s (suc r) e) 0 0 in
       let low = v.below r e x (first_in_lem r e h) in
       let any = some_in (first_to s r x) (flags_to s r x) (of_to s r x (first_to s r x) (first_to_lem r x low)) in
-      first_of (ups s r e) (subs s (suc r) e) (f r e h) (rw length-map any)
+      first_of_lem (ups s r e) (subs s (suc r) e) (f r e h) (rw length-map any)
       ∙ get_or-map (λ (F : Flag). F ++ (e ∷ [])) [] [] (flags_to s r x) 0 any
       ∙ ap (λ (F : Flag). F ++ (e ∷ [])) (first-listed r x low)
 

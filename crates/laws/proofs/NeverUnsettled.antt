@@ -242,25 +242,25 @@ clear_copying d ps ts =
 abbrev CopySettles : Type 0
 CopySettles = Answer × List Float × List ℕ
 
-copy-out : (n : ℕ) (ms : List Matrix) (cs : List Vector) (outPoints : List Float) (outTable : List ℕ) → ClearAnswer (copy_out n ms cs outPoints outTable).0
+copy-out : (n : ℕ) (ms : List Matrix) (cs : List Vector) (out_points : List Float) (out_table : List ℕ) → ClearAnswer (copy_out n ms cs out_points out_table).0
 unfolding copy_out
-copy-out n ms cs outPoints outTable = go (leb (length cs) n && leb (length ms * length cs) (length outTable)) (holds eqb (length cs) (copy_table ms cs))
+copy-out n ms cs out_points out_table = go (leb (length cs) n && leb (length ms * length cs) (length out_table)) (holds eqb (length cs) (copy_table ms cs))
   where
     go : (a c : Bool) → ClearAnswer (elim a as (λ z. CopySettles) [
-      | false ↦ (Refused ShortSheet (length (take n cs)), written (join (take n cs)) outPoints, outTable)
+      | false ↦ (Refused ShortSheet (length (take n cs)), written (join (take n cs)) out_points, out_table)
       | true ↦ elim c as (λ z. CopySettles) [
-        | true ↦ (Refused Open (length (take n cs)), written (join (take n cs)) outPoints, written (replicate (length ms * length cs) no_image) outTable)
-        | false ↦ (Done (length cs), written (join (take n cs)) outPoints, written (copy_table ms cs) outTable)
+        | true ↦ (Refused Open (length (take n cs)), written (join (take n cs)) out_points, written (replicate (length ms * length cs) no_image) out_table)
+        | false ↦ (Done (length cs), written (join (take n cs)) out_points, written (copy_table ms cs) out_table)
       ]
     ]).0
     go false c = lit< tt
     go true true = lit< tt
     go true false = tt
 
-copy-answer : (o : Judged (Unit {0})) (outPoints : List Float) (outTable : List ℕ) (x : CopySettles) → LowIfRefused o → ClearAnswer x.0
-    → ClearAnswer (elim o as (λ z. CopySettles) [ refused why ↦ (Refused why 0, outPoints, outTable) | passed u ↦ x ]).0
-copy-answer (refused why) outPoints outTable x h k = h
-copy-answer (passed u) outPoints outTable x h k = k
+copy-answer : (o : Judged (Unit {0})) (out_points : List Float) (out_table : List ℕ) (x : CopySettles) → LowIfRefused o → ClearAnswer x.0
+    → ClearAnswer (elim o as (λ z. CopySettles) [ refused why ↦ (Refused why 0, out_points, out_table) | passed u ↦ x ]).0
+copy-answer (refused why) out_points out_table x h k = h
+copy-answer (passed u) out_points out_table x h k = k
 
 pub never_unsettled : NeverUnsettled
 unfolding types_call search_call rotations_call search_written copy_call
@@ -271,5 +271,5 @@ never_unsettled = record {
   types-call = λ b words floats old. clear-answer _ (types-answer _ old (clear-given b words floats (length old.elements) (length old.types)));
   search-call = λ b words floats old. clear-answer _ (found-answer _ (room_of old) (clear-members b words floats));
   rotations-call = λ b words floats old. clear-answer _ (found-answer _ (room_of old) (clear-rotations b words floats));
-  copy-call = λ d ps ts outPoints outTable. clear-answer _ (copy-answer (judge_copy d ps ts) outPoints outTable _ (clear_copying d ps ts) (copy-out _ _ _ outPoints outTable));
+  copy-call = λ d ps ts out_points out_table. clear-answer _ (copy-answer (judge_copy d ps ts) out_points out_table _ (clear_copying d ps ts) (copy-out _ _ _ out_points out_table));
 }

@@ -42,90 +42,90 @@ module _ {A : Type 0} (same : A → A → Bool) (test : Test same) where
 pub glue : {A B : Type 0} → (A → A → Bool) → B → List A → List B → A → B
 glue same b ts us t = get_or us (place same t ts) b
 
-module _ {A B : Type 0} (sameA : A → A → Bool) (testA : Test sameA) (sameB : B → B → Bool) (testB : Test sameB) where
+module _ {A B : Type 0} (same_a : A → A → Bool) (test_a : Test same_a) (same_b : B → B → Bool) (test_b : Test same_b) where
   -- ---- a map that takes no two members to one keeps the numbers
 
-  without-map : (f : A → B) (k : A) (l : List A) → ((x : A) → In x l → f x ≡ f k → x ≡ k) → without sameB (f k) (map f l) ≡ map f (without sameA k l)
+  without-map : (f : A → B) (k : A) (l : List A) → ((x : A) → In x l → f x ≡ f k → x ≡ k) → without same_b (f k) (map f l) ≡ map f (without same_a k l)
   unfolding without
   without-map f k [] i = refl
-  without-map f k (x ∷ l) i = go (split sameA testA x k) (split sameB testB (f x) (f k)) (without-map f k l (λ y h. i y (inr h)))
+  without-map f k (x ∷ l) i = go (split same_a test_a x k) (split same_b test_b (f x) (f k)) (without-map f k l (λ y h. i y (inr h)))
     where
-      go : Split sameA testA x k → Split sameB testB (f x) (f k) → without sameB (f k) (map f l) ≡ map f (without sameA k l)
-          → without sameB (f k) (f x ∷ map f l) ≡ map f (without sameA k (x ∷ l))
-      go (inl (p, e)) (inl (q, e')) ih = rw (without_yes sameA testA l e, without_yes sameB testB (map f l) e') ih
+      go : Split same_a test_a x k → Split same_b test_b (f x) (f k) → without same_b (f k) (map f l) ≡ map f (without same_a k l)
+          → without same_b (f k) (f x ∷ map f l) ≡ map f (without same_a k (x ∷ l))
+      go (inl (p, e)) (inl (q, e')) ih = rw (without_yes same_a test_a l e, without_yes same_b test_b (map f l) e') ih
       go (inl (p, e)) (inr (q, e')) ih = absurd (q (ap f p))
       go (inr (p, e)) (inl (q, e')) ih = absurd (p (i x (inl refl) q))
-      go (inr (p, e)) (inr (q, e')) ih = rw (without_no sameA testA l e, without_no sameB testB (map f l) e') (ap (λ (r : List B). f x ∷ r) ih)
+      go (inr (p, e)) (inr (q, e')) ih = rw (without_no same_a test_a l e, without_no same_b test_b (map f l) e') (ap (λ (r : List B). f x ∷ r) ih)
 
-  pub distinct-map : (f : A → B) (l : List A) → Injective f l → distinct sameB (map f l) ≡ map f (distinct sameA l)
+  pub distinct-map : (f : A → B) (l : List A) → Injective f l → distinct same_b (map f l) ≡ map f (distinct same_a l)
   unfolding distinct
   distinct-map f [] i = refl
   distinct-map f (x ∷ l) i =
-      ap (λ (r : List B). f x ∷ without sameB (f x) r) (distinct-map f l (λ y z hy hz. i y z (inr hy) (inr hz)))
-      ∙ ap (λ (r : List B). f x ∷ r) (without-map f x (distinct sameA l) (λ y h. i y x (inr (of-distinct sameA testA y l h)) (inl refl)))
+      ap (λ (r : List B). f x ∷ without same_b (f x) r) (distinct-map f l (λ y z hy hz. i y z (inr hy) (inr hz)))
+      ∙ ap (λ (r : List B). f x ∷ r) (without-map f x (distinct same_a l) (λ y h. i y x (inr (of-distinct same_a test_a y l h)) (inl refl)))
 
-  place_map : (f : A → B) (k : A) (l : List A) → ((x : A) → In x l → f x ≡ f k → x ≡ k) → place sameB (f k) (map f l) ≡ place sameA k l
+  place_map : (f : A → B) (k : A) (l : List A) → ((x : A) → In x l → f x ≡ f k → x ≡ k) → place same_b (f k) (map f l) ≡ place same_a k l
   unfolding place
   place_map f k [] i = refl
-  place_map f k (x ∷ l) i = go (split sameA testA x k) (split sameB testB (f x) (f k)) (place_map f k l (λ y h. i y (inr h)))
+  place_map f k (x ∷ l) i = go (split same_a test_a x k) (split same_b test_b (f x) (f k)) (place_map f k l (λ y h. i y (inr h)))
     where
-      go : Split sameA testA x k → Split sameB testB (f x) (f k) → place sameB (f k) (map f l) ≡ place sameA k l
-          → place sameB (f k) (f x ∷ map f l) ≡ place sameA k (x ∷ l)
-      go (inl (p, e)) (inl (q, e')) ih = rw (place_yes sameA testA l e, place_yes sameB testB (map f l) e')
+      go : Split same_a test_a x k → Split same_b test_b (f x) (f k) → place same_b (f k) (map f l) ≡ place same_a k l
+          → place same_b (f k) (f x ∷ map f l) ≡ place same_a k (x ∷ l)
+      go (inl (p, e)) (inl (q, e')) ih = rw (place_yes same_a test_a l e, place_yes same_b test_b (map f l) e')
       go (inl (p, e)) (inr (q, e')) ih = absurd (q (ap f p))
       go (inr (p, e)) (inl (q, e')) ih = absurd (p (i x (inl refl) q))
-      go (inr (p, e)) (inr (q, e')) ih = rw (place_no sameA testA l e, place_no sameB testB (map f l) e') (ap suc ih)
+      go (inr (p, e)) (inr (q, e')) ih = rw (place_no same_a test_a l e, place_no same_b test_b (map f l) e') (ap suc ih)
 
-  renumber-map : (f : A → B) (l : List A) → Injective f l → renumber sameB (map f l) ≡ renumber sameA l
+  renumber-map : (f : A → B) (l : List A) → Injective f l → renumber same_b (map f l) ≡ renumber same_a l
   unfolding renumber
   renumber-map f l i =
-      map-map f (λ y. place sameB y (distinct sameB (map f l))) l
-      ∙ map_same (λ x. place sameB (f x) (distinct sameB (map f l))) (λ x. place sameA x (distinct sameA l)) l
-      (λ x h. ap (λ (d : List B). place sameB (f x) d) (distinct-map f l i)
-      ∙ place_map f x (distinct sameA l) (λ y m. i y x (of-distinct sameA testA y l m) h))
+      map-map f (λ y. place same_b y (distinct same_b (map f l))) l
+      ∙ map_same (λ x. place same_b (f x) (distinct same_b (map f l))) (λ x. place same_a x (distinct same_a l)) l
+      (λ x h. ap (λ (d : List B). place same_b (f x) d) (distinct-map f l i)
+      ∙ place_map f x (distinct same_a l) (λ y m. i y x (of-distinct same_a test_a y l m) h))
 
   -- ---- what is coarser is a map of what is finer
 
-  pub factor : (a : A) (b : B) (ts : List A) (us : List B) → length us ≡ length ts → Coarser b a us ts → us ≡ map (glue sameA b ts us) ts
+  pub factor : (a : A) (b : B) (ts : List A) (us : List B) → length us ≡ length ts → Coarser b a us ts → us ≡ map (glue same_a b ts us) ts
   unfolding glue
   factor a b ts us e c =
-      ext_get_or b us (map (glue sameA b ts us) ts) (e ∙ sym (length-map ts (glue sameA b ts us)))
+      ext_get_or b us (map (glue same_a b ts us) ts) (e ∙ sym (length-map ts (glue same_a b ts us)))
       (λ i h. let h' : i < length ts = rw e at h in
-      let p = place_at sameA testA a ts (in_get_d a ts i h') in
-      c i (place sameA (get_or ts i a) ts) h' p.0 (sym p.1) ∙ sym (get_or-map (glue sameA b ts us) a b ts i h'))
+      let p = place_at same_a test_a a ts (in_get_d a ts i h') in
+      c i (place same_a (get_or ts i a) ts) h' p.0 (sym p.1) ∙ sym (get_or-map (glue same_a b ts us) a b ts i h'))
 
   -- So the numbers hang only on who shares.
   pub renumber-pattern : (a : A) (b : B) (ts : List A) (us : List B) → length us ≡ length ts → Coarser b a us ts → Coarser a b ts us
-      → renumber sameB us ≡ renumber sameA ts
+      → renumber same_b us ≡ renumber same_a ts
   unfolding glue
-  renumber-pattern a b ts us e c c' = ap (renumber sameB) (factor a b ts us e c) ∙ renumber-map (glue sameA b ts us) ts inj
+  renumber-pattern a b ts us e c c' = ap (renumber same_b) (factor a b ts us e c) ∙ renumber-map (glue same_a b ts us) ts inj
     where
-      inj : Injective (glue sameA b ts us) ts
+      inj : Injective (glue same_a b ts us) ts
       inj x y hx hy q =
-          let px = place_at sameA testA a ts hx in
-          let py = place_at sameA testA a ts hy in
-          sym px.1 ∙ c' (place sameA x ts) (place sameA y ts) (rw e px.0) (rw e py.0) q ∙ py.1
+          let px = place_at same_a test_a a ts hx in
+          let py = place_at same_a test_a a ts hy in
+          sym px.1 ∙ c' (place same_a x ts) (place same_a y ts) (rw e px.0) (rw e py.0) q ∙ py.1
 
   -- ---- how many there are
 
   -- If everything in the coarser one comes from d, then d is as long.
-  bounded : (f : A → B) (ts : List A) (d : List A) → ((t : A) → In t ts → (u : A) × In u d × (f t ≡ f u)) → length (distinct sameB (map f ts)) ≤ length d
+  bounded : (f : A → B) (ts : List A) (d : List A) → ((t : A) → In t ts → (u : A) × In u d × (f t ≡ f u)) → length (distinct same_b (map f ts)) ≤ length d
   bounded f ts d h =
-      subst (λ (n : ℕ). length (distinct sameB (map f ts)) ≤ n) (length-map d f)
-      (pigeons sameB testB (distinct sameB (map f ts)) (map f d) (once_distinct sameB testB (map f ts))
-      (λ t m. let r = in_map f t ts (of-distinct sameB testB t (map f ts) m) in
+      subst (λ (n : ℕ). length (distinct same_b (map f ts)) ≤ n) (length-map d f)
+      (pigeons same_b test_b (distinct same_b (map f ts)) (map f d) (once_distinct same_b test_b (map f ts))
+      (λ t m. let r = in_map f t ts (of-distinct same_b test_b t (map f ts) m) in
       let w = h r.0 r.1 in
       subst (λ (z : B). In z (map f d)) (sym (r.2 ∙ w.2)) (map_in f w.0 d w.1)))
 
-  pub fewer : (a : A) (b : B) (ts : List A) (us : List B) → length us ≡ length ts → Coarser b a us ts → length (distinct sameB us) ≤ length (distinct sameA ts)
+  pub fewer : (a : A) (b : B) (ts : List A) (us : List B) → length us ≡ length ts → Coarser b a us ts → length (distinct same_b us) ≤ length (distinct same_a ts)
   fewer a b ts us e c =
       rw (factor a b ts us e c)
-      (bounded (glue sameA b ts us) ts (distinct sameA ts) (λ t h. (t, in_distinct sameA testA t ts h, refl)))
+      (bounded (glue same_a b ts us) ts (distinct same_a ts) (λ t h. (t, in_distinct same_a test_a t ts h, refl)))
 
   -- Where there are as many, they part the same.
   pub as_many : (a : A) (b : B) (ts : List A) (us : List B) → length us ≡ length ts → Coarser b a us ts
-      → length (distinct sameB us) ≡ length (distinct sameA ts) → Coarser a b ts us
-  as_many a b ts us e c n i j hi hj q = go (split sameA testA (get_or ts i a) (get_or ts j a))
+      → length (distinct same_b us) ≡ length (distinct same_a ts) → Coarser a b ts us
+  as_many a b ts us e c n i j hi hj q = go (split same_a test_a (get_or ts i a) (get_or ts j a))
     where
       hi' : i < length ts
       hi' = rw e at hi
@@ -134,7 +134,7 @@ module _ {A B : Type 0} (sameA : A → A → Bool) (testA : Test sameA) (sameB :
       hj' = rw e at hj
 
       f : A → B
-      f = glue sameA b ts us
+      f = glue same_a b ts us
 
       u : A
       u = get_or ts i a
@@ -148,13 +148,13 @@ module _ {A B : Type 0} (sameA : A → A → Bool) (testA : Test sameA) (sameB :
           sym (get_or-map f a b ts i hi') ∙ ap (λ (z : List B). get_or z i b) (sym fe) ∙ q
           ∙ ap (λ (z : List B). get_or z j b) fe ∙ get_or-map f a b ts j hj'
 
-      go : Split sameA testA u v → u ≡ v
+      go : Split same_a test_a u v → u ≡ v
       go (inl (p, _)) = p
-      go (inr (p, _)) = absurd (omega (arith, n, rw (← factor a b ts us e c) at short, length_without sameA testA v (distinct sameA ts) (in_distinct sameA testA v ts (in_get_d a ts j hj'))))
+      go (inr (p, _)) = absurd (omega (arith, n, rw (← factor a b ts us e c) at short, length_without same_a test_a v (distinct same_a ts) (in_distinct same_a test_a v ts (in_get_d a ts j hj'))))
         where
-          come : (t : A) → In t ts → Split sameA testA t v → (w : A) × In w (without sameA v (distinct sameA ts)) × (f t ≡ f w)
-          come t h (inl (z, _)) = (u, in_without sameA testA (distinct sameA ts) (in_distinct sameA testA u ts (in_get_d a ts i hi')) p, ap f z ∙ sym same)
-          come t h (inr (z, _)) = (t, in_without sameA testA (distinct sameA ts) (in_distinct sameA testA t ts h) z, refl)
+          come : (t : A) → In t ts → Split same_a test_a t v → (w : A) × In w (without same_a v (distinct same_a ts)) × (f t ≡ f w)
+          come t h (inl (z, _)) = (u, in_without same_a test_a (distinct same_a ts) (in_distinct same_a test_a u ts (in_get_d a ts i hi')) p, ap f z ∙ sym same)
+          come t h (inr (z, _)) = (t, in_without same_a test_a (distinct same_a ts) (in_distinct same_a test_a t ts h) z, refl)
 
-          short : length (distinct sameB (map f ts)) ≤ length (without sameA v (distinct sameA ts))
-          short = bounded f ts (without sameA v (distinct sameA ts)) (λ t h. come t h (split sameA testA t v))
+          short : length (distinct same_b (map f ts)) ≤ length (without same_a v (distinct same_a ts))
+          short = bounded f ts (without same_a v (distinct same_a ts)) (λ t h. come t h (split same_a test_a t v))

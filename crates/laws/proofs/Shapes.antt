@@ -251,8 +251,8 @@ pub record Cells (m : Room) (l : List Member) : Type 0 where
   pub rows : length (join (map (λ x. x.row) l)) ≤ m.entries
   pub marks : length (map (λ x. x.mark) l) ≤ m.marks
 
-cells_of : (m : Room) (d v : ℕ) (l : List Member) → RoomHolds m d v (length l) → ((x : Member) → In x l → MemberShape d v x) → Cells m l
-cells_of m d v l h f = record {
+cells_of_lem : (m : Room) (d v : ℕ) (l : List Member) → RoomHolds m d v (length l) → ((x : Member) → In x l → MemberShape d v x) → Cells m l
+cells_of_lem m d v l h f = record {
   matrices =
       let e = join-length (d * d) (map (λ x. join x.matrix) l) (λ k i. let r = in_map (λ (x : Member). join x.matrix) k l i in ap length r.2 ∙ square_long d r.0.matrix (f r.0 r.1).matrix) in
       let q : length (map (λ (x : Member). join x.matrix) l) ≡ length l = length-map l _ in
@@ -285,7 +285,7 @@ found-cells (passed y) s m =
     let v = length y.0.points in
     let l = fitting m d v 0 y.1 in
     let q : 0 + length l ≡ length l = omega arith in
-    kept-cells m y.1 l (cells_of m d v l (rw q at (fitting-holds m d v 0 y.1 (none_held m d v))) (λ x i. s y refl x (fitting_in m d v 0 y.1 x i)))
+    kept-cells m y.1 l (cells_of_lem m d v l (rw q at (fitting-holds m d v 0 y.1 (none_held m d v))) (λ x i. s y refl x (fitting_in m d v 0 y.1 x i)))
 
 pub type_cells_lem : (ks : List ElementType) → length (join (map type_cells ks)) ≡ 4 * length ks
 unfolding join type_cells

@@ -126,42 +126,42 @@ Closed ms cs = (m : Matrix) (c : Vector) → In m ms → In c cs → found cs (m
 abbrev pub NotClosed : List Matrix → List Vector → Type 0
 NotClosed ms cs = (m : Matrix) × (c : Vector) × In m ms × In c cs × (found cs (mul_vec m c) ≡ false)
 
--- This is a copying call in d dimensions: ms are its matrices, cs are all copies of its points under them, and outPoints and outTable are its two
+-- This is a copying call in d dimensions: ms are its matrices, cs are all copies of its points under them, and out_points and out_table are its two
 -- outputs as they were before the call.
-module _ (d : ℕ) (ms : List Matrix) (cs : List Vector) (outPoints : List Float) (outTable : List ℕ) where
+module _ (d : ℕ) (ms : List Matrix) (cs : List Vector) (out_points : List Float) (out_table : List ℕ) where
   -- This is what success with the count n means: n is how many copies there are, at least one and at most 2,048; both outputs have room for
   -- everything, and they hold all copies and the whole table, with every cell behind these as it was; and every image is among the copies.
-  pub record AllCopies (n : ℕ) (newPoints : List Float) (newTable : List ℕ) : Type 0 where
+  pub record AllCopies (n : ℕ) (new_points : List Float) (new_table : List ℕ) : Type 0 where
     pub count : n ≡ length cs
     pub some_copy : 0 < n
     pub limit : n ≤ max_count
-    pub points_fit : n * d ≤ length outPoints
-    pub table_fit : length ms * n ≤ length outTable
-    pub points : newPoints ≡ written (join cs) outPoints
-    pub table : newTable ≡ written (copy_table ms cs) outTable
+    pub points_fit : n * d ≤ length out_points
+    pub table_fit : length ms * n ≤ length out_table
+    pub points : new_points ≡ written (join cs) out_points
+    pub table : new_table ≡ written (copy_table ms cs) out_table
     pub closed : Closed ms cs
 
   -- This is what 13 with the count k means: k copies fitted, and either there are more or the table does not fit; the points' output holds the first
   -- k with every cell behind them as it was, and the table's output is untouched.
-  pub record FirstCopies (k : ℕ) (newPoints : List Float) (newTable : List ℕ) : Type 0 where
+  pub record FirstCopies (k : ℕ) (new_points : List Float) (new_table : List ℕ) : Type 0 where
     pub among : k ≤ length cs
     pub limit : k ≤ max_count
-    pub points_fit : k * d ≤ length outPoints
+    pub points_fit : k * d ≤ length out_points
     -- Either there are more copies and k is 2,048; or there are more and the points' output has no room for one of them; or k is all copies, and only
     -- the table's output is too short.
-    pub exceed : ((k < length cs) × (k ≡ max_count)) ⊎ ((k < length cs) × (length outPoints < suc k * d)) ⊎ ((k ≡ length cs) × (length outTable < length ms * k))
-    pub points : newPoints ≡ written (join (take k cs)) outPoints
-    pub table : newTable ≡ outTable
+    pub exceed : ((k < length cs) × (k ≡ max_count)) ⊎ ((k < length cs) × (length out_points < suc k * d)) ⊎ ((k ≡ length cs) × (length out_table < length ms * k))
+    pub points : new_points ≡ written (join (take k cs)) out_points
+    pub table : new_table ≡ out_table
 
   -- This is what 14 with the count k means: k is how many copies there are, and the points' output holds all of them; the table's entries, matrices
   -- times copies, are 65,535 with every cell behind them as it was; and some image is not among the copies.
-  pub record OpenCopies (k : ℕ) (newPoints : List Float) (newTable : List ℕ) : Type 0 where
+  pub record OpenCopies (k : ℕ) (new_points : List Float) (new_table : List ℕ) : Type 0 where
     pub count : k ≡ length cs
     pub limit : k ≤ max_count
-    pub points_fit : k * d ≤ length outPoints
-    pub table_fit : length ms * k ≤ length outTable
-    pub points : newPoints ≡ written (join cs) outPoints
-    pub table : newTable ≡ written (replicate (length ms * k) no_image) outTable
+    pub points_fit : k * d ≤ length out_points
+    pub table_fit : length ms * k ≤ length out_table
+    pub points : new_points ≡ written (join cs) out_points
+    pub table : new_table ≡ written (replicate (length ms * k) no_image) out_table
     pub missing : NotClosed ms cs
 
   -- These are the laws of such a call, where o is what it answers and what it leaves in its two outputs.
@@ -172,13 +172,13 @@ module _ (d : ℕ) (ms : List Matrix) (cs : List Vector) (outPoints : List Float
     -- 14 comes when "an image isn't among the copies", and it "keeps the points and sets the table's entries, matrices times copies, to 65,535".
     pub unclosed : (k : ℕ) → o.0 ≡ Refused Open k → OpenCopies k o.1 o.2
     -- "Outputs are untouched, except: 13 .. 14 .."
-    pub untouched : (why : Refusal) (k : ℕ) → o.0 ≡ Refused why k → why ≢ ShortSheet → why ≢ Open → (o.1 ≡ outPoints) × (o.2 ≡ outTable)
-    pub lengths : SameLength outPoints o.1 × SameLength outTable o.2
+    pub untouched : (why : Refusal) (k : ℕ) → o.0 ≡ Refused why k → why ≢ ShortSheet → why ≢ Open → (o.1 ≡ out_points) × (o.2 ≡ out_table)
+    pub lengths : SameLength out_points o.1 × SameLength out_table o.2
 
 -- Every copying call obeys these laws: ps holds the coordinates of its points, and ts the entries of its matrices.
 abbrev pub EveryCopyCall : Type 0
-EveryCopyCall = (d : ℕ) (ps ts outPoints : List Float) (outTable : List ℕ)
-    → CopyCallLaws d (matrices d ts) (copies (matrices d ts) (points d ps)) outPoints outTable (copy_call d ps ts outPoints outTable)
+EveryCopyCall = (d : ℕ) (ps ts out_points : List Float) (out_table : List ℕ)
+    → CopyCallLaws d (matrices d ts) (copies (matrices d ts) (points d ps)) out_points out_table (copy_call d ps ts out_points out_table)
 
 -- ---- finding
 

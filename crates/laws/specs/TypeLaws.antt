@@ -86,4 +86,4 @@ pub record NeverUnsettled : Type 0 where
   pub types-call : (b : List ℕ) (words floats : ℕ) (old : TypesOut) → NotUnsettled (types_call b words floats old).0
   pub search-call : (b : List ℕ) (words floats : ℕ) (old : SearchOut) → NotUnsettled (search_call b words floats old).0
   pub rotations-call : (b : List ℕ) (words floats : ℕ) (old : SearchOut) → NotUnsettled (rotations_call b words floats old).0
-  pub copy-call : (d : ℕ) (ps ts outPoints : List Float) (outTable : List ℕ) → NotUnsettled (copy_call d ps ts outPoints outTable).0
+  pub copy-call : (d : ℕ) (ps ts out_points : List Float) (out_table : List ℕ) → NotUnsettled (copy_call d ps ts out_points out_table).0

@@ -6,7 +6,7 @@ ghost use Rattle.std.specs.Prelude.{◌≡◌, ℕ, suc, ◌+◌, ◌*◌, ◌^�
 ghost use Rattle.spec.specs.Limits.{max_rank, max_starts};
 ghost use Rattle.ranked.specs.Words.{first_at, size_at, total, lists_of, subs_word, sups_word};
 ghost use Rattle.ranked.specs.Shapes.{CountsFit, size_in, StartsCounted, ShapeCounted, no_shape};
-ghost use Rattle.ranked.specs.Layout.{proper, before, sub_entries, sized as sizedAs, sub_entries_at, sup_entries_at, types_at, scratch_at, fingerprints_at, coordinates, classes_at, class_at};
+ghost use Rattle.ranked.specs.Layout.{proper, before, sub_entries, sized as sized_as, sub_entries_at, sup_entries_at, types_at, scratch_at, fingerprints_at, coordinates, classes_at, class_at};
 
 use crate::lists::{subs_word, sups_word};
 use spec::{MAX_PROPER, MAX_RANK, PROPER_RANKS};
@@ -202,7 +202,7 @@ impl Shape {
     fn sized(self, entries: usize) -> Shape
         requires rank_le_max_rank { (self.rank ≤ max_rank) × (total self < 2 ^ 32) × (entries < 2 ^ 32) }
         requires by_index { (r : ℕ) → r ≤ self.rank → first_at self r < first_at self (suc r) }
-        ensures { result ≡ sizedAs self entries }
+        ensures { result ≡ sized_as self entries }
     {
         let low = self.sub_entries_at() + 2 * self.sub_entries(entries);
         let first = self.first;

@@ -76,22 +76,22 @@ judge_copy d ps ts = do
 -- This is the rest, where cs are the copies under the matrices ms and there is room for n points: 13 for points and then for table entries, then 14.
 -- "13 keeps what fitted .. (points only); 14 keeps the points and sets the table's entries, matrices times copies, to 65,535".
 unfoldable pub copy_out : ℕ → List Matrix → List Vector → List Float → List ℕ → Answer × List Float × List ℕ
-copy_out n ms cs outPoints outTable =
+copy_out n ms cs out_points out_table =
     let kept = take n cs in
     let cells = length ms * length cs in
     let table = copy_table ms cs in
-    elim (leb (length cs) n && leb cells (length outTable)) [
-      | false ↦ (Refused ShortSheet (length kept), written (join kept) outPoints, outTable)
+    elim (leb (length cs) n && leb cells (length out_table)) [
+      | false ↦ (Refused ShortSheet (length kept), written (join kept) out_points, out_table)
       | true ↦ elim (holds eqb (length cs) table) [
-        | true ↦ (Refused Open (length kept), written (join kept) outPoints, written (replicate cells no_image) outTable)
-        | false ↦ (Done (length cs), written (join kept) outPoints, written table outTable)
+        | true ↦ (Refused Open (length kept), written (join kept) out_points, written (replicate cells no_image) out_table)
+        | false ↦ (Done (length cs), written (join kept) out_points, written table out_table)
       ]
     ]
 
 -- The copying call takes points and matrices, then its two outputs as they were. No more than 2,048 points have room, so "copies over 2,048" are
 -- refused 13 too.
-unfoldable pub copy_call : (d : ℕ) (ps ts outPoints : List Float) (outTable : List ℕ) → Answer × List Float × List ℕ
-copy_call d ps ts outPoints outTable = elim (judge_copy d ps ts) [
-  | refused why ↦ (Refused why 0, outPoints, outTable)
-  | passed u ↦ copy_out (min max_count (length outPoints / d)) (matrices d ts) (copies (matrices d ts) (points d ps)) outPoints outTable
+unfoldable pub copy_call : (d : ℕ) (ps ts out_points : List Float) (out_table : List ℕ) → Answer × List Float × List ℕ
+copy_call d ps ts out_points out_table = elim (judge_copy d ps ts) [
+  | refused why ↦ (Refused why 0, out_points, out_table)
+  | passed u ↦ copy_out (min max_count (length out_points / d)) (matrices d ts) (copies (matrices d ts) (points d ps)) out_points out_table
 ]

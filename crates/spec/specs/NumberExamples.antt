@@ -11,7 +11,7 @@ use Rattle.spec.specs.Limits.{max_magnitude}
 use Rattle.spec.specs.Float.{eps, zero_f, one_f, abs_f, finite, in_range, zip, add_on, total, dot, root_down, root_units, root, norm}
 use Rattle.spec.specs.Matrix.{Matrix, columns, mul_vec, mul_mat, unit, identity, scan, pivot_row, swap_rows, divided, cleared, clear, column, eliminate, gauss_jordan, inverse, times_on, product, determinant}
 use Rattle.spec.specs.Hull.{joined, nothing, along, project, rest, joins, add_all, hull_of, origin, distance, nearer, smaller, listed_for, listing, classes_from, classes, class_numbers}
-use Rattle.spec.specs.Hull.{add as addPoint}
+use Rattle.spec.specs.Hull.{add as add_point}
 use Rattle.spec.specs.Copying.{spread, copies_from, copies, copy_table, orders, signed, axis_order, axis_orders, points, matrices, judge_copy, copy_out, copy_call}
 use Rattle.spec.specs.Points.{near, found, find, row_of}
 use Rattle.spec.specs.Judged.{◌>>◌, judge}
@@ -21,7 +21,7 @@ unfoldable pub most : ℕ
 unfolding size units neg add sub mul div lt le eq of_bits to_bits place holds range join every distinct without renumber
     eps zero_f one_f max_magnitude abs_f finite in_range zip add_on total dot root_down root_units root norm
     columns mul_vec mul_mat unit identity scan pivot_row swap_rows divided cleared clear column eliminate gauss_jordan inverse times_on product determinant
-    along project rest joins addPoint add_all hull_of origin distance nearer smaller listed_for listing classes_from classes class_numbers
+    along project rest joins add_point add_all hull_of origin distance nearer smaller listed_for listing classes_from classes class_numbers
     near found find spread copies_from copies orders signed axis_order axis_orders parts points matrices ◌>>◌ judge judge_copy copy_call
 most = 0
 

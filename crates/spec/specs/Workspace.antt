@@ -7,6 +7,6 @@ abbrev pub SameLength : {A : Type 0} → List A → List A → Type 0
 SameLength old new = length new ≡ length old
 
 -- "Workspace afterwards is free": a call may leave anything in the words and floats that it was lent, but both are as long as they were.
-pub record Free (oldWords newWords : List ℕ) (oldFloats newFloats : List Float) : Type 0 where
-  pub words : SameLength oldWords newWords
-  pub floats : SameLength oldFloats newFloats
+pub record Free (old_words new_words : List ℕ) (old_floats new_floats : List Float) : Type 0 where
+  pub words : SameLength old_words new_words
+  pub floats : SameLength old_floats new_floats

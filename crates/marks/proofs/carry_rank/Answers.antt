@@ -21,12 +21,12 @@ bounds : (s : Start) → (s.args.sh.rank ≤ max_rank) × (s.args.r ≤ suc max_
 bounds s = let a = s.args in ranks_lie a.sh a.lists.now a.floats.now s.requires.row.0.held s.requires.row.1 a.r s.requires.rank.low s.requires.rank.high
 
 -- The solid's classes, and that the lent cells tell who shares one.
-abbrev classesHere : (c : In-loop-e) → Classes
-classesHere c = let a = c.args in classes_on a.sh a.lists.now a.floats.now
+abbrev classes_here : (c : In-loop-e) → Classes
+classes_here c = let a = c.args in classes_on a.sh a.lists.now a.floats.now
 
 share : (c : In-loop-e) → let a = c.args in
     let from = c.class-from.result in
-    ClassesOf (classesHere c) a.r (size_at a.sh a.r) (take (length a.floats.now - from) (drop from a.floats.now))
+    ClassesOf (classes_here c) a.r (size_at a.sh a.r) (take (length a.floats.now - from) (drop from a.floats.now))
 share c =
     let a = c.args in
     cells_share a.sh a.lists.now a.floats.now c.requires.row.0.held c.requires.row.1 a.r c.requires.rank.low c.requires.rank.high _ c.class-from.ensures
@@ -38,11 +38,11 @@ lies c =
 
 carried : (c : In-At) →
     (let a = c.args in
-    Landed (abs_in a.sh a.lists.now) (classesHere (goal.at.overflow_cast-goes c).In-loop-e) a.row.now a.r c.loop-e.e (At c.in-At.x))
+    Landed (abs_in a.sh a.lists.now) (classes_here (goal.at.overflow_cast-goes c).In-loop-e) a.row.now a.r c.loop-e.e (At c.in-At.x))
 carried c =
     let a = c.args in
-    subst (λ (x : Found). Landed (abs_in a.sh a.lists.now) (classesHere (goal.at.overflow_cast-goes c).In-loop-e) a.row.now a.r c.loop-e.e x) c.in-At.is
-    (c.image_of.ensures (classesHere (goal.at.overflow_cast-goes c).In-loop-e) (share (goal.at.overflow_cast-goes c).In-loop-e))
+    subst (λ (x : Found). Landed (abs_in a.sh a.lists.now) (classes_here (goal.at.overflow_cast-goes c).In-loop-e) a.row.now a.r c.loop-e.e x) c.in-At.is
+    (c.image_of.ensures (classes_here (goal.at.overflow_cast-goes c).In-loop-e) (share (goal.at.overflow_cast-goes c).In-loop-e))
 
 small : (c : In-At) → c.in-At.x < max_count
 small c =
@@ -88,7 +88,7 @@ shape_of-goes-in_default c = c.loop-e.invariant.long
 
 pub returns-in_default : goal.returns-in_default
 returns-in_default c = record {
-  value = elements_stop c.loop-e.invariant c.requires.row.0.held c.loop-e-test.true (rw c.in_default.is at (c.image_of.ensures (classesHere (goal.at.returns-in_default c).In-loop-e) (share (goal.at.returns-in_default c).In-loop-e)));
+  value = elements_stop c.loop-e.invariant c.requires.row.0.held c.loop-e-test.true (rw c.in_default.is at (c.image_of.ensures (classes_here (goal.at.returns-in_default c).In-loop-e) (share (goal.at.returns-in_default c).In-loop-e)));
   images = (λ z. absurd (false≢true z));
 }
 

@@ -20,9 +20,6 @@ loop-i-init c = (search rules, none)
 pub loop-i-preserved : goal.loop-i-preserved
 loop-i-preserved c = (search rules, next _ (omega (arith, c.requires)) refl c.loop-i.invariant.1)
 
-pub shape_of-out : goal.shape_of-out
-shape_of-out c = search rules
-
 pub returns : goal.returns
 returns c =
     let l = c.loop-i in

@@ -6,8 +6,5 @@ use Rattle.float.proofs.bits.from_pattern.Goals as goal
 pub float_from_bits-result : goal.float_from_bits-result
 float_from_bits-result c = no_nan_pattern _ c.if-n-le-INFINITY.true
 
-pub returns-then-n-le-INFINITY : goal.returns-then-n-le-INFINITY
-returns-then-n-le-INFINITY c = search rules
-
 pub returns : goal.returns
 returns c = nan_pattern _ c.if-n-le-INFINITY.false

@@ -8,6 +8,3 @@ returns-then-x c = the_pattern _ (differs _ c.if-x.true)
 
 pub float_to_bits-result : goal.float_to_bits-result
 float_to_bits-result c = no_nan _ c.if-x.false
-
-pub returns : goal.returns
-returns c = search rules

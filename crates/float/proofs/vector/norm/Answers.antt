@@ -4,12 +4,6 @@ use borrow.Author.Rules.{rules}
 use Rattle.spec.specs.Float.{root, norm}
 use Rattle.float.proofs.vector.norm.Goals as goal
 
-pub dot_of-requires : goal.dot_of-requires
-dot_of-requires c = search rules
-
-pub root-requires : goal.root-requires
-root-requires c = search rules
-
 pub returns : goal.returns
 unfolding norm
 returns c = c.root.ensures ∙ ap root c.dot_of.ensures
