@@ -1,10 +1,9 @@
 // This module makes section 7's copies: "A point not found among the copies is multiplied by every matrix in order; each image not found joins." The
 // copies stand one after another in a lent buffer, d floats each, and `limit` says how many of them there may be.
-ghost use Rattle.std.specs.Prelude.{◌≡◌, ◌*◌, ◌≤◌, length, take, drop};
+ghost use Rattle.std.specs.Prelude.{◌*◌, ◌≤◌, length, take};
 ghost use Rattle.spec.specs.Limits.{max_dimension};
 ghost use Rattle.spec.specs.Copying.{spread as spread_of, copies as copies_of, points as points_of, matrices};
-ghost use Rattle.spec.specs.Lists.{parts, written};
-ghost use Rattle.matrix.specs.Reading.{corner};
+ghost use Rattle.spec.specs.Lists.{parts};
 ghost use Rattle.copying.specs.Post.{CopiesKept, with_image, with_point};
 
 use float::DIMENSION;

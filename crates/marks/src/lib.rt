@@ -3,7 +3,7 @@
 // image is found by the images of its subs, one rank after another, so that no vertex set has to be made.
 #![tactic(auto)]
 
-ghost use Rattle.std.specs.Prelude.{◌≡◌, true, ℕ, suc, ◌+◌, ◌*◌, ◌≤◌, ◌<◌, length, get_or, eqb};
+ghost use Rattle.std.specs.Prelude.{◌≡◌, true, ℕ, suc, ◌+◌, ◌≤◌, ◌<◌, length, get_or, eqb};
 ghost use Rattle.points.specs.Finding.{first_of};
 ghost use Rattle.spec.specs.Limits.{max_count};
 ghost use Rattle.spec.specs.Lists.{In, holds, keep, every};

@@ -1,5 +1,5 @@
 // This module has the lines that `kit` prints.
-ghost use Rattle.std.specs.Prelude.{◌≡◌, ◌+◌, ◌*◌, ◌≤◌, ◌<◌, length, get_or, take};
+ghost use Rattle.std.specs.Prelude.{◌+◌, ◌*◌, ◌≤◌, ◌<◌, length, take};
 ghost use Rattle.spec.specs.KitText.{refused_line, type_line, types_lines};
 ghost use Rattle.text.specs.Puts.{Puts};
 ghost use Rattle.text.specs.Cells.{types_from, lines_to};

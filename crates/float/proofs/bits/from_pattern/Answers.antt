@@ -1,5 +1,4 @@
 -- `float::bits::from_pattern` meets its contract. Assumes nothing.
-use borrow.Author.Rules.{rules}
 use Rattle.float.proofs.bits.Nans.{no_nan_pattern, nan_pattern}
 use Rattle.float.proofs.bits.from_pattern.Goals as goal
 

@@ -1,5 +1,4 @@
 -- `float::bits::pattern` meets its contract. Assumes nothing.
-use borrow.Author.Rules.{rules}
 use Rattle.float.proofs.bits.Nans.{differs, the_pattern, no_nan}
 use Rattle.float.proofs.bits.pattern.Goals as goal
 

@@ -1,6 +1,5 @@
 -- `float::vector::norm` meets its contract. Assumes nothing.
 use mathlib.Core.Path.{◌∙◌, ap}
-use borrow.Author.Rules.{rules}
 use Rattle.spec.specs.Float.{root, norm}
 use Rattle.float.proofs.vector.norm.Goals as goal
 
