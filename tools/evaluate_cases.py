@@ -17,13 +17,12 @@ import tempfile
 
 TOP = os.path.dirname(os.path.dirname(os.path.abspath(__file__)))
 
-HEADER = """use Rattle.std.specs.Prelude.{◌≡◌, refl, ℕ, List, [], ◌∷◌, ◌++◌, map, replicate, Float}
+HEADER = """use Rattle.std.specs.Prelude.{◌≡◌, refl, ℕ, List, [], ◌∷◌, ◌++◌, map, replicate, Float, Ok}
 use Rattle.std.specs.Float.{binary64}
 use Rattle.std.specs.Float.Ieee.{of_bits, to_bits}
 use Rattle.spec.specs.declared.Refusal.{Refusal}
 use Rattle.spec.specs.declared.Refusal.TheVariants.{CutSheet, Format, OffTheBoard, BadList, Loose, Mitre, Bench, NotFull, DoubleCorner, Centred, Flat, Blank, ShortSheet, Open, Unsettled}
-use Rattle.spec.specs.declared.Answer.{Answer}
-use Rattle.spec.specs.declared.Answer.TheVariants.{Done, Refused}
+use Rattle.spec.specs.Refusal.{Answer, refused_with}
 use Rattle.spec.specs.Ascii.{ascii}
 use Rattle.spec.specs.Calls.{TypesOut, types_call, SearchOut, search_call, rotations_call}
 use Rattle.spec.specs.Copying.{copy_call}
@@ -77,20 +76,20 @@ def types(folder, name, sheet):
     why = refused(lines)
     if why:
         out = "record { elements = []; types = [] }"
-        return f"types_call {sheet} 1000000 1000000 ({out}) ≡ (Refused {why} 0, {out})", "evaluate"
+        return f"types_call {sheet} 1000000 1000000 ({out}) ≡ (refused_with {why} 0, {out})", "evaluate"
     n = int(lines[0].split()[1])
     cells = [c for l in lines[1:1 + n] for c in l.split()]
     elements = [c for l in lines[1 + n:] for c in l.split(":")[1].split()]
     old = f"record {{ elements = replicate {len(elements)} 7; types = replicate {len(cells)} 7 }}"
     new = f"record {{ elements = {lst(elements)}; types = {lst(cells)} }}"
-    return f"types_call {sheet} 1000000 1000000 ({old}) ≡ (Done {n}, {new})", "evaluate"
+    return f"types_call {sheet} 1000000 1000000 ({old}) ≡ (Ok {n}, {new})", "evaluate"
 
 
 def search(folder, name, sheet, call, ending):
     lines = lines_of(f"{folder}/{name}.{ending}")
     why = refused(lines)
     if why:
-        return f"shown ({call} {sheet} 1000000 1000000 (record {{ matrices = []; rows = []; marks = [] }})) ≡ (Refused {why} 0, [], [], [])", "evaluate shown"
+        return f"shown ({call} {sheet} 1000000 1000000 (record {{ matrices = []; rows = []; marks = [] }})) ≡ (refused_with {why} 0, [], [], [])", "evaluate shown"
     floats, rows, marks = [], [], []
     for l in lines:
         m = re.match(r"member (.*) \| row (.*) \| mark (\d)", l)
@@ -99,7 +98,7 @@ def search(folder, name, sheet, call, ending):
             rows += m.group(2).split()
             marks.append(m.group(3))
     old = f"record {{ matrices = replicate {len(floats)} (of_bits binary64 0); rows = replicate {len(rows)} 7; marks = replicate {len(marks)} 7 }}"
-    return f"shown ({call} {sheet} 1000000 1000000 ({old})) ≡ (Done {len(marks)}, {lst(floats)}, {lst(rows)}, {lst(marks)})", "evaluate shown"
+    return f"shown ({call} {sheet} 1000000 1000000 ({old})) ≡ (Ok {len(marks)}, {lst(floats)}, {lst(rows)}, {lst(marks)})", "evaluate shown"
 
 
 def copy(folder, name):
@@ -115,7 +114,7 @@ def copy(folder, name):
     floats = min(int(floats), len(copies) + 4)
     cells = min(int(cells), len(table) + 4)
     call = f"copied (copy_call {d} (vec {lst(points)}) (vec {lst(turns)}) (replicate {floats} (of_bits binary64 0)) (replicate {cells} 7))"
-    got = f"Refused {why} {n}" if why else f"Done {n}"
+    got = f"refused_with {why} {n}" if why else f"Ok {n}"
     new = f"{lst(copies)} ++ replicate {floats - len(copies)} 0"
     return f"{call} ≡ ({got}, {new}, {lst(table)} ++ replicate {cells - len(table)} 7)", "all copied vec"
 

@@ -42,11 +42,9 @@ fn next_root(x: f64) -> f64 {
     float::root::root(3.99 * square * (1.0 - square))
 }
 
-// Each inverse is of a matrix that depends on an entry of the one before.
+// Each inverse is of a matrix that depends on an entry of the one before. A singular matrix counts as one of zeros.
 fn next_inverse(x: f64) -> f64 {
-    let mut regular = false;
-    let m = matrix::inverse(matrix_of(x), SIDE, &mut regular);
-    m[1][1] + 1.0
+    matrix::inverse(matrix_of(x), SIDE).map_or(0.0, |m| m[1][1]) + 1.0
 }
 
 // Each determinant is of a matrix that depends on the one before.
@@ -54,23 +52,27 @@ fn next_determinant(x: f64) -> f64 {
     1.0 / matrix::determinant(matrix_of(x), SIDE)
 }
 
-fn next(letter: u8, x: f64) -> f64 {
-    match letter {
-        b'r' => next_root(x),
-        b'i' => next_inverse(x),
-        _ => next_determinant(x),
-    }
-}
-
-// Repeats an operation that goes from a number to a number.
-fn repeat_on_number(letter: u8, first: f64, times: u64) -> f64 {
+// Does an operation that many times, and returns what the last time gave.
+fn repeat<T, F: Fn(T) -> T>(operation: F, first: T, times: u64) -> T
+    requires { F.IsAlwaysCallable operation }
+{
     let mut x = first;
-    let mut left = times;
-    while left > 0 {
-        x = next(letter, x);
-        left -= 1;
+    for _ in 0..times {
+        x = operation(x);
     }
     x
+}
+
+pub fn roots(times: u64) -> f64 {
+    repeat(next_root, 0.3, times)
+}
+
+pub fn inverses(times: u64) -> f64 {
+    repeat(next_inverse, 1.0, times)
+}
+
+pub fn determinants(times: u64) -> f64 {
+    repeat(next_determinant, 1.0, times)
 }
 
 fn turning() -> [[f64; DIMENSION]; DIMENSION] {
@@ -83,21 +85,6 @@ fn turning() -> [[f64; DIMENSION]; DIMENSION] {
 }
 
 // Each product multiplies the one before by itself, so that every entry counts. The loop carries the matrix whole, so that only products are timed.
-fn repeat_product(times: u64) -> f64 {
-    let mut m = turning();
-    let mut left = times;
-    while left > 0 {
-        m = matrix::product(m, m, SIDE);
-        left -= 1;
-    }
-    m[0][0]
-}
-
-// Does the operation that the letter names that many times, and returns what the last time gave.
-pub fn repeat(letter: u8, times: u64) -> f64 {
-    match letter {
-        b'p' => repeat_product(times),
-        b'r' => repeat_on_number(letter, 0.3, times),
-        _ => repeat_on_number(letter, 1.0, times),
-    }
+pub fn products(times: u64) -> f64 {
+    repeat(|m| matrix::product(m, m, SIDE), turning(), times)[0][0]
 }

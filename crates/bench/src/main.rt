@@ -12,54 +12,49 @@ ghost use Rattle.std.specs.Prelude.{◌<◌};
 
 use float::bits;
 use std::rt::Env;
-use wire::{Run, writing};
+use wire::{End, Run};
 
-fn power(n: u8) -> u64
+// Returns 8^n for a digit n from 1 to 8, and otherwise 1.
+fn power(digit: Option<u8>) -> u64
     ensures { 0 < result }
 {
-    match n {
-        b'1' => 8,
-        b'2' => 64,
-        b'3' => 512,
-        b'4' => 4096,
-        b'5' => 32768,
-        b'6' => 262144,
-        b'7' => 2097152,
-        b'8' => 16777216,
+    match digit {
+        Some(n @ b'1'..=b'8') => 8u64.pow(u32::from(n - b'0')),
         _ => 1,
     }
 }
 
-// Returns the one byte of the argument, or 0 where it is missing or has another length.
-fn argument(rt: &impl Env, i: usize) -> u8 {
+// Returns the byte of an argument of one byte.
+fn argument(rt: &impl Env, i: usize) -> Option<u8> {
     let mut b = [0u8; 1];
     match rt.arg(i, &mut b) {
-        Ok(1) => b[0],
-        _ => 0,
+        Ok(1) => Some(b[0]),
+        _ => None,
     }
 }
 
-// Does the operation that the letter names that many times, and prints what the last time gave.
-fn print(run: Run, letter: u8, times: u64) -> Run {
-    let x = arithmetic::repeat(letter, times);
-    writing::bytes(writing::pattern(run, bits::pattern(x)), b"\n")
+// Prints what an operation gave.
+fn print(run: Run, x: f64) -> Result<Run, End> {
+    run.pattern(bits::pattern(x))?.bytes(b"\n")
 }
 
-fn each(run: Run) -> Run {
-    let a = print(run, b'r', 64);
-    let b = print(a, b'i', 64);
-    let c = print(b, b'd', 64);
-    let d = print(c, b'p', 64);
+fn each(run: Run) -> Result<Run, End> {
+    let a = print(run, arithmetic::roots(64))?;
+    let b = print(a, arithmetic::inverses(64))?;
+    let c = print(b, arithmetic::determinants(64))?;
+    let d = print(c, arithmetic::products(64))?;
     sheets::judge(d, 1)
 }
 
 fn main(rt: HostRuntime) {
     let run = wire::start(0, 1);
-    let letter = argument(&rt, 1);
     let times = power(argument(&rt, 2));
-    match letter {
-        b'r' | b'i' | b'd' | b'p' => print(run, letter, times),
-        b's' => sheets::judge(run, times),
+    let _ = match argument(&rt, 1) {
+        Some(b'r') => print(run, arithmetic::roots(times)),
+        Some(b'i') => print(run, arithmetic::inverses(times)),
+        Some(b'd') => print(run, arithmetic::determinants(times)),
+        Some(b'p') => print(run, arithmetic::products(times)),
+        Some(b's') => sheets::judge(run, times),
         _ => each(run),
     };
 }

@@ -1,5 +1,6 @@
 -- This file takes the judgement of points and matrices test by test: which test fails first, and what holds where none does.
 -- Assumes nothing.
+use Rattle.std.specs.Prelude.{Err, Ok}
 use mathlib.Core.Path.{◌≡◌, refl, ◌∙◌}
 use mathlib.Core.Bool.{Bool, true, false, ◌&&◌}
 use mathlib.Core.List.{List}
@@ -14,17 +15,17 @@ use Rattle.spec.specs.declared.Refusal.TheVariants.{CutSheet, Format, OffTheBoar
 use Rattle.spec.specs.Limits.{max_dimension}
 use Rattle.spec.specs.Lists.{every}
 use Rattle.spec.specs.Float.{in_range}
-use Rattle.spec.specs.Judged.{Judged, refused, passed, ◌>>◌, judge}
+use Rattle.spec.specs.Judged.{Judged, ◌>>◌, judge}
 use Rattle.spec.specs.Copying.{judge_copy}
 
 -- ---- one judgement of two tests, and those after it
 
 module _ (why : Refusal) (x y : Bool) (after : Judged (Unit {0})) where
-  pub first_fails : x ≡ false → refused why ≡ (judge why (x && y) >> after)
+  pub first_fails : x ≡ false → Err why ≡ (judge why (x && y) >> after)
   unfolding judge ◌>>◌
   first_fails e = rw e
 
-  pub second_fails : x ≡ true → y ≡ false → refused why ≡ (judge why (x && y) >> after)
+  pub second_fails : x ≡ true → y ≡ false → Err why ≡ (judge why (x && y) >> after)
   unfolding judge ◌>>◌
   second_fails e f = rw (e, f)
 
@@ -32,10 +33,10 @@ module _ (why : Refusal) (x y : Bool) (after : Judged (Unit {0})) where
   unfolding judge ◌>>◌
   both_pass e f = rw (e, f)
 
-clash : (why : Refusal) → ◌≡◌ {A = Judged (Unit {0})} (passed tt) (refused why) → ⊥
+clash : (why : Refusal) → ◌≡◌ {A = Judged (Unit {0})} (Ok tt) (Err why) → ⊥
 clash why e = let z : ◌≡◌ {A = ℕ} 0 1 = cc in omega arith
 
-both_passed : (why : Refusal) (x y : Bool) (after : Judged (Unit {0})) → passed tt ≡ (judge why (x && y) >> after) → (x ≡ true) × (y ≡ true) × (passed tt ≡ after)
+both_passed : (why : Refusal) (x y : Bool) (after : Judged (Unit {0})) → Ok tt ≡ (judge why (x && y) >> after) → (x ≡ true) × (y ≡ true) × (Ok tt ≡ after)
 unfolding judge ◌>>◌
 both_passed why true true after e = (refl, refl, e)
 both_passed why true false after e = absurd (clash why e)
@@ -45,7 +46,7 @@ both_passed why false y after e = absurd (clash why e)
 
 module _ (d : ℕ) (ps ts : List Float) where
   abbrev pub blank : Judged (Unit {0})
-  blank = judge Blank (ltb 0 (length ps) && ltb 0 (length ts)) >> passed tt
+  blank = judge Blank (ltb 0 (length ps) && ltb 0 (length ts)) >> Ok tt
 
   abbrev pub off_the_board : Judged (Unit {0})
   off_the_board = judge OffTheBoard (every in_range ps && every in_range ts) >> blank
@@ -53,7 +54,7 @@ module _ (d : ℕ) (ps ts : List Float) where
   abbrev pub cut_sheet : Judged (Unit {0})
   cut_sheet = judge CutSheet (eqb (length ps % d) 0 && eqb (length ts % (d * d)) 0) >> off_the_board
 
-  last : (b : Bool) → judge Blank b ≡ (judge Blank b >> passed tt)
+  last : (b : Bool) → judge Blank b ≡ (judge Blank b >> Ok tt)
   unfolding judge ◌>>◌
   last true = refl
   last false = refl
@@ -69,12 +70,12 @@ module _ (d : ℕ) (ps ts : List Float) where
     pub whole : length ts % (d * d) ≡ 0
     pub some : 0 < length ts
 
-  pub judged_passed : passed tt ≡ judge_copy d ps ts → Judgeable
+  pub judged_passed : Ok tt ≡ judge_copy d ps ts → Judgeable
   judged_passed e =
       let f = both_passed Format (leb 1 d) (leb d max_dimension) cut_sheet (e ∙ judgements) in
       let g = both_passed CutSheet (eqb (length ps % d) 0) (eqb (length ts % (d * d)) 0) off_the_board f.2 in
       let h = both_passed OffTheBoard (every in_range ps) (every in_range ts) blank g.2 in
-      let i = both_passed Blank (ltb 0 (length ps)) (ltb 0 (length ts)) (passed tt) h.2 in
+      let i = both_passed Blank (ltb 0 (length ps)) (ltb 0 (length ts)) (Ok tt) h.2 in
       record {
         low = leb-true 1 d f.0;
         high = leb-true d max_dimension f.1;

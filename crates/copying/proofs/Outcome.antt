@@ -1,5 +1,6 @@
 -- This file gives the answer and the two outputs together, for each way through the call.
 -- Assumes nothing.
+use Rattle.std.specs.Prelude.{Err, Ok}
 use mathlib.Core.Path.{◌≡◌, sym, ap, ap₂, ◌∙◌}
 use mathlib.Core.Bool.{true, false, ◌&&◌}
 use mathlib.Core.List.{List, ◌++◌}
@@ -13,11 +14,10 @@ use lib.Ieee.{Float}
 use borrow.Author.Tests.{le-leb, lt-leb}
 use Rattle.spec.specs.declared.Refusal.{Refusal}
 use Rattle.spec.specs.declared.Refusal.TheVariants.{ShortSheet, Open}
-use Rattle.spec.specs.declared.Answer.TheVariants.{Done, Refused}
+use Rattle.spec.specs.Refusal.{refused_with}
 use Rattle.spec.specs.Limits.{max_count}
 use Rattle.spec.specs.Lists.{join, holds, written}
 use Rattle.spec.specs.Matrix.{Vector, Matrix}
-use Rattle.spec.specs.Judged.{refused, passed}
 use Rattle.spec.specs.Copying
 use Rattle.spec.specs.Copying.{copies, matrices, copy_table, judge_copy, copy_out, copy_call, no_image}
 use Rattle.laws.proofs.CopyLaws.{table_length}
@@ -32,25 +32,25 @@ module _ (n : ℕ) (ms : List Matrix) (cs : List Vector) (points : List Float) (
 
   -- The definition has three branches, and each lemma gives one of them.
   short : (leb (length cs) n && leb cells (length table)) ≡ false
-      → (Refused ShortSheet (length (take n cs)), written (join (take n cs)) points, table) ≡ copy_out n ms cs points table
+      → (refused_with ShortSheet (length (take n cs)), written (join (take n cs)) points, table) ≡ copy_out n ms cs points table
   unfolding copy_out
   short e = rw (e, copy_out)
 
   opened : (leb (length cs) n && leb cells (length table)) ≡ true → holds eqb (length cs) (copy_table ms cs) ≡ true
-      → (Refused Open (length (take n cs)), written (join (take n cs)) points, written (replicate cells no_image) table) ≡ copy_out n ms cs points table
+      → (refused_with Open (length (take n cs)), written (join (take n cs)) points, written (replicate cells no_image) table) ≡ copy_out n ms cs points table
   unfolding copy_out
   opened e f = rw (e, f, copy_out)
 
   done : (leb (length cs) n && leb cells (length table)) ≡ true → holds eqb (length cs) (copy_table ms cs) ≡ false
-      → (Done (length cs), written (join (take n cs)) points, written (copy_table ms cs) table) ≡ copy_out n ms cs points table
+      → (Ok (length cs), written (join (take n cs)) points, written (copy_table ms cs) table) ≡ copy_out n ms cs points table
   unfolding copy_out
   done e f = rw (e, f, copy_out)
 
   -- There are more points than there is room for.
-  pub answer-full : {after : List Float} → Overfull n cs points after → (Refused ShortSheet n, after, table) ≡ copy_out n ms cs points table
+  pub answer-full : {after : List Float} → Overfull n cs points after → (refused_with ShortSheet n, after, table) ≡ copy_out n ms cs points table
   answer-full o =
       let k : length (take n cs) ≡ n = length-take-le n cs (omega (arith, o.more)) in
-      ap₂ (λ (a : ℕ) (b : List Float). (Refused ShortSheet a, b, table)) (sym k) o.is
+      ap₂ (λ (a : ℕ) (b : List Float). (refused_with ShortSheet a, b, table)) (sym k) o.is
       ∙ short (rw (lt-leb (length cs) n o.more))
 
   module _ {d m : ℕ} {after : List Float} (f : Fitting d n cs points after m) where
@@ -73,26 +73,26 @@ module _ (n : ℕ) (ms : List Matrix) (cs : List Vector) (points : List Float) (
     size = ap (λ (x : ℕ). length ms * x) (sym count)
 
     -- There are more cells than there is room for.
-    pub answer_short : length table < length ms * m → (Refused ShortSheet m, after, table) ≡ copy_out n ms cs points table
+    pub answer_short : length table < length ms * m → (refused_with ShortSheet m, after, table) ≡ copy_out n ms cs points table
     answer_short h =
-        ap₂ (λ (a : ℕ) (b : List Float). (Refused ShortSheet a, b, table)) kept-count points_are
+        ap₂ (λ (a : ℕ) (b : List Float). (refused_with ShortSheet a, b, table)) kept-count points_are
         ∙ short (rw (within, lt-leb cells (length table) (omega (arith, h, size))))
 
     module _ (h : length ms * m ≤ length table) where
       room : (leb (length cs) n && leb cells (length table)) ≡ true
       room = rw (within, le-leb cells (length table) (omega (arith, h, size)))
 
-      pub answer-done : {t : List ℕ} → AllFound m (copy_table ms cs) table t → (Done m, after, t) ≡ copy_out n ms cs points table
+      pub answer-done : {t : List ℕ} → AllFound m (copy_table ms cs) table t → (Ok m, after, t) ≡ copy_out n ms cs points table
       answer-done {t} c =
-          ap (λ (a : ℕ). (Done a, after, t)) (sym count)
-          ∙ ap₂ (λ (a : List Float) (b : List ℕ). (Done (length cs), a, b)) points_are c.is
+          ap (λ (a : ℕ). (Ok a, after, t)) (sym count)
+          ∙ ap₂ (λ (a : List Float) (b : List ℕ). (Ok (length cs), a, b)) points_are c.is
           ∙ done room (ap (λ (a : ℕ). holds eqb a (copy_table ms cs)) count ∙ c.none)
 
       -- The table is filled over whatever of it was written.
-      pub answer_open : {t : List ℕ} → SomeMissing m (copy_table ms cs) table t → (Refused Open m, after, written (replicate (length ms * m) no_image) t) ≡ copy_out n ms cs points table
+      pub answer_open : {t : List ℕ} → SomeMissing m (copy_table ms cs) table t → (refused_with Open m, after, written (replicate (length ms * m) no_image) t) ≡ copy_out n ms cs points table
       answer_open {t} o =
-          ap (λ (a : ℕ). (Refused Open a, after, written (replicate (length ms * m) no_image) t)) kept-count
-          ∙ ap₂ (λ (a : List Float) (b : List ℕ). (Refused Open (length (take n cs)), a, b)) points_are filled
+          ap (λ (a : ℕ). (refused_with Open a, after, written (replicate (length ms * m) no_image) t)) kept-count
+          ∙ ap₂ (λ (a : List Float) (b : List ℕ). (refused_with Open (length (take n cs)), a, b)) points_are filled
           ∙ opened room (ap (λ (a : ℕ). holds eqb a (copy_table ms cs)) count ∙ o.some)
         where
           past : drop cells t ≡ drop cells table
@@ -128,11 +128,11 @@ some_matrices d l e h = go (l / d) (div-add-mod' l d)
 -- ---- the whole call
 
 module _ (d : ℕ) (ps ts points : List Float) (table : List ℕ) where
-  pub call-refused : (why : Refusal) → judge_copy d ps ts ≡ refused why → (Refused why 0, points, table) ≡ copy_call d ps ts points table
+  pub call-refused : (why : Refusal) → judge_copy d ps ts ≡ Err why → (refused_with why 0, points, table) ≡ copy_call d ps ts points table
   unfolding copy_call
   call-refused why e = rw (e, copy_call)
 
-  pub call_passed : judge_copy d ps ts ≡ passed tt →
+  pub call_passed : judge_copy d ps ts ≡ Ok tt →
       copy_out (min max_count (length points / d)) (matrices d ts) (copies (matrices d ts) (Copying.points d ps)) points table ≡ copy_call d ps ts points table
   unfolding copy_call
   call_passed e = rw (e, copy_call)

@@ -1,20 +1,10 @@
 -- This file says what the parts of the call hand back, in terms of document 01's definitions.
 -- Assumes nothing.
-use Rattle.std.specs.Prelude.{◌≡◌, ℕ, ◌≤◌, ◌<◌, true, false, List, [], ◌∷◌, ◌++◌, length, take, Float}
-use Rattle.spec.specs.declared.Verdict.{Verdict}
-use Rattle.spec.specs.declared.Verdict.TheVariants.{Accepted, Refused}
-use Rattle.copying.specs.declared.joining.CopyRoom.{CopyRoom}
-use Rattle.copying.specs.declared.joining.CopyRoom.TheVariants as room
-use Rattle.spec.specs.Judged.{Judged, refused, passed}
+use Rattle.std.specs.Prelude.{◌≡◌, ℕ, ◌≤◌, ◌<◌, true, false, List, [], ◌∷◌, ◌++◌, length, take, Float, Option, Some, None}
 use Rattle.spec.specs.Lists.{join, parts, written}
 use Rattle.spec.specs.Matrix.{Vector, Matrix}
 use Rattle.spec.specs.Copying.{spread}
 use Rattle.spec.specs.Points.{found}
-
--- Gives the judgement that an answer of the code stands for.
-abbrev pub verdict_as : Verdict → Judged (Unit {0})
-verdict_as Accepted = passed tt
-verdict_as (Refused why) = refused why
 
 -- Adds one image more to the copies, unless the image is found among them.
 unfoldable pub with_image : List Vector → Vector → List Vector
@@ -35,7 +25,7 @@ pub record Overfull (limit : ℕ) (all : List Vector) (before after : List Float
   pub more : limit < length all
   pub is : after ≡ written (join (take limit all)) before
 
--- Says what a buffer holds by the answer, where `all` are the copies and at most `limit` are kept.
-abbrev pub CopiesKept : (d limit : ℕ) (all : List Vector) (before after : List Float) → CopyRoom → Type 0
-CopiesKept d limit all before after (room.Fits n) = Fitting d limit all before after n
-CopiesKept d limit all before after room.Full = Overfull limit all before after
+-- Says what a buffer holds by the answer, which is the number of the copies or that there is no room for them, where `all` are the copies and at most `limit` are kept.
+abbrev pub CopiesKept : (d limit : ℕ) (all : List Vector) (before after : List Float) → Option ℕ → Type 0
+CopiesKept d limit all before after (Some n) = Fitting d limit all before after n
+CopiesKept d limit all before after None = Overfull limit all before after

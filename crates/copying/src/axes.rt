@@ -84,10 +84,8 @@ fn widened(m: [[f64; 3]; 3]) -> [[f64; DIMENSION]; DIMENSION]
     ensures { result ≡ padded_rows m }
 {
     let mut r = [[0.0; DIMENSION]; DIMENSION];
-    let mut i: usize = 0;
-    while i < 3 {
+    for i in 0..3 {
         r[i] = vector::load(&m[i]);
-        i += 1;
     }
     r
 }
@@ -96,14 +94,7 @@ fn widened(m: [[f64; 3]; 3]) -> [[f64; DIMENSION]; DIMENSION]
 pub fn axis_orders() -> [[[f64; DIMENSION]; DIMENSION]; 48]
     ensures { result ≡ map padded_rows axis_orders }
 {
-    let table = entries();
-    let mut r = [[[0.0; DIMENSION]; DIMENSION]; 48];
-    let mut k: usize = 0;
-    while k < 48 {
-        r[k] = widened(table[k]);
-        k += 1;
-    }
-    r
+    entries().map(widened)
 }
 
 // Writes the nine floats of a matrix of three dimensions, row by row, to the first cells. It promises that they are nine, because a function that
@@ -112,10 +103,8 @@ fn put_turn(out: &mut [f64], m: [[f64; DIMENSION]; DIMENSION])
     requires { 9 ≤ length out.old }
     ensures { (length (join (corner 3 m)) ≡ 9) × (out.new ≡ written (join (corner 3 m)) out.old) }
 {
-    let mut i: usize = 0;
-    while i < 9 {
+    for i in 0..9 {
         out[i] = m[i / 3][i % 3];
-        i += 1;
     }
 }
 
@@ -125,11 +114,9 @@ fn put_turns(table: &[[[f64; DIMENSION]; DIMENSION]], out: &mut [f64])
     ensures { (length (join (join (map (corner 3) table.now))) ≡ length table.now * 9)
         × (out.new ≡ written (join (join (map (corner 3) table.now))) out.old) }
 {
-    let mut k: usize = 0;
-    while k < table.len() {
+    for k in 0..table.len() {
         let at = k * 9;
         put_turn(&mut out[at..], table[k]);
-        k += 1;
     }
 }
 

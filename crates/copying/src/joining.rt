@@ -7,30 +7,23 @@ ghost use Rattle.spec.specs.Lists.{parts};
 ghost use Rattle.copying.specs.Post.{CopiesKept, with_image, with_point};
 
 use float::DIMENSION;
-use points::Found;
 
-// This says how many copies there are, or is the answer that there is no room for them all.
-#[derive(Clone, Copy)]
-pub enum CopyRoom {
-    Fits(usize),
-    Full,
-}
-
-// Adds one image. It joins after the n copies, unless it is found among them or there is no room for it.
-fn add(out: &mut [f64], d: usize, n: usize, limit: usize, q: [f64; DIMENSION]) -> CopyRoom
+// Adds one image, and tells how many copies there are then, unless there is no room for it. It joins after the n copies, where it is not found among
+// them.
+fn add(out: &mut [f64], d: usize, n: usize, limit: usize, q: [f64; DIMENSION]) -> Option<usize>
     requires { (1 ≤ d) × (d ≤ max_dimension) × (n ≤ limit) × (limit * d ≤ length out.old) }
     ensures { CopiesKept d limit (with_image (parts n d out.old) (take d q)) out.old out.new result }
 {
-    if let Found::At(_) = points::find(out, d, n, q) {
-        return CopyRoom::Fits(n);
+    if points::find(out, d, n, q).is_some() {
+        return Some(n);
     }
     let more = n + 1;
     if more <= limit {
         let end = n * d;
         points::put(&mut out[end..], q, d);
-        return CopyRoom::Fits(more);
+        return Some(more);
     }
-    CopyRoom::Full
+    None
 }
 
 // Adds the images of p under every matrix in order.
@@ -41,23 +34,18 @@ fn spread(
     limit: usize,
     turns: &[f64],
     p: [f64; DIMENSION],
-) -> CopyRoom
+) -> Option<usize>
     requires { (1 ≤ d) × (d ≤ max_dimension) × (n ≤ limit) × (limit * d ≤ length out.old) }
     ensures { CopiesKept d limit (spread_of (matrices d turns.now) (take d p) (parts n d out.old))
         out.old out.new result }
 {
     let count = turns.len() / (d * d);
     let mut held = n;
-    let mut j: usize = 0;
-    while j < count {
+    for j in 0..count {
         let q = matrix::image(points::matrix_at(turns, d, j), p, d);
-        let CopyRoom::Fits(more) = add(out, d, held, limit, q) else {
-            return CopyRoom::Full;
-        };
-        held = more;
-        j += 1;
+        held = add(out, d, held, limit, q)?;
     }
-    CopyRoom::Fits(held)
+    Some(held)
 }
 
 // Adds the images of one point, unless the point itself is found among the n copies.
@@ -68,32 +56,28 @@ fn point_copied(
     limit: usize,
     turns: &[f64],
     p: [f64; DIMENSION],
-) -> CopyRoom
+) -> Option<usize>
     requires { (1 ≤ d) × (d ≤ max_dimension) × (n ≤ limit) × (limit * d ≤ length out.old) }
     ensures { CopiesKept d limit (with_point (matrices d turns.now) (parts n d out.old) (take d p))
         out.old out.new result }
 {
-    if let Found::At(_) = points::find(out, d, n, p) {
-        return CopyRoom::Fits(n);
+    if points::find(out, d, n, p).is_some() {
+        return Some(n);
     }
     spread(out, d, n, limit, turns, p)
 }
 
-// Makes all the copies. Copies only ever join at the end, so the ones that fit are the first ones.
-pub fn copies(from: &[f64], turns: &[f64], d: usize, limit: usize, out: &mut [f64]) -> CopyRoom
+// Makes all the copies, and tells how many there are, unless there is no room for them all. Copies only ever join at the end, so the ones that fit
+// are the first ones.
+pub fn copies(from: &[f64], turns: &[f64], d: usize, limit: usize, out: &mut [f64]) -> Option<usize>
     requires { (1 ≤ d) × (d ≤ max_dimension) × (limit * d ≤ length out.old) }
     ensures { CopiesKept d limit (copies_of (matrices d turns.now) (points_of d from.now)) out.old out.new result }
 {
     let count = from.len() / d;
-    let mut n: usize = 0;
-    let mut k: usize = 0;
-    while k < count {
+    let mut n = 0;
+    for k in 0..count {
         let p = points::loaded(from, d, k);
-        let CopyRoom::Fits(more) = point_copied(out, d, n, limit, turns, p) else {
-            return CopyRoom::Full;
-        };
-        n = more;
-        k += 1;
+        n = point_copied(out, d, n, limit, turns, p)?;
     }
-    CopyRoom::Fits(n)
+    Some(n)
 }

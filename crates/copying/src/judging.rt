@@ -3,53 +3,44 @@ ghost use Rattle.std.specs.Prelude.{◌≡◌};
 ghost use Rattle.spec.specs.Lists.{every};
 ghost use Rattle.spec.specs.Float.{in_range};
 ghost use Rattle.spec.specs.Copying.{judge_copy};
-ghost use Rattle.copying.specs.Post.{verdict_as};
 
 use float::DIMENSION;
-use spec::{Refusal, Verdict};
+use spec::Refusal;
 
 // Tells whether every float is finite and not too large.
 fn all_in_range(s: &[f64]) -> bool
     ensures { result ≡ every in_range s.now }
 {
-    let mut i: usize = 0;
-    while i < s.len() {
-        if points::in_range(s[i]) {
-            i += 1;
-        } else {
-            return false;
-        }
-    }
-    true
+    s.iter().all(|x| points::in_range(*x))
 }
 
 // Makes the four judgements, in their order. A refusal ends them, so each test may rely on the ones before it.
-pub fn judged(d: usize, from: &[f64], turns: &[f64]) -> Verdict
-    ensures { verdict_as result ≡ judge_copy d from.now turns.now }
+pub fn judged(d: usize, from: &[f64], turns: &[f64]) -> Result<(), Refusal>
+    ensures { result ≡ judge_copy d from.now turns.now }
 {
     if d < 1 {
-        return Verdict::Refused(Refusal::Format);
+        return Err(Refusal::Format);
     }
     if DIMENSION < d {
-        return Verdict::Refused(Refusal::Format);
+        return Err(Refusal::Format);
     }
     if from.len() % d != 0 {
-        return Verdict::Refused(Refusal::CutSheet);
+        return Err(Refusal::CutSheet);
     }
     if turns.len() % (d * d) != 0 {
-        return Verdict::Refused(Refusal::CutSheet);
+        return Err(Refusal::CutSheet);
     }
     if !all_in_range(from) {
-        return Verdict::Refused(Refusal::OffTheBoard);
+        return Err(Refusal::OffTheBoard);
     }
     if !all_in_range(turns) {
-        return Verdict::Refused(Refusal::OffTheBoard);
+        return Err(Refusal::OffTheBoard);
     }
     if from.len() == 0 {
-        return Verdict::Refused(Refusal::Blank);
+        return Err(Refusal::Blank);
     }
     if turns.len() == 0 {
-        return Verdict::Refused(Refusal::Blank);
+        return Err(Refusal::Blank);
     }
-    Verdict::Accepted
+    Ok(())
 }

@@ -1,53 +1,55 @@
 // This crate has section 7 of document 01: copying points under matrices, and the constant table of 48 signed axis orders.
 #![tactic(auto)]
 
-ghost use Rattle.std.specs.Prelude.{◌≡◌, ◌/◌, ◌≤◌, min, length};
+ghost use Rattle.std.specs.Prelude.{◌≡◌, ◌/◌, ◌≤◌, min, length, Ok};
 ghost use Rattle.spec.specs.Limits.{max_count};
-ghost use Rattle.spec.specs.Judged.{passed};
 ghost use Rattle.spec.specs.Copying.{copies as copies_of, points as points_of, matrices, judge_copy, copy_out, copy_call};
 
-use spec::{Answer, MAX_COUNT, Refusal, Verdict};
+use spec::{Answer, MAX_COUNT, Refusal, Refused};
 
 pub mod axes;
 mod joining;
 mod judging;
 mod rows;
 
-use joining::CopyRoom;
-
 // Tells how many points of d floats there is room for, but never more than 2,048, since "copies over 2,048" are refused.
 fn room(floats: usize, d: usize) -> usize
     requires { 1 ≤ d }
     ensures { result ≡ min max_count (floats / d) }
 {
-    let n = floats / d;
-    if n < MAX_COUNT {
-        return n;
-    }
-    MAX_COUNT
+    MAX_COUNT.min(floats / d)
 }
 
 // Makes the copies and then their table, for points and matrices that passed. The number of cells that the table needs can exceed a word, so
 // it is compared with the table's length by division.
 fn copied(d: usize, from: &[f64], turns: &[f64], out: &mut [f64], table: &mut [u16]) -> Answer
-    requires { judge_copy d from.now turns.now ≡ passed tt }
+    requires { judge_copy d from.now turns.now ≡ Ok tt }
     ensures { (result, out.new, table.new)
         ≡ copy_out (min max_count (length out.old / d)) (matrices d turns.now)
         (copies_of (matrices d turns.now) (points_of d from.now)) out.old table.old }
 {
     let limit = room(out.len(), d);
-    let CopyRoom::Fits(n) = joining::copies(from, turns, d, limit, out) else {
-        return Answer::Refused(Refusal::ShortSheet, limit);
+    let Some(n) = joining::copies(from, turns, d, limit, out) else {
+        return Err(Refused {
+            why: Refusal::ShortSheet,
+            kept: limit,
+        });
     };
     let count = turns.len() / (d * d);
     if table.len() / count < n {
-        return Answer::Refused(Refusal::ShortSheet, n);
+        return Err(Refused {
+            why: Refusal::ShortSheet,
+            kept: n,
+        });
     }
     if rows::write(out, d, n, turns, table) {
-        return Answer::Done(n);
+        return Ok(n);
     }
     rows::fill(table, count * n);
-    Answer::Refused(Refusal::Open, n)
+    Err(Refused {
+        why: Refusal::Open,
+        kept: n,
+    })
 }
 
 // Copies points under matrices. Both come row by row; the copies and their table go to the two outputs.
@@ -61,8 +63,6 @@ pub fn copy(
     ensures { (result, copies.new, table.new)
         ≡ copy_call dimension points.now turns.now copies.old table.old }
 {
-    match judging::judged(dimension, points, turns) {
-        Verdict::Refused(why) => Answer::Refused(why, 0),
-        Verdict::Accepted => copied(dimension, points, turns, copies, table),
-    }
+    judging::judged(dimension, points, turns)?;
+    copied(dimension, points, turns, copies, table)
 }

@@ -19,13 +19,10 @@ pub fn write(copies: &[f64], d: usize, n: usize, turns: &[f64], out: &mut [u16])
 {
     let count = turns.len() / (d * d);
     let places = places(copies, d, n);
-    let mut j: usize = 0;
-    while j < count {
+    for j in 0..count {
         let at = j * n;
         let m = points::matrix_at(turns, d, j);
-        if row_of(copies, d, n, &places, m, &mut out[at..]) {
-            j += 1;
-        } else {
+        if !row_of(copies, d, n, &places, m, &mut out[at..]) {
             return false;
         }
     }
@@ -37,9 +34,5 @@ pub fn fill(out: &mut [u16], cells: usize)
     requires { cells ≤ length out.old }
     ensures { out.new ≡ written (replicate cells no_image) out.old }
 {
-    let mut i: usize = 0;
-    while i < cells {
-        out[i] = NO_IMAGE;
-        i += 1;
-    }
+    out[..cells].fill(NO_IMAGE);
 }

@@ -1,8 +1,8 @@
 pub mod Keys
 pub mod Parts
-pub mod Inserting
 pub mod Sorts
 pub mod Written
+pub mod Places
 pub mod Compared
 pub mod Noted
 pub mod Scanned

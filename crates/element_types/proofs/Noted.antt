@@ -1,21 +1,23 @@
 -- When one element is numbered, its key, its number and its key's place leave the keys that were there as they were.
 -- Assumes nothing.
+use Rattle.std.specs.Prelude.{Option, Some, None, position, All}
 use mathlib.Core.Path.{◌≡◌, sym, ◌∙◌, ap, ap₂}
-use mathlib.Core.Logic.{◌≢◌, inl, inr}
-use mathlib.Core.List.{List, [], ◌∷◌}
-use Prim.Native.Nat.{ℕ, suc, ◌+◌, ◌≤◌, ◌<◌, zero-le}
+use mathlib.Core.Logic.{◌≢◌}
+use mathlib.Core.Bool.{true, false}
+use mathlib.Core.List.{List}
+use Prim.Native.Nat.{ℕ, ◌+◌, ◌-◌, ◌≤◌, ◌<◌}
 use native.Mathlib.Omega.{arith}
-use borrow.Author.Tests.{lt-ltb, le-ltb}
+use borrow.Author.Tests.{lt-ltb, le-ltb, lt-leb, le-leb}
+use lib.Dec.{leb}
 use lib.ListN.{length, get_or, set, take, drop}
 use lib.Seq.{get_or-set_other, drop-set-lt}
-use Rattle.spec.specs.Lists.{place, eq_list, range}
+use Rattle.spec.specs.Lists.{eq_list, range}
 use Rattle.laws.proofs.Lists.{map_same, of_range}
-use Rattle.laws.proofs.Distinct.{Split, split, place_yes, place_no}
-use Rattle.laws.proofs.Counts.{lists}
 use Rattle.element_types.specs.Runs.{key_at, rep_keys, Keyed}
 use Rattle.element_types.specs.Numbers.{number_of, noted, Open}
 use Rattle.element_types.proofs.Parts.{get_d_kept, take-kept, run_front}
 use Rattle.element_types.proofs.Compared.{length-keys}
+use Rattle.element_types.proofs.Places.{run_all, found_among, found_place, unfound_place}
 
 -- ---- what is read below a, where nothing changed
 
@@ -63,42 +65,44 @@ pub noted_high : (u : List ℕ) (cell reps m q : ℕ) → m ≤ number_of u reps
 unfolding noted
 noted_high u cell reps m q h = rw (noted, le-ltb (number_of u reps m q) m h)
 
-place-le : (x : List ℕ) (l : List (List ℕ)) → place eq_list x l ≤ length l
-unfolding place
-place-le x [] = zero-le
-place-le x (y ∷ l) = go (split eq_list lists y x) (place-le x l)
-  where
-    go : Split eq_list lists y x → place eq_list x l ≤ length l → place eq_list x (y ∷ l) ≤ suc (length l)
-    go (inl (_, e)) ih = rw (place_yes eq_list lists l e) zero-le
-    go (inr (_, e)) ih = rw (place_no eq_list lists l e) (omega arith)
-
-pub number-le : (w : List ℕ) (reps m q : ℕ) → number_of w reps m q ≤ m
-unfolding number_of
-number-le w reps m q = omega (arith, length-keys w reps m q, place-le (key_at w q) (rep_keys w reps m))
-
 module _ (w : List ℕ) (cell reps m q : ℕ) (o : Open w cell reps m q) where
-  -- Finding the key asks for these bounds.
-  pub find_asks : (reps + m ≤ length w) × (((j : ℕ) → j < m → Keyed w (get_or w (reps + j) 0)) × Keyed w q)
-  find_asks = (omega (arith, o.key, o.places), (λ j h. omega (arith, o.keys j h, o.key), o.key))
+  places_in : reps + m ≤ length w
+  places_in = omega (arith, o.key, o.places)
+
+  -- Finding the key asks for this.
+  pub find_asks : All (Keyed w) (take (reps + m - reps) (drop reps w))
+  find_asks = run_all (Keyed w) w reps m places_in (λ j h. omega (arith, o.keys j h, o.key))
 
   pub cells_in_lem : (cell < length w) × (reps + m < length w) × (m < q)
   cells_in_lem = (omega (arith, o.key, o.places, o.number), omega (arith, o.key, o.places), omega (arith, o.places))
 
-  -- In the code's terms, p is what finding the key gave.
-  module _ (p : ℕ) (f : p ≡ place eq_list (key_at w q) (rep_keys w reps m)) where
-    number_is : p ≡ number_of w reps m q
+  -- In the code's terms, this is what finding the key gave.
+  module _ (found : Option ℕ) (f : found ≡ position (λ p. eq_list (key_at w p) (key_at w q)) (take (reps + m - reps) (drop reps w))) where
+    among : found ≡ position (λ k. eq_list k (key_at w q)) (rep_keys w reps m)
+    unfolding rep_keys
+    among = f ∙ found_among eq_list (key_at w q) (key_at w) w reps m places_in
+
+    number_found : (p : ℕ) → found ≡ Some p → (p ≡ number_of w reps m q) × (p < m)
     unfolding number_of
-    number_is = f
+    number_found p h =
+        let both = found_place eq_list (key_at w q) (rep_keys w reps m) found among p h in
+        (both.0, rw length-keys at both.1)
 
-    pub number_small : p < q
-    number_small = omega (arith, number_is, number-le w reps m q, o.places)
+    number_new : found ≡ None → m ≡ number_of w reps m q
+    unfolding number_of
+    number_new h = sym (unfound_place eq_list (key_at w q) (rep_keys w reps m) found among h ∙ length-keys w reps m)
 
-    pub noted_old : p < m → (p ≡ number_of w reps m q) × (set w cell p ≡ noted w cell reps m q)
-    noted_old h =
-        let n : number_of w reps m q < m = rw number_is at h in
-        (number_is, ap (set w cell) number_is ∙ sym (noted-low w cell reps m q n))
+    pub number_small : (p : ℕ) → found ≡ Some p → p < q
+    number_small p h = omega (arith, number_found p h, o.places)
 
-    pub noted_new : m ≤ p → (p ≡ number_of w reps m q) × (set (set w cell p) (reps + m) q ≡ noted w cell reps m q)
+    pub noted_old : (p : ℕ) → found ≡ Some p → (false ≡ leb m (number_of w reps m q)) × (set w cell p ≡ noted w cell reps m q)
+    noted_old p h =
+        let n = number_found p h in
+        let k : number_of w reps m q < m = rw n.0 at n.1 in
+        (sym (lt-leb m (number_of w reps m q) k), ap (set w cell) n.0 ∙ sym (noted-low w cell reps m q k))
+
+    pub noted_new : found ≡ None → (true ≡ leb m (number_of w reps m q)) × (set (set w cell m) (reps + m) q ≡ noted w cell reps m q)
     noted_new h =
-        let n : m ≤ number_of w reps m q = rw number_is at h in
-        (number_is, ap (λ (k : ℕ). set (set w cell k) (reps + m) q) number_is ∙ sym (noted_high w cell reps m q n))
+        let n = number_new h in
+        let k : m ≤ number_of w reps m q = omega (arith, n) in
+        (sym (le-leb m (number_of w reps m q) k), ap (λ (i : ℕ). set (set w cell i) (reps + m) q) n ∙ sym (noted_high w cell reps m q k))

@@ -2,11 +2,14 @@
 -- Assumes nothing.
 use mathlib.Core.Path.{◌≡◌, refl, sym, ◌∙◌, ap, ap₂}
 use mathlib.Core.Logic.{◌≢◌}
+use mathlib.Core.Bool.{Bool, true, false}
 use mathlib.Core.List.{List, [], ◌∷◌, ◌++◌, map}
 use Prim.Native.Nat.{ℕ, zero, suc, ◌+◌, ◌*◌, ◌-◌, ◌≤◌, ◌<◌}
 use native.Mathlib.Omega.{arith}
-use native.Mathlib.Nat.{add-suc, add-zero}
+use native.Mathlib.Nat.{add-suc, add-zero, add_assoc}
 use native.Mathlib.Numerals.{add-one}
+use borrow.Author.Tests.{leb-true, leb-false}
+use lib.Dec.{leb}
 use lib.ListN.{length, get_or, set, take, drop, length-set}
 use lib.Seq.{slice, slice_empty, take-take, take-append-le, drop-append-le, length-take-le, take-set-le, take-suc-set, get_or-set_same, get_or-set_other}
 use Rattle.spec.specs.Lists.{In, distinct, place, renumber, eq_list, range}
@@ -20,7 +23,7 @@ use Rattle.element_types.specs.Numbers.{number_of, noted, Open, key_in, keys_to,
 use Rattle.element_types.proofs.Parts.{get_d_kept, take-kept, list-kept}
 use Rattle.element_types.proofs.Compared.{length-keys}
 use Rattle.element_types.proofs.Written.{under-kept, length-written, written_low, written_count, written-key}
-use Rattle.element_types.proofs.Noted.{keys_kept, key_set, keys-set, noted-low, noted_high, number-le}
+use Rattle.element_types.proofs.Noted.{keys_kept, key_set, keys-set, noted-low, noted_high}
 
 test : Test eq_list
 test = lists
@@ -183,7 +186,7 @@ module _ (w : List ℕ) (lists n base from out : ℕ) (r : Numberable w lists n 
     p_is = ap₂ (place eq_list) u-key u-keys
 
     many : length (distinct eq_list done) ≡ m
-    many = ap length (sym u-keys) ∙ length-keys u (out + n) m q
+    many = ap length (sym u-keys) ∙ length-keys u (out + n) m
 
     -- ---- the numbers
 
@@ -305,24 +308,25 @@ module _ (w : List ℕ) (lists n base from out : ℕ) (r : Numberable w lists n 
       high = rw (add-one e) (omega (arith, s.high, space_in (take out w) lists e (suc e) (omega arith)));
     }
 
-    -- ---- as the code has it: x is what writing the key left, k says how many neighbours the element has, y is what numbering left, and z the number
+    -- ---- as the code has it: x is what writing the key left, k says how many neighbours the element has, y is what numbering left, and b tells whether the
+    -- key is new
 
     module _ (x : List ℕ) (c : x ≡ u) where
       pub asked : Open x (out + e) (out + n) m q
       asked = rw c opened
 
-      module _ (y : List ℕ) (z : ℕ) (f : z ≡ number_of x (out + n) m q) (g : y ≡ noted x (out + e) (out + n) m q) where
-        pub scan_old : z ≢ m → KeysScan w lists n base from out y m q (e + 1)
+      module _ (y : List ℕ) (b : Bool) (f : b ≡ leb m (number_of x (out + n) m q)) (g : y ≡ noted x (out + e) (out + n) m q) where
+        pub scan_old : b ≡ false → KeysScan w lists n base from out y m q (e + 1)
         unfolding p
         scan_old k =
-            let a : p < m = omega (arith, rw c at f, number-le u (out + n) m q, k) in
+            let a : p < m = leb-false m p (sym (rw c at f) ∙ k) in
             rw (g, c, noted-low u (out + e) (out + n) m q a) (scan-low a)
 
-        pub scan_new : z ≡ m → (k : ℕ) → k ≡ length (list_at (take q v) i) → KeysScan w lists n base from out y (m + 1) (q + 2 + k) (e + 1)
+        pub scan_new : b ≡ true → (k : ℕ) → k ≡ length (list_at (take q v) i) → KeysScan w lists n base from out y (m + 1) (q + (2 + k)) (e + 1)
         unfolding p
-        scan_new d k b =
-            let a : m ≤ p = omega (arith, rw c at f, d) in
-            rw (g, c, noted_high u (out + e) (out + n) m q a, b, list_same.1) (scan_high a)
+        scan_new d k z =
+            let a : m ≤ p = leb-true m p (sym (rw c at f) ∙ d) in
+            rw (g, c, noted_high u (out + e) (out + n) m q a, z, list_same.1, sym (add_assoc q 2 (length l))) (scan_high a)
 
     pub sums_fit : Sums w lists from out q e
     sums_fit =

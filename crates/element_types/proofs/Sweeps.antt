@@ -60,9 +60,6 @@ pub record StepsSwept (sh : Shape) (w v : List ℕ) (xs ys : List Step) : Type 0
   pub kept : lists_of sh v ≡ lists_of sh w
   pub state : play (abs_in sh (lists_of sh w)) (state_in sh v) xs ≡ play (abs_in sh (lists_of sh w)) (state_in sh w) ys
 
-pub swept_first : (sh : Shape) (w : List ℕ) (xs : List Step) → StepsSwept sh w w xs xs
-swept_first sh w xs = record { long = refl; kept = refl; state = refl }
-
 -- The lists and the length are all that a step asks of the words.
 pub sweepable_kept : (sh : Shape) (w v : List ℕ) → length v ≡ length w → lists_of sh v ≡ lists_of sh w → Sweepable sh w → Sweepable sh v
 unfolding needed

@@ -1,17 +1,20 @@
 -- Where types are numbered from 0 by first appearance, there is one more than the greatest number, and the ranks' numbers add up.
 -- Assumes nothing.
+use Rattle.std.specs.Prelude.{Option, Some, None}
+use Rattle.std.specs.List.{fold, reduce}
+use Rattle.std.specs.Option.{unwrap_or}
 use mathlib.Core.Path.{◌≡◌, refl, sym, ◌∙◌, ap}
-use mathlib.Core.Logic.{◌⊎◌, inl, inr}
-use mathlib.Core.List.{List, [], map}
-use Prim.Native.Nat.{ℕ, zero, suc, ◌+◌, ◌-◌, ◌≤◌, ◌<◌}
+use mathlib.Core.Logic.{inl, inr}
+use mathlib.Core.List.{List, [], ◌∷◌, map}
+use Prim.Native.Nat.{ℕ, suc, max, ◌+◌, ◌-◌, ◌≤◌, ◌<◌}
+use native.Mathlib.Decide.{dec_lt}
 use native.Mathlib.Numerals.{add-one}
 use native.Mathlib.Omega.{arith}
 use lib.Dec.{eqb}
-use lib.ListN.{length, get_or, take, drop, length-take, length-drop}
-use lib.Seq.{get_or-take, get_or-drop}
+use lib.ListN.{length, take, drop, length-take, length-drop}
 use Rattle.spec.specs.Lists.{In, distinct, range, sum}
 use Rattle.spec.specs.Types.{types_at, proper_ranks, type_count, in_use}
-use Rattle.laws.proofs.Lists.{in_get_d, in_place, map_same, get_d_table, in_range_lem, of_range}
+use Rattle.laws.proofs.Lists.{map_same, get_d_table, in_range_lem, of_range}
 use Rattle.laws.proofs.Distinct.{pigeons, in_distinct, of-distinct, once_distinct}
 use Rattle.laws.proofs.Counts.{numbers}
 use Rattle.ranked.specs.declared.Shape.{Shape}
@@ -22,95 +25,50 @@ use Rattle.element_types.specs.State.{types_in, state_in, Countable}
 
 -- ---- one rank
 
--- The number m is one more than the greatest of the first e words from `from`, or 0 where there are none.
-pub record Past (w : List ℕ) (from m e : ℕ) : Type 0 where
-  pub high : (j : ℕ) → j < e → get_or w (from + j) 0 < m
-  pub met : (m ≡ 0) ⊎ ((j : ℕ) × (j < e) × (suc (get_or w (from + j) 0) ≡ m))
-
-pub past_first : (w : List ℕ) (from : ℕ) → Past w from 0 0
-past_first w from = record { high = λ j h. absurd (omega arith); met = inl refl }
-
-last : (e j : ℕ) → j < e + 1 → (j < e) ⊎ (j ≡ e)
-last e j h = go (split_le j e)
+-- The greatest of the numbers x and l is one of them, and none is above it.
+top-in : (x : ℕ) (l : List ℕ) → In (fold max x l) (x ∷ l)
+top-in x [] = inl refl
+top-in x (y ∷ l) = go (top-in (max x y) l)
   where
-    split_le : (a b : ℕ) → (a < b) ⊎ (b ≤ a)
-    split_le zero zero = inr (omega arith)
-    split_le zero (suc b) = inl (omega arith)
-    split_le (suc a) zero = inr (omega arith)
-    split_le (suc a) (suc b) = up (split_le a b)
-      where
-        up : (a < b) ⊎ (b ≤ a) → (suc a < suc b) ⊎ (suc b ≤ suc a)
-        up (inl k) = inl (omega arith)
-        up (inr k) = inr (omega arith)
+    side : fold max (max x y) l ≡ max x y → Dec (x < y) → In (fold max (max x y) l) (x ∷ y ∷ l)
+    side e (yes h) = inr (inl (omega arith))
+    side e (no h) = inl (omega arith)
 
-    go : (j < e) ⊎ (e ≤ j) → (j < e) ⊎ (j ≡ e)
-    go (inl k) = inl k
-    go (inr k) = inr (omega arith)
+    go : In (fold max (max x y) l) (max x y ∷ l) → In (fold max (max x y) l) (x ∷ y ∷ l)
+    go (inl e) = side e (dec_lt x y)
+    go (inr m) = inr (inr m)
 
-module _ (w : List ℕ) (from m e : ℕ) (i : Past w from m e) (t : ℕ) (read : t ≡ get_or w (from + e) 0) where
-  pub past_new : m ≤ t → Past w from (t + 1) (e + 1)
-  past_new h = record { high = λ j k. go j (last e j k); met = inr (e, omega arith, omega (arith, read)) }
-    where
-      go : (j : ℕ) → (j < e) ⊎ (j ≡ e) → get_or w (from + j) 0 < t + 1
-      go j (inl k) = omega (arith, i.high j k)
-      go j (inr k) = rw k (omega (arith, read))
+top-high : (x : ℕ) (l : List ℕ) (y : ℕ) → In y (x ∷ l) → y ≤ fold max x l
+top-high x [] y (inl e) = omega arith
+top-high x [] y (inr m) = elim m [ ]
+top-high x (z ∷ l) y (inl e) = omega (arith, top-high (max x z) l (max x z) (inl refl))
+top-high x (z ∷ l) y (inr (inl e)) = omega (arith, top-high (max x z) l (max x z) (inl refl))
+top-high x (z ∷ l) y (inr (inr m)) = top-high (max x z) l y (inr m)
 
-  pub past_old : t < m → Past w from m (e + 1)
-  past_old h = record { high = λ j k. go j (last e j k); met = old i.met }
-    where
-      go : (j : ℕ) → (j < e) ⊎ (j ≡ e) → get_or w (from + j) 0 < m
-      go j (inl k) = i.high j k
-      go j (inr k) = rw k (omega (arith, read))
+-- Where the types l are numbered from 0, there is one more than the greatest says.
+module _ (l : List ℕ) (first : distinct eqb l ≡ range 0 (length (distinct eqb l))) where
+  type_low : (t : ℕ) → In t l → t < length (distinct eqb l)
+  type_low t m = omega (arith, of_range 0 (length (distinct eqb l)) t (rw first at (in_distinct eqb numbers t l m)))
 
-      old : (m ≡ 0) ⊎ ((j : ℕ) × (j < e) × (suc (get_or w (from + j) 0) ≡ m)) → (m ≡ 0) ⊎ ((j : ℕ) × (j < e + 1) × (suc (get_or w (from + j) 0) ≡ m))
-      old (inl z) = inl z
-      old (inr (j, k, q)) = inr (j, omega arith, q)
+  type_met : (q : ℕ) → q < length (distinct eqb l) → In q l
+  type_met q h = of-distinct eqb numbers q l (rw first (in_range_lem 0 (length (distinct eqb l)) q (omega arith) (omega arith)))
 
-module _ (w : List ℕ) (from n : ℕ) (inside : from + n ≤ length w) where
-  abbrev l : List ℕ
-  l = take n (drop from w)
+pub types_none : (l : List ℕ) → reduce max l ≡ None → 0 ≡ length (distinct eqb l)
+unfolding distinct
+types_none [] e = refl
+types_none (x ∷ l) e = absurd (cc)
 
-  abbrev k : ℕ
-  k = length (distinct eqb l)
+pub types_some : (l : List ℕ) → distinct eqb l ≡ range 0 (length (distinct eqb l)) → (t : ℕ) → reduce max l ≡ Some t → t + 1 ≡ length (distinct eqb l)
+types_some [] first t e = absurd (cc)
+types_some (x ∷ l) first t e =
+    let q : fold max x l ≡ t = ap (λ (o : Option ℕ). unwrap_or o 0) e in
+    let low = type_low (x ∷ l) first (fold max x l) (top-in x l) in
+    let k = length (distinct eqb (x ∷ l)) in
+    omega (arith, low, q, top-high x l (k - 1) (type_met (x ∷ l) first (k - 1) (omega (arith, low))))
 
-  length_run : length l ≡ n
-  length_run = simp (length-take, length-drop) (omega arith)
-
-  run_at : (j : ℕ) → j < n → get_or l j 0 ≡ get_or w (from + j) 0
-  run_at j h = get_or-take n (drop from w) j 0 h ∙ get_or-drop from w j 0
-
-  -- There are no more types than elements.
-  pub types_few : k ≤ n
-  types_few = rw length_run at (pigeons eqb numbers (distinct eqb l) l (once_distinct eqb numbers l) (λ t m. of-distinct eqb numbers t l m))
-
-  module _ (first : distinct eqb l ≡ range 0 k) where
-    pub type_low : (j : ℕ) → j < n → get_or w (from + j) 0 < k
-    type_low j h =
-        let m : In (get_or w (from + j) 0) l = rw (run_at j h) at (in_get_d 0 l j (rw length_run h)) in
-        omega (arith, of_range 0 k (get_or w (from + j) 0) (rw first at (in_distinct eqb numbers (get_or w (from + j) 0) l m)))
-
-    -- Every number below k is some element's.
-    type_met : (q : ℕ) → q < k → (j : ℕ) × (j < n) × (get_or w (from + j) 0 ≡ q)
-    type_met q h =
-        let m : In q (distinct eqb l) = rw first (in_range_lem 0 k q (omega arith) (omega arith)) in
-        go (in_place 0 q l (of-distinct eqb numbers q l m))
-      where
-        go : (i : ℕ) × (i < length l) × (get_or l i 0 ≡ q) → (j : ℕ) × (j < n) × (get_or w (from + j) 0 ≡ q)
-        go (i, a, b) = let c : i < n = rw length_run at a in (i, c, sym (run_at i c) ∙ b)
-
-    pub past_end : (m e : ℕ) → e ≤ n → n ≤ e → Past w from m e → m ≡ k
-    past_end m e a b i = omega (arith, under i.met, over k refl)
-      where
-        under : (m ≡ 0) ⊎ ((j : ℕ) × (j < e) × (suc (get_or w (from + j) 0) ≡ m)) → m ≤ k
-        under (inl z) = omega arith
-        under (inr (j, c, q)) = omega (arith, type_low j (omega arith))
-
-        over : (z : ℕ) → k ≡ z → k ≤ m
-        over zero q = omega arith
-        over (suc z) q = go (type_met z (omega arith))
-          where
-            go : (j : ℕ) × (j < n) × (get_or w (from + j) 0 ≡ z) → k ≤ m
-            go (j, c, d) = omega (arith, i.high j (omega arith))
+-- There are no more types than elements.
+types_few : (l : List ℕ) → length (distinct eqb l) ≤ length l
+types_few l = pigeons eqb numbers (distinct eqb l) l (once_distinct eqb numbers l) (λ t m. of-distinct eqb numbers t l m)
 
 -- ---- all ranks
 
@@ -161,17 +119,26 @@ module _ (sh : Shape) (w : List ℕ) (a : Countable sh w) (n r : ℕ) (i : Types
       pub run_in : from + many ≤ length w
       run_in = omega (arith, offsets, a.room)
 
-      run_is : take many (drop from w) ≡ types_at (state_in sh w) r
-      unfolding types_in
-      run_is = rw (f, m) (sym (types-at sh w r (omega arith)))
+      -- These are their types, as a slice of the words has them.
+      abbrev run : List ℕ
+      run = take (from + many - from) (drop from w)
 
-      pub run_numbered : distinct eqb (take many (drop from w)) ≡ range 0 (length (distinct eqb (take many (drop from w))))
+      pub run_long : length run ≡ many
+      run_long = simp (length-take, length-drop) (omega (arith, run_in))
+
+      run_is : run ≡ types_at (state_in sh w) r
+      unfolding types_in
+      run_is =
+          let e : from + many - from ≡ many = omega arith in
+          ap (λ (k : ℕ). take k (drop from w)) e ∙ rw (f, m) (sym (types-at sh w r (omega arith)))
+
+      pub run_numbered : distinct eqb run ≡ range 0 (length (distinct eqb run))
       unfolding in_use
       run_numbered = rw run_is (a.numbered r i.proper h).first
 
-      module _ (k : ℕ) (e : k ≡ length (distinct eqb (take many (drop from w)))) where
+      module _ (k : ℕ) (e : k ≡ length (distinct eqb run)) where
         few_more : n + k ≤ first_at sh (suc r)
-        few_more = omega (arith, e, types_few w from many run_in, i.few, offsets)
+        few_more = omega (arith, e, types_few run, run_long, i.few, offsets)
 
         pub sum_fits : n + k ≤ length w
         sum_fits = omega (arith, few_more, offsets, a.room)

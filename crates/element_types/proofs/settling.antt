@@ -1,4 +1,3 @@
-pub mod Places
 pub mod Scanned
 pub mod Begun
 pub mod Ended

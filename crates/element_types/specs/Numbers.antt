@@ -9,7 +9,7 @@ use Rattle.element_types.specs.Runs.{key_of, key_at, rep_keys, Keyed}
 
 -- ---- one element
 
--- Gives the number of the first of the m keys that is the key at word q, or m if none is.
+-- Gives the number of the first of the m keys that is the key at word q, or m if none is, which is then its number.
 unfoldable pub number_of : List ℕ → ℕ → ℕ → ℕ → ℕ
 number_of v reps m q = place eq_list (key_at v q) (rep_keys v reps m)
 

@@ -5,12 +5,13 @@ ghost use Rattle.element_types.specs.Typed.{AtStart, Typed};
 
 use geometry::elements::all_classes;
 use ranked::Shape;
+use spec::Refusal;
 
 pub mod numbering;
 pub mod settled;
 pub mod starting;
 
-use crate::settling::settled::{Ending, settle};
+use crate::settling::settled::settle;
 use crate::settling::starting::start;
 
 // Makes the start state of the solid that lies in the words and floats, by its elements' distance classes. Any list of steps can be played from it;
@@ -25,7 +26,7 @@ fn begin(words: &mut [u32], sh: Shape, floats: &mut [f64])
 }
 
 // Makes the types of the solid that lies in the words and floats: section 4's start, and then the sweeps.
-pub fn types_of(words: &mut [u32], sh: Shape, floats: &mut [f64]) -> Ending
+pub fn types_of(words: &mut [u32], sh: Shape, floats: &mut [f64]) -> Result<(), Refusal>
     requires { Bench sh words.old floats.old }
     ensures { Typed sh words.old words.new floats.old floats.new result }
 {

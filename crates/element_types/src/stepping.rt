@@ -1,27 +1,12 @@
 // A step numbers the elements of a rank by their keys, and these numbers are their types from then on.
-ghost use Rattle.std.specs.Prelude.{◌≡◌, ◌+◌, ◌≤◌, ◌<◌, length, take};
-ghost use Rattle.std.proofs.Math.Seq.{slice};
+ghost use Rattle.std.specs.Prelude.{◌≡◌, take};
 ghost use Rattle.spec.specs.Types.{up, down, step};
 ghost use Rattle.ranked.specs.Words.{lists_of};
 ghost use Rattle.ranked.specs.Layout.{scratch_at, abstract_in};
-ghost use Rattle.element_types.specs.Runs.{over};
 ghost use Rattle.element_types.specs.State.{state_in, Steppable, Stepping, stepped_at};
 
 use crate::numbering::number_rank;
 use ranked::Shape;
-
-// Copies n words from `from` to `to`, which lie apart.
-fn copy_down(words: &mut [u32], to: usize, from: usize, n: usize)
-    requires { (to + n ≤ from) × (from + n ≤ length words.old) }
-    ensures { words.new ≡ over words.old to (to + n) (slice from (from + n) words.old) }
-{
-    let mut k: usize = 0;
-    while k < n {
-        let x = words[from + k];
-        words[to + k] = x;
-        k += 1;
-    }
-}
 
 // Makes the types of the elements of rank r the numbers of their keys. Element e's list is at word list_word(lists, e), and its neighbours' types stand
 // from word `base`. The free words hold the new numbers until all are known.
@@ -33,10 +18,11 @@ fn step_at(words: &mut [u32], sh: Shape, r: usize, lists: usize, base: usize)
     let from = sh.types(r);
     let out = sh.scratch();
     number_rank(words, lists, n, base, from, out);
-    copy_down(words, from, out, n);
+    words.copy_within(out..out + n, from);
 }
 
-// "Step up at proper rank r": elements are told apart by their types and their subs' types.
+// "Step up at proper rank r": elements are told apart by their types and their subs' types. A step down differs in the lists and the base that it
+// hands to step_at alone, so one function that took the direction as a value would only match on it to read these two.
 pub fn step_up(words: &mut [u32], sh: Shape, r: usize)
     requires { Steppable sh words.old (up r) }
     ensures words_unchanged { lists_of sh words.new ≡ lists_of sh words.old }

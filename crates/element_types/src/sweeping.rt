@@ -16,10 +16,8 @@ fn sweep_up(words: &mut [u32], sh: Shape)
         (ups 1 sh.rank) }
 {
     let rank = sh.rank;
-    let mut r: usize = 1;
-    while r < rank {
+    for r in 1..rank {
         step_up(words, sh, r);
-        r += 1;
     }
 }
 
@@ -30,9 +28,8 @@ fn sweep_down(words: &mut [u32], sh: Shape)
     ensures words_after { state_in sh words.new ≡ play (abstract_in sh words.old) (state_in sh words.old)
         (downs sh.rank) }
 {
-    let mut r: usize = sh.rank;
-    while 1 < r {
-        r -= 1;
+    let rank = sh.rank;
+    for r in (1..rank).rev() {
         step_down(words, sh, r);
     }
 }

@@ -1,11 +1,12 @@
 -- This file has the laws that the loops over flags pass on: going down from the top, and looking for the other element.
 -- Assumes nothing.
+use Rattle.std.specs.Prelude.{None, Some, unwrap_or}
+use Rattle.std.proofs.lemmas.Option.{unwrap_or-slice_get}
 use mathlib.Core.Path.{◌≡◌, refl, sym, ◌∙◌, ap}
 use mathlib.Core.Bool.{Bool, true, false, not}
-use mathlib.Core.Option.{none, some}
 use mathlib.Core.List.{List, [], ◌∷◌, ◌++◌, append_assoc, append-nil}
 use Prim.Native.Nat.{ℕ, zero, suc, ◌+◌, ◌-◌, ◌≤◌, ◌<◌}
-use native.Mathlib.Numerals.{add-one, sub-one}
+use native.Mathlib.Numerals.{add-one, sub-one, unary_clauses}
 use native.Mathlib.Omega.{arith}
 use native.Mathlib.Decide.{ℕ_discrete}
 use lib.ListN.{length, get_or, set, take, drop, length-set, drop_of_length-le}
@@ -21,7 +22,7 @@ use Rattle.laws.proofs.Lists.{in_get_d}
 use Rattle.ranked.specs.declared.Shape.{Shape}
 use Rattle.ranked.specs.Words.{size_at, abs_in, Held}
 use Rattle.ranked.proofs.Solids.{top_is, size_is, sub_in}
-use Rattle.flag.specs.Reading.{first_in, other_in}
+use Rattle.flag.specs.Reading.{other_in}
 
 -- ---- the first flag
 
@@ -36,13 +37,12 @@ module _ (sh : Shape) (w : List ℕ) (h : Held sh w) where
       sub_in sh w h r e (get_or (subs (abs_in sh w) (suc r) e) 0 0) b
       (in_get_d 0 (subs (abs_in sh w) (suc r) e) 0 (h.filled r e (rw (size_is sh w (suc r) b) k)))
 
--- The elements above rank r are found, and e is the one at r.
-pub record Down (sh : Shape) (w goal els : List ℕ) (r e : ℕ) : Type 0 where
+-- The elements from rank r on are found.
+pub record Down (sh : Shape) (w goal els : List ℕ) (r : ℕ) : Type 0 where
   pub low : r ≤ sh.rank
-  pub inside : e < size_at sh r
-  pub here : get_or els r 0 ≡ e
+  pub inside : get_or els r 0 < size_at sh r
   pub long : length els ≡ suc max_rank
-  pub done : first_to (abs_in sh w) r e ++ take (sh.rank - r) (drop (suc r) els) ≡ goal
+  pub done : first_to (abs_in sh w) r (get_or els r 0) ++ take (sh.rank - r) (drop (suc r) els) ≡ goal
 
 module _ (sh : Shape) (w : List ℕ) (h : Held sh w) where
   -- Nothing stands above the top.
@@ -50,39 +50,36 @@ module _ (sh : Shape) (w : List ℕ) (h : Held sh w) where
       → first_to (abs_in sh w) sh.rank (get_or els sh.rank 0) ++ take (sh.rank - sh.rank) (drop (suc sh.rank) els) ≡ first_flag (abs_in sh w)
   unfolding first_flag
   top-down els z =
-      let none : sh.rank - sh.rank ≡ 0 = omega arith in
-      rw (none, z) (append-nil (first_to (abs_in sh w) sh.rank 0) ∙ ap (λ (n : ℕ). first_to (abs_in sh w) n 0) (sym (top_is sh w)))
+      let None : sh.rank - sh.rank ≡ 0 = omega arith in
+      rw (None, z) (append-nil (first_to (abs_in sh w) sh.rank 0) ∙ ap (λ (n : ℕ). first_to (abs_in sh w) n 0) (sym (top_is sh w)))
 
-  pub next_down : (goal els : List ℕ) (r e : ℕ) → Down sh w goal els r e → 0 < r → (f : ℕ) → f ≡ get_or (subs (abs_in sh w) r e) 0 0 → Down sh w goal (set els (r - 1) f) (r - 1) f
+  pub next_down : (goal els : List ℕ) (r : ℕ) → Down sh w goal els (suc r) → (f : ℕ) → f ≡ get_or (subs (abs_in sh w) (suc r) (get_or els (suc r) 0)) 0 0
+      → Down sh w goal (set els r f) r
   unfolding first_to
-  next_down goal els zero e d p f q = absurd (omega arith)
-  next_down goal els (suc r) e d p f q =
+  next_down goal els r d f q =
       let t = h.tall in
+      let e = get_or els (suc r) 0 in
       let l : r < length els = omega (arith, d.long, d.low) in
       let l' : suc r < length els = omega (arith, d.long, d.low) in
       let n : sh.rank - r ≡ suc (sh.rank - suc r) = omega (arith, d.low) in
+      let here : get_or (set els r f) r 0 ≡ f = get_or-set_same els r f 0 l in
       let step : take (sh.rank - r) (drop (suc r) (set els r f)) ≡ e ∷ take (sh.rank - suc r) (drop (suc (suc r)) els) =
-      rw (drop-set-lt (suc r) els r f (omega arith), drop-cons els (suc r) 0 l', n, d.here) refl in
-      let e' : suc r - 1 ≡ r = omega arith in
-      rw e' (record {
+      rw (drop-set-lt (suc r) els r f (omega arith), drop-cons els (suc r) 0 l', n) refl in
+      record {
         low = omega (arith, d.low);
-        inside = rw q (first_in_lem sh w h r e d.low d.inside);
-        here = get_or-set_same els r f 0 l;
+        inside = rw (here, q) (first_in_lem sh w h r e d.low d.inside);
         long = length-set els r f ∙ d.long;
         done =
-            ap (λ (m : List ℕ). first_to (abs_in sh w) r f ++ m) step
-            ∙ sym (append_assoc (first_to (abs_in sh w) r f) (e ∷ []) (take (sh.rank - suc r) (drop (suc (suc r)) els)))
-            ∙ ap (λ (x : ℕ). (first_to (abs_in sh w) r x ++ (e ∷ [])) ++ take (sh.rank - suc r) (drop (suc (suc r)) els)) q
+            ap (λ (m : List ℕ). first_to (abs_in sh w) r (get_or (set els r f) r 0) ++ m) step
+            ∙ sym (append_assoc (first_to (abs_in sh w) r (get_or (set els r f) r 0)) (e ∷ []) (take (sh.rank - suc r) (drop (suc (suc r)) els)))
+            ∙ ap (λ (x : ℕ). (first_to (abs_in sh w) r x ++ (e ∷ [])) ++ take (sh.rank - suc r) (drop (suc (suc r)) els)) (here ∙ q)
             ∙ d.done;
-      })
+      }
 
-  pub last-down : (goal els : List ℕ) (r e : ℕ) → Down sh w goal els r e → r ≤ 0 → take (suc sh.rank) els ≡ goal
+  pub last-down : (goal els : List ℕ) → Down sh w goal els 0 → take (suc sh.rank) els ≡ goal
   unfolding first_to
-  last-down goal [] r e d p = absurd (omega (arith, d.long))
-  last-down goal (x ∷ els) (suc r) e d p = absurd (omega arith)
-  last-down goal (x ∷ els) zero e d p =
-      let q : sh.rank ≡ sh.rank - 0 = omega arith in
-      ap (λ (y : ℕ). y ∷ take sh.rank els) d.here ∙ ap (λ (n : ℕ). e ∷ take n els) q ∙ d.done
+  last-down goal [] d = absurd (omega (arith, d.long))
+  last-down goal (x ∷ els) d = simp unary_clauses at d.done
 
 -- ---- the other element
 
@@ -103,8 +100,8 @@ module _ (e : ℕ) (p : ℕ → Bool) where
       go true z = rw (z, keep, eq-eqb x e q, keep)
       go false z = rw (z, keep)
 
-  other_here : (x : ℕ) (l : List ℕ) → (x ≡ e → ⊥) → p x ≡ true → other_in e (keep p (x ∷ l)) ≡ some x
-  unfolding keep other_in first_in
+  other_here : (x : ℕ) (l : List ℕ) → (x ≡ e → ⊥) → p x ≡ true → other_in e (keep p (x ∷ l)) ≡ Some x
+  unfolding keep other_in
   other_here x l q z = rw (z, keep, ne_eqb x e q, keep)
 
   module _ (l : List ℕ) (k : ℕ) (more : k < length l) (inv : OtherFrom l k) where
@@ -114,27 +111,17 @@ module _ (e : ℕ) (p : ℕ → Bool) where
     pub other_no : p (get_or l k 0) ≡ false → OtherFrom l (k + 1)
     other_no q = rw add-one (sym (ap (λ (m : List ℕ). other_in e (keep p m)) (drop-cons l k 0 more) ∙ other_skip _ _ q) ∙ inv)
 
-    pub other_yes : (get_or l k 0 ≡ e → ⊥) → p (get_or l k 0) ≡ true → some (get_or l k 0) ≡ other_in e (keep p l)
+    pub other_yes : (get_or l k 0 ≡ e → ⊥) → p (get_or l k 0) ≡ true → Some (get_or l k 0) ≡ other_in e (keep p l)
     other_yes n q = sym (ap (λ (m : List ℕ). other_in e (keep p m)) (drop-cons l k 0 more) ∙ other_here _ _ n q) ∙ inv
 
-  pub other-end : (l : List ℕ) (k : ℕ) → length l ≤ k → OtherFrom l k → none ≡ other_in e (keep p l)
-  unfolding keep other_in first_in
+  pub other-end : (l : List ℕ) (k : ℕ) → length l ≤ k → OtherFrom l k → None ≡ other_in e (keep p l)
+  unfolding keep other_in
   other-end l k h inv = rw (drop_of_length-le l h) at inv
 
--- The definition gives a number in the one case, and none in the other.
-module _ (e : ℕ) (l : List ℕ) where
-  first_or : (m : List ℕ) → ((y : ℕ) → some y ≡ first_in m → y ≡ get_or m 0 e) × (none ≡ first_in m → e ≡ get_or m 0 e)
-  unfolding first_in
-  first_or [] = (λ y q. cc, λ q. refl)
-  first_or (x ∷ m) = (λ y q. cc, λ q. cc)
-
-  pub other-found : (y : ℕ) → some y ≡ other_in e l → y ≡ other e l
-  unfolding other_in other
-  other-found y q = (first_or (keep (λ x. not (eqb x e)) l)).0 y q
-
-  pub other_missing : none ≡ other_in e l → e ≡ other e l
-  unfolding other_in other
-  other_missing q = (first_or (keep (λ x. not (eqb x e)) l)).1 q
+-- Where there is no other element, a change keeps e.
+pub other-found : (e : ℕ) (l : List ℕ) → unwrap_or (other_in e l) e ≡ other e l
+unfolding other_in other
+other-found e l = unwrap_or-slice_get (keep (λ x. not (eqb x e)) l) 0 e
 
 -- ---- a change
 

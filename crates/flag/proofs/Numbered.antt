@@ -1,7 +1,7 @@
 -- A loop over the flags starts at flag 0, each turn goes on to the next number, and it ends after the last.
 -- Assumes nothing.
+use Rattle.std.specs.Prelude.{Option, None, Some}
 use mathlib.Core.Path.{◌≡◌, sym, ◌∙◌}
-use mathlib.Core.Bool.{Bool, true, false}
 use mathlib.Core.List.{List, [], ◌∷◌}
 use Prim.Native.Nat.{ℕ, suc, ◌<◌}
 use native.Mathlib.Omega.{arith}
@@ -29,9 +29,9 @@ module _ (sh : Shape) (w : List ℕ) (h : Held sh w) where
   pub nth_flag : (F : Flag) (i : ℕ) → Nth (abs_in sh w) F i → IsFlag (abs_in sh w) F
   nth_flag F i n = rw n.is (((every_flag_once (abs_in sh w) h.sound).exact _).0 (in_get_d [] (flags (abs_in sh w)) i n.low))
 
-  module _ (F : Flag) (more : Bool) (G : Flag) (f : Follows (abs_in sh w) F more G) (i : ℕ) (n : Nth (abs_in sh w) F i) where
-    pub nth_next : more ≡ true → Nth (abs_in sh w) G (suc i)
-    nth_next e = let g = f.next e i n.low n.is in record { low = g.0; is = g.1 }
+  module _ (F : Flag) (after : Option Flag) (f : Follows (abs_in sh w) F after) (i : ℕ) (n : Nth (abs_in sh w) F i) where
+    pub nth_next : (G : Flag) → after ≡ Some G → Nth (abs_in sh w) G (suc i)
+    nth_next G e = let g = f.next G e i n.low n.is in record { low = g.0; is = g.1 }
 
-    pub nth_last : more ≡ false → suc i ≡ length (flags (abs_in sh w))
+    pub nth_last : after ≡ None → suc i ≡ length (flags (abs_in sh w))
     nth_last e = f.end e i n.low n.is

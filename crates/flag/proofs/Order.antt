@@ -2,7 +2,7 @@
 -- Assumes nothing.
 use mathlib.Core.Path.{◌≡◌, refl, sym, ◌∙◌, ap}
 use mathlib.Core.Logic.{inl}
-use mathlib.Core.List.{List, [], ◌∷◌, ◌++◌, map, append_assoc, append-nil}
+use mathlib.Core.List.{List, [], ◌∷◌, ◌++◌, map, map-append, append_assoc, append-nil}
 use Prim.Native.Nat.{ℕ, zero, suc, ◌+◌, ◌<◌}
 use native.Mathlib.Omega.{arith}
 use lib.ListN.{length, get_or, length-append}
@@ -29,10 +29,6 @@ pub record Starts {A : Type 0} (G : A) (L : List A) : Type 0 where
   pub is : L ≡ G ∷ back
 
 -- ---- through a map
-
-map-append : {A B : Type 0} (k : A → B) (a b : List A) → map k (a ++ b) ≡ map k a ++ map k b
-map-append k [] b = refl
-map-append k (x ∷ a) b = ap (λ l. k x ∷ l) (map-append k a b)
 
 module _ {A B : Type 0} (k : A → B) (F G : A) (L : List A) where
   last-map : Last F L → Last (k F) (map k L)

@@ -1,9 +1,10 @@
 -- The magnitude goes by two tests against 0, and each public lemma is one of the three ways through the tests.
 -- Assumes nothing.
-use mathlib.Core.Path.{◌≡◌, refl, sym, ap}
+use mathlib.Core.Path.{◌≡◌, refl, sym, ap, ◌∙◌}
 use mathlib.Core.Bool.{Bool, true, false, ◌&&◌, ◌||◌}
 use Prim.Native.Nat.{ℕ, zero, suc, ◌+◌, ◌*◌, ◌^◌, ◌<◌}
 use native.Mathlib.Nat.{zero-mul, mul-pos, zero-lt-suc, pow-suc}
+use native.Mathlib.Decide.{ℕ_discrete}
 use native.Mathlib.Omega.{arith}
 use lib.IntN.{ℤ, pos, negsuc}
 use lib.Ieee.{Float, nan, inf, fin, binary64, of_bits, fits, lt, eq, le, neg, up, down}
@@ -51,7 +52,7 @@ above_zero (fin false m e) h k = refl
 above_zero (fin true zero e) h k = let z = simp zero-mul at k in cc
 above_zero (fin true (suc m) e) h k = absurd (omega (arith, ltb-false 0 (suc m * up e * 1 + 0 * down e) h, some m e))
 
--- ---- at most a bound, by one comparison on each side of 0
+-- ---- at most a limit, by one comparison on each side of 0
 
 -- What is below 0 or 0 is at most what is not below 0.
 under : (a b : ℕ) → (ltb 0 (a + b) || (eqb a b && (false || eqb a 0))) ≡ true
@@ -63,6 +64,10 @@ and_true : (p : Bool) → p ≡ (p && true)
 and_true true = refl
 and_true false = refl
 
+or_true : (p : Bool) → (p || true) ≡ true
+or_true true = refl
+or_true false = refl
+
 eqb_swap : (a b : ℕ) → eqb a b ≡ eqb b a
 eqb_swap a b = go (eqb b a) refl
   where
@@ -70,18 +75,46 @@ eqb_swap a b = go (eqb b a) refl
     go true e = eq-eqb a b (sym (eqb-true b a e))
     go false e = ne_eqb a b (λ h. eqb-false b a e (sym h))
 
-within_is : (x : Float) (n : ℕ) (d : ℤ) → (le x (fin false n d) && le (neg (fin false n d)) x) ≡ le (abs_f x) (fin false n d)
+-- Below a limit that is negative, or a zero with a sign, lies at most a zero.
+above_negative : (a b : ℕ) → ((eqb a b && (false || eqb a 0)) && (ltb b a || (eqb b a && true))) ≡ (eqb a b && (false || eqb a 0))
+above_negative a b = rw (eqb_swap b a) (go (eqb a b) (eqb a 0) (ltb b a))
+  where
+    go : (p q r : Bool) → ((p && (false || q)) && (r || (p && true))) ≡ (p && (false || q))
+    go false q r = refl
+    go true q r = rw (or_true r) (sym (and_true (false || q)))
+
+below_negative : (a b : ℕ) → ((ltb b a || (eqb a b && true)) && (eqb b a && (false || eqb b 0))) ≡ (eqb a b && (false || eqb a 0))
+below_negative a b = go (ℕ_discrete a b)
+  where
+    go : Dec (a ≡ b) → ((ltb b a || (eqb a b && true)) && (eqb b a && (false || eqb b 0))) ≡ (eqb a b && (false || eqb a 0))
+    go (yes e) = rw (e, eq-eqb b b refl, or_true (ltb b b))
+    go (no n) = rw (ne_eqb a b n, ne_eqb b a (λ h. n (sym h))) (nothing (ltb b a || false))
+      where
+        nothing : (p : Bool) → (p && false) ≡ false
+        nothing true = refl
+        nothing false = refl
+
+within_is : (x w : Float) → (le x w && le (neg w) x) ≡ le (abs_f x) w
 unfolding le lt eq neg abs_f
-within_is nan n d = refl
-within_is (inf false) n d = refl
-within_is (inf true) n d = refl
-within_is (fin false m e) n d = rw (under (n * up d * down e) (m * up e * down d)) (sym (and_true _))
-within_is (fin true m e) n d = rw (under (m * up e * down d) (n * up d * down e), eqb_swap (n * up d * down e) (m * up e * down d))
+within_is nan w = refl
+within_is (inf s) nan = refl
+within_is (fin s m e) nan = refl
+within_is (inf false) (inf false) = refl
+within_is (inf false) (inf true) = refl
+within_is (inf true) (inf false) = refl
+within_is (inf true) (inf true) = refl
+within_is (inf false) (fin t n d) = refl
+within_is (inf true) (fin t n d) = refl
+within_is (fin s m e) (inf false) = refl
+within_is (fin s m e) (inf true) = refl
+within_is (fin false m e) (fin false n d) = rw (under (n * up d * down e) (m * up e * down d)) (sym (and_true _))
+within_is (fin true m e) (fin false n d) = rw (under (m * up e * down d) (n * up d * down e), eqb_swap (n * up d * down e) (m * up e * down d))
+within_is (fin false m e) (fin true n d) = above_negative (m * up e * down d) (n * up d * down e)
+within_is (fin true m e) (fin true n d) = below_negative (m * up e * down d) (n * up d * down e)
 
--- So where the number is not above the bound, the test of the other side decides; where it is above, the magnitude is too.
-module _ (x : Float) (n : ℕ) (d : ℤ) where
-  pub not_above : le x (fin false n d) ≡ true → le (neg (fin false n d)) x ≡ le (abs_f x) (fin false n d)
-  not_above h = rw h at (within_is x n d)
+-- So where the number is not above the limit, the test of the other side decides; where it is above, the magnitude is too.
+pub not_above : (x w : Float) → le x w ≡ true → le (neg w) x ≡ le (abs_f x) w
+not_above x w h = rw h at (within_is x w)
 
-  pub is_above : le x (fin false n d) ≡ false → false ≡ le (abs_f x) (fin false n d)
-  is_above h = rw h at (within_is x n d)
+pub is_above : (x w : Float) → le x w ≡ false → le x w ≡ le (abs_f x) w
+is_above x w h = h ∙ rw h at (within_is x w)

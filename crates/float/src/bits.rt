@@ -25,5 +25,5 @@ pub fn pattern(x: f64) -> u64
     if x != x {
         return NAN;
     }
-    f64::to_bits(x)
+    x.to_bits()
 }

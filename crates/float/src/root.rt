@@ -22,29 +22,20 @@ struct Scaled {
     zeros: u64,
 }
 
-// Returns the number 1 where a is at most b, and 0 otherwise. It is used as a number instead of in a branch, since a root's digits cannot be
-// predicted.
-fn at_most(a: u64, b: u64) -> u64
-    ensures { ((result ≡ 1) × (a ≤ b)) ⊎ ((result ≡ 0) × (b < a)) }
-{
-    if a <= b { 1 } else { 0 }
-}
-
-// Returns the root of n in 27 binary digits. For each of them, from the top, two digits of n are brought down.
+// Returns the root of n in 27 binary digits. For each of them, from the top, two digits of n are brought down. A digit is made a number instead of a
+// branch, since a root's digits cannot be predicted.
 fn short_root(n: u64) -> Whole
     requires { n < 2 ^ 54 }
     ensures { (result.root ≡ root_down 27 n) × (result.root * result.root + result.rest ≡ n) }
 {
     let mut root = 0u64;
     let mut rest = 0u64;
-    let mut done = 0u64;
-    while done < 27 {
+    for done in 0u64..27 {
         let with = 4 * rest + (n >> (52 - 2 * done)) % 4;
         let odd = 4 * root + 1;
-        let digit = at_most(odd, with);
+        let digit = u64::from(odd <= with);
         rest = with - odd * digit;
         root = 2 * root + digit;
-        done += 1;
     }
     Whole { root, rest }
 }
@@ -83,7 +74,7 @@ fn argument(b: u64) -> Scaled
 {
     let field = b >> 52;
     if field == 0 {
-        let shift = u64::leading_zeros(b) as u64 - 11;
+        let shift = u64::from(b.leading_zeros()) - 11;
         Scaled {
             digits: b << shift,
             zeros: 1074 - shift,
@@ -116,7 +107,7 @@ pub fn root(x: f64) -> f64
     ensures { result ≡ root_of x }
 {
     if x > 0.0 {
-        let b = f64::to_bits(x);
+        let b = x.to_bits();
         if b < INFINITY {
             return f64::from_bits(root_bits(b));
         }

@@ -1,7 +1,7 @@
 // This module says how near two numbers have to be to count as the same: the constant, and the magnitude that is compared with it.
 ghost use Rattle.std.specs.Prelude.{◌≡◌};
 ghost use Rattle.std.specs.Float.Ieee.{le};
-ghost use Rattle.spec.specs.Float.{eps, abs_f};
+ghost use Rattle.spec.specs.Float.{abs_f};
 
 // This is the type that the constant belongs to.
 #[derive(Clone, Copy)]
@@ -24,12 +24,10 @@ pub fn magnitude(x: f64) -> f64
     x
 }
 
-// Tells whether a difference is at most EPS in magnitude. It is compared twice, and no magnitude is taken, because its sign cannot be predicted.
-pub fn within(x: f64) -> bool
-    ensures { result ≡ le (abs_f x) eps }
+// Tells whether a difference is at most the limit in magnitude. It is compared twice, and no magnitude is taken, because its sign cannot be
+// predicted.
+pub fn within(x: f64, limit: f64) -> bool
+    ensures { result ≡ le (abs_f x) limit }
 {
-    if x <= Tolerance::EPS {
-        return -Tolerance::EPS <= x;
-    }
-    false
+    x <= limit && -limit <= x
 }

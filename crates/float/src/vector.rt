@@ -11,14 +11,12 @@ pub fn dot(a: &[f64], b: &[f64]) -> f64
     requires { length a.now ≡ length b.now }
     ensures { result ≡ dot a.now b.now }
 {
-    if a.len() == 0 {
+    if a.is_empty() {
         return 0.0;
     }
     let mut t = a[0] * b[0];
-    let mut i: usize = 1;
-    while i < a.len() {
-        t = t + a[i] * b[i];
-        i += 1;
+    for i in 1..a.len() {
+        t += a[i] * b[i];
     }
     t
 }
@@ -37,10 +35,8 @@ pub fn difference(a: &[f64], b: [f64; DIMENSION]) -> [f64; DIMENSION]
     ensures { take (length a.now) result ≡ zip minus a.now (take (length a.now) b) }
 {
     let mut r = b;
-    let mut i: usize = 0;
-    while i < a.len() {
+    for i in 0..a.len() {
         r[i] = a[i] - b[i];
-        i += 1;
     }
     r
 }
@@ -51,10 +47,8 @@ pub fn load(p: &[f64]) -> [f64; DIMENSION]
     ensures { result ≡ padded p.now }
 {
     let mut r = [0.0; DIMENSION];
-    let mut i: usize = 0;
-    while i < p.len() {
+    for i in 0..p.len() {
         r[i] = p[i];
-        i += 1;
     }
     r
 }

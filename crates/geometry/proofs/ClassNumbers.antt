@@ -1,19 +1,26 @@
 -- Two distances share a class number exactly when their listed values are one class.
 -- Assumes nothing.
 use mathlib.Core.Path.{◌≡◌, refl, sym, ap, ap₂, ◌∙◌}
-use mathlib.Core.Bool.{Bool, not, ◌&&◌, ◌||◌}
+use mathlib.Core.Bool.{Bool, true, false, not, ◌&&◌, ◌||◌}
 use mathlib.Core.List.{List, [], ◌∷◌}
-use Prim.Native.Nat.{ℕ, suc, ◌<◌}
+use Prim.Native.Nat.{ℕ, suc, ◌*◌, ◌<◌}
 use lib.Dec.{eqb}
 use lib.ListN.{length, get_or}
-use lib.Ieee.{Float, nan, eq}
+use lib.Ieee.{Float, nan, inf, fin, up, down, eq, is_nan}
+use borrow.Author.Tests.{eq-eqb}
+use Rattle.std.proofs.lemmas.Float.{floats_per}
 use Rattle.spec.specs.Hull.{listing, classes_from, classes, class_numbers}
 use Rattle.geometry.specs.Classes.{same_class}
-use Rattle.geometry.proofs.Same.{eq_sym, eq_trans, eq_self}
-use Rattle.geometry.proofs.Numbers.{Partial, renumber_shares}
+use Rattle.geometry.proofs.Numbers.{renumber_shares}
 
-eq_laws : Partial eq
-eq_laws = record { symmetric = eq_sym; transitive = eq_trans }
+-- Every float but NaN equals itself.
+eq_self : (x : Float) → is_nan x ≡ not (eq x x)
+unfolding eq is_nan
+eq_self nan = refl
+eq_self (inf true) = refl
+eq_self (inf false) = refl
+eq_self (fin true m e) = rw (eq-eqb (m * up e * down e) (m * up e * down e) refl)
+eq_self (fin false m e) = rw (eq-eqb (m * up e * down e) (m * up e * down e) refl)
 
 length_from : (l xs : List Float) → length (classes_from l xs) ≡ length xs
 unfolding classes_from
@@ -33,4 +40,4 @@ pub share_class : (xs : List Float) (i j : ℕ) → i < length xs → j < length
 unfolding class_numbers
 share_class xs i j hi hj =
     let e = length-classes xs in
-    renumber_shares eq eq_laws (classes xs) nan i j (rw e hi) (rw e hj) ∙ class_is _ _
+    renumber_shares eq floats_per (classes xs) nan i j (rw e hi) (rw e hj) ∙ class_is _ _

@@ -1,72 +1,49 @@
--- In the loop over the points of a hull, what is left to add gives what the whole list gives.
+-- In the loop over the points of a hull, what is left to add gives what all of them give.
 -- Assumes nothing.
 use mathlib.Core.Path.{◌≡◌, refl, sym, ap, ◌∙◌}
 use mathlib.Core.List.{List, [], ◌∷◌, map}
-use Prim.Native.Nat.{ℕ, ◌+◌, ◌*◌, ◌≤◌, ◌<◌}
+use Prim.Native.Nat.{ℕ, suc, ◌+◌, ◌-◌, ◌*◌, ◌≤◌, ◌<◌}
 use native.Mathlib.Numerals.{add-one}
 use native.Mathlib.Omega.{arith}
-use lib.ListN.{take, drop, length, get_or, length-append, length-drop, drop_of_length-le}
-use lib.Seq.{drop-cons, get_or-take, length-take-le}
+use lib.ListN.{take, drop, length, get_or, length-drop, drop_of_length-le}
+use lib.Seq.{drop-cons, length-take-le, take_all, get_or-take, get_or-drop}
 use lib.Ieee.{Float}
 use borrow.Author.Tests.{eq-eqb, ne_eqb}
 use Rattle.spec.specs.Matrix.{Vector}
 use Rattle.spec.specs.Hull as spec
-use Rattle.spec.specs.Hull.{joins, add, add_all, hull_of}
-use Rattle.laws.proofs.Lists.{length_table}
+use Rattle.spec.specs.Hull.{add, add_all, hull_of}
 use Rattle.geometry.specs.declared.hull.Hull.{Hull}
-use Rattle.geometry.specs.declared.hull.Joined.{Joined}
-use Rattle.geometry.specs.declared.hull.Joined.TheVariants.{Length, Nothing}
-use Rattle.geometry.specs.Reading.{vector_at, hull_in, joined_of, point_at}
+use Rattle.laws.proofs.Lists.{length_table}
+use Rattle.geometry.specs.Reading.{vector_at, hull_in, point_at}
 
--- ---- how many vectors there are
-
+-- There are as many vectors as are counted.
 pub length_basis : (d : ℕ) (h : Hull) → length (hull_in d h).basis ≡ h.count
 unfolding hull_in
 length_basis d h = length_table (vector_at d h.basis) h.count
 
-module _ (h : spec.Hull) (p : Vector) where
-  length-far : {l : Float} → joins h p ≡ spec.joined l → length (add h p).basis ≡ length h.basis + 1
-  unfolding add
-  length-far e = rw (add, e) (length-append h.basis _)
+-- The point is d wide.
+pub point-wide : (d v : ℕ) (points : List Float) (p : Vector) → (v + 1) * d ≤ length points → p ≡ point_at d points v → length p ≡ d
+point-wide d v points p h e = ap length e ∙ length-take-le d _ (rw length-drop (omega arith))
 
-  length-near : joins h p ≡ spec.nothing → length (add h p).basis ≡ length h.basis
-  unfolding add
-  length-near e = rw (add, e)
+-- The points after the first are those of the list's other numbers.
+pub item-is : (l : List ℕ) (k v : ℕ) → k < length (take (length l - 1) (drop 1 l)) → v ≡ get_or (take (length l - 1) (drop 1 l)) k 0 → (k + 1 < length l) × (v ≡ get_or l (k + 1) 0)
+item-is l k v h e =
+    let long : length (take (length l - 1) (drop 1 l)) ≡ length l - 1 = length-take-le (length l - 1) (drop 1 l) (omega (arith, length-drop 1 l)) in
+    let more : k < length l - 1 = omega arith in
+    let same : 1 + k ≡ k + 1 = omega arith in
+    (omega arith, rw same at (e ∙ get_or-take (length l - 1) (drop 1 l) k 0 more ∙ get_or-drop 1 l k 0))
 
-module _ (d : ℕ) (h g : Hull) (p : Vector) (e : hull_in d g ≡ add (hull_in d h) p) where
-  pub count-far : {j : Joined} {l : Float} → j ≡ Length l → joined_of j ≡ joins (hull_in d h) p → g.count ≡ h.count + 1
-  unfolding joined_of
-  count-far c t =
-      sym (length_basis d g)
-      ∙ ap (λ x. length x.basis) e
-      ∙ length-far (hull_in d h) p (sym t ∙ ap joined_of c)
-      ∙ ap (λ (n : ℕ). n + 1) (length_basis d h)
+pub whole : (d : ℕ) (f : ℕ → Vector) (l : List ℕ) → 0 < length l
+    → add_all d (record { offset = f (get_or l 0 0); basis = [] }) (map f (take (length l - 1) (drop 1 l))) ≡ hull_of d (map f l)
+unfolding hull_of
+whole d f [] h = absurd (omega arith)
+whole d f (x ∷ l) h =
+    let n : length (x ∷ l) - 1 ≡ length l = omega arith in
+    ap (λ (m : List ℕ). add_all d (record { offset = f x; basis = [] }) (map f m)) (take_all (length (x ∷ l) - 1) l (omega arith))
 
-  pub count-near : {j : Joined} → j ≡ Nothing → joined_of j ≡ joins (hull_in d h) p → g.count ≡ h.count
-  unfolding joined_of
-  count-near c t = sym (length_basis d g) ∙ ap (λ x. length x.basis) e ∙ length-near (hull_in d h) p (sym t ∙ ap joined_of c) ∙ length_basis d h
-
--- ---- the points
-
--- The part of the slice for number i of the list is the point of that number, and is d wide.
-pub part_is : (d n : ℕ) (points : List Float) (l : List ℕ) (i v : ℕ) (p : Vector) →
-    ((j : ℕ) → j < n → (get_or l j 0 + 1) * d ≤ length points) → i < n → v ≡ get_or l i 0 → p ≡ point_at d points v →
-    (p ≡ point_at d points (get_or l i 0)) × (length p ≡ d)
-part_is d n points l i v p all h ev ep =
-    let e = ep ∙ ap (point_at d points) ev in
-    let k = all i h in
-    (e, ap length e ∙ length-take-le d _ (rw length-drop (omega arith)))
-
--- ---- the loop
-
--- The hull h is that of the first i points that f gives of the first n numbers of l.
-pub record Gathered (d : ℕ) (f : ℕ → Vector) (l : List ℕ) (n : ℕ) (h : spec.Hull) (i : ℕ) : Type 0 where
-  pub is : add_all d h (map f (drop i (take n l))) ≡ hull_of d (map f (take n l))
-
-left : (l : List ℕ) (n i : ℕ) → n ≤ length l → i < n → drop i (take n l) ≡ get_or l i 0 ∷ drop (i + 1) (take n l)
-left l n i hn hi =
-    let k = length-take-le n l hn in
-    drop-cons (take n l) i 0 (omega arith) ∙ rw (get_or-take n l i 0 hi, add-one i)
+-- The hull h is that of h₀ and the first k of the points ps.
+pub record Gathered (d : ℕ) (ps : List Vector) (h₀ h : spec.Hull) (k : ℕ) : Type 0 where
+  pub is : add_all d h (drop k ps) ≡ add_all d h₀ ps
 
 full : (d : ℕ) (h : spec.Hull) (ps : List Vector) → length h.basis ≡ d → h ≡ add_all d h ps
 unfolding add_all
@@ -77,21 +54,19 @@ one_more : (d : ℕ) (h : spec.Hull) (p : Vector) (ps : List Vector) → (length
 unfolding add_all
 one_more d h p ps ne = rw (add_all, ne_eqb (length h.basis) d ne)
 
-module _ {d : ℕ} {f : ℕ → Vector} {l : List ℕ} {n : ℕ} (hn : n ≤ length l) where
-  pub first : {h : spec.Hull} → 0 < n → h ≡ record { offset = f (get_or l 0 0); basis = [] } → Gathered d f l n h 1
-  unfolding hull_of
-  first h0 e = record { is = rw e (ap (λ (xs : List ℕ). hull_of d (map f xs)) (sym (left l n 0 hn h0))) }
+module _ {d : ℕ} {ps : List Vector} {h₀ : spec.Hull} where
+  pub first : Gathered d ps h₀ h₀ 0
+  first = record { is = refl }
 
   -- Once there are d vectors, the other points change nothing.
-  pub stop : {h : spec.Hull} {i : ℕ} → length h.basis ≡ d → Gathered d f l n h i → h ≡ hull_of d (map f (take n l))
-  stop {h} {i} e w = full d h (map f (drop i (take n l))) e ∙ w.is
+  pub stop : {h : spec.Hull} {k : ℕ} → length h.basis ≡ d → Gathered d ps h₀ h k → h ≡ add_all d h₀ ps
+  stop {h} {k} e w = full d h (drop k ps) e ∙ w.is
 
-  pub next : {h g : spec.Hull} {i : ℕ} → i < n → (length h.basis ≡ d → ⊥) → g ≡ add h (f (get_or l i 0)) → Gathered d f l n h i → Gathered d f l n g (i + 1)
-  next {h} {g} {i} hi ne e w = record { is = rw e (sym (ap (λ (xs : List ℕ). add_all d h (map f xs)) (left l n i hn hi) ∙ one_more d h _ _ ne) ∙ w.is) }
+  pub next : {h g : spec.Hull} {k : ℕ} (p : Vector) → k < length ps → p ≡ get_or ps k [] → (length h.basis ≡ d → ⊥) → g ≡ add h p → Gathered d ps h₀ h k → Gathered d ps h₀ g (k + 1)
+  next {h} {g} {k} p more is ne e w =
+      let here : drop k ps ≡ p ∷ drop (suc k) ps = drop-cons ps k [] more ∙ ap (λ (v : Vector). v ∷ drop (suc k) ps) (sym is) in
+      record { is = rw (e, add-one) (sym (ap (add_all d h) here ∙ one_more d h p (drop (suc k) ps) ne) ∙ w.is) }
 
-  pub end : {h : spec.Hull} {i : ℕ} → n ≤ i → Gathered d f l n h i → h ≡ hull_of d (map f (take n l))
+  pub end : {h : spec.Hull} {k : ℕ} → length ps ≤ k → Gathered d ps h₀ h k → h ≡ add_all d h₀ ps
   unfolding add_all
-  end {h} {i} hi w =
-      let k = length-take-le n l hn in
-      let e : drop i (take n l) ≡ [] = drop_of_length-le (take n l) {i = i} (omega arith) in
-      rw e at w.is
+  end {h} {k} all w = rw (drop_of_length-le ps all) at w.is

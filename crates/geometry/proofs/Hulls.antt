@@ -1,5 +1,6 @@
 -- This file says what the struct holds after a point is added to a hull, and what the definitions say in the two cases.
 -- Assumes nothing.
+use Rattle.std.specs.Prelude.{Some, None}
 use mathlib.Core.Path.{◌≡◌, sym, ap, ap₂, ◌∙◌}
 use mathlib.Core.Bool.{true, false}
 use mathlib.Core.List.{List, [], ◌∷◌, ◌++◌, map}
@@ -13,7 +14,7 @@ use Rattle.spec.specs.Limits.{max_dimension}
 use Rattle.spec.specs.Lists.{range}
 use Rattle.spec.specs.Float.{eps, over, norm}
 use Rattle.spec.specs.Matrix.{Vector}
-use Rattle.spec.specs.Hull.{Hull, joined, nothing, rest, joins, add}
+use Rattle.spec.specs.Hull.{Hull, rest, joins, add}
 use Rattle.laws.proofs.Lists.{map_same, of_range}
 use Rattle.float.proofs.Written.{range_snoc, drop-take}
 use Rattle.geometry.specs.Reading.{vector_at}
@@ -40,11 +41,11 @@ one_more d n b r v hd hn lb lr e ev =
 
 -- The length of what is left of p decides between the two cases.
 module _ (h : Hull) (p : Vector) (l : Float) (e : l ≡ norm (rest h p)) where
-  pub joins-far : lt eps l ≡ true → joined l ≡ joins h p
+  pub joins-far : lt eps l ≡ true → Some l ≡ joins h p
   unfolding joins
-  joins-far t = rw (joins, ← e, t) (ap joined e)
+  joins-far t = rw (joins, ← e, t) (ap Some e)
 
-  pub joins-near : lt eps l ≡ false → nothing ≡ joins h p
+  pub joins-near : lt eps l ≡ false → None ≡ joins h p
   unfolding joins
   joins-near t = rw (joins, ← e, t)
 

@@ -2,6 +2,6 @@ pub mod Along
 pub mod Hulls
 pub mod Gathered
 pub mod Nearest
-pub mod Same
 pub mod Numbers
 pub mod ClassNumbers
+pub mod Mapped

@@ -11,16 +11,8 @@ use lib.Dec.{eqb}
 use lib.ListN.{length, get_or}
 use borrow.Author.Tests.{eqb-true, eq-eqb, ne_eqb}
 use Rattle.spec.specs.Lists.{In, without, distinct, place, renumber, holds}
+use Rattle.std.specs.Cmp.{IsPartialEquivalence, both_ways}
 use Rattle.laws.proofs.Lists.{in_get_d, get_or-map}
-
-both_ways : (p q : Bool) → (p ≡ true → q ≡ true) → (q ≡ true → p ≡ true) → p ≡ q
-both_ways true q f g = sym (f refl)
-both_ways false true f g = g refl
-both_ways false false f g = refl
-
-pub record Partial {A : Type 0} (same : A → A → Bool) : Type 0 where
-  pub symmetric : (a b : A) → same a b ≡ true → same b a ≡ true
-  pub transitive : (a b c : A) → same a b ≡ true → same b c ≡ true → same a c ≡ true
 
 -- ---- one element more
 
@@ -49,24 +41,27 @@ module _ {A : Type 0} (same : A → A → Bool) (k x : A) (l : List A) where
   unfolding without
   without_no e = rw (without, e)
 
-module _ {A : Type 0} (same : A → A → Bool) (laws : Partial same) where
+module _ {A : Type 0} (same : A → A → Bool) (laws : IsPartialEquivalence same) where
+  turned : (a b : A) → same a b ≡ true → same b a ≡ true
+  turned a b e = sym (laws.symm a b) ∙ e
+
   alike : (k j : A) → same k j ≡ true → (x : A) → same x k ≡ same x j
   alike k j e x =
-      both_ways (same x k) (same x j) (λ h. laws.transitive x k j h e) (λ h. laws.transitive x j k h (laws.symmetric k j e))
+      both_ways (same x k) (same x j) (λ h. laws.trans x k j h e) (λ h. laws.trans x j k h (turned k j e))
 
   -- What fails at itself fails everywhere.
   stranger : (k : A) → same k k ≡ false → (x : A) → same x k ≡ false
   stranger k e x = go (same x k) refl
     where
       go : (b : Bool) → same x k ≡ b → b ≡ false
-      go true h = absurd (false≢true (sym e ∙ laws.transitive k x k (laws.symmetric x k h) h))
+      go true h = absurd (false≢true (sym e ∙ laws.trans k x k (turned x k h) h))
       go false h = refl
 
   stranger_first : (k : A) → same k k ≡ false → (x : A) → same k x ≡ false
   stranger_first k e x = go (same k x) refl
     where
       go : (b : Bool) → same k x ≡ b → b ≡ false
-      go true h = absurd (false≢true (sym (stranger k e x) ∙ laws.symmetric k x h))
+      go true h = absurd (false≢true (sym (stranger k e x) ∙ turned k x h))
       go false h = refl
 
   -- ---- places
@@ -115,7 +110,7 @@ module _ {A : Type 0} (same : A → A → Bool) (laws : Partial same) where
     where
       go : (b : Bool) → same y x ≡ b → (c : Bool) → same y k ≡ c → holds same k (without same x l) ≡ holds same k l →
           holds same k (without same x (y ∷ l)) ≡ holds same k (y ∷ l)
-      go true h true i ih = absurd (false≢true (sym e ∙ laws.transitive x y k (laws.symmetric y x h) i))
+      go true h true i ih = absurd (false≢true (sym e ∙ laws.trans x y k (turned y x h) i))
       go true h false i ih = ap (holds same k) (without_yes same x y l h) ∙ ih ∙ sym (holds_no same k y l i)
       go false h true i ih = ap (holds same k) (without_no same x y l h) ∙ holds_yes same k y _ i ∙ sym (holds_yes same k y l i)
       go false h false i ih = ap (holds same k) (without_no same x y l h) ∙ holds_no same k y _ i ∙ ih ∙ sym (holds_no same k y l i)
@@ -150,7 +145,7 @@ module _ {A : Type 0} (same : A → A → Bool) (laws : Partial same) where
             meet h =
                 let a = (low k k e mk).1 in
                 let b = rw (← eqb-true (number k) (number j) h) at (low j k f mj).1 in
-                laws.transitive k (get_or (distinct same l) (number k) k) j (laws.symmetric _ k a) b
+                laws.trans k (get_or (distinct same l) (number k) k) j (turned _ k a) b
         go true e false f =
             ne_eqb (number k) (number j) (λ q. omega (arith, q, (low k k e mk).0, place_stranger j f (distinct same l)))
             ∙ sym (or-false (same k j) ∙ stranger j f k)

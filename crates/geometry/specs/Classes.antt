@@ -1,17 +1,9 @@
 -- This file says how the answers about distance classes are read, and when two listed values are one class.
 -- Assumes nothing.
 use Rattle.std.specs.Prelude.{◌≡◌, Bool, ◌&&◌, ◌||◌, List, ℕ, ◌+◌, ◌≤◌, take, drop, Float}
-use Rattle.std.proofs.Math.Option.{Option, none, some}
 use Rattle.std.specs.Float.Ieee.{eq, is_nan}
 use Rattle.spec.specs.Hull.{listing}
-use Rattle.geometry.specs.declared.classes.Nearest.{Nearest}
-use Rattle.geometry.specs.declared.classes.Nearest.TheVariants.{Listed, Nothing}
 use Rattle.geometry.specs.declared.classes.ListedValue.{ListedValue}
-
--- Gives the listed value that was found, if any.
-unfoldable pub nearest_of : Nearest → Option Float
-nearest_of (Listed y) = some y
-nearest_of Nothing = none
 
 -- Taking x gives a value, and the list afterwards is the first `count` cells, of which one may be new. The other cells are as before.
 pub record Takes (before after : List Float) (n : ℕ) (x : Float) (r : ListedValue) : Type 0 where

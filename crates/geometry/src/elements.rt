@@ -19,8 +19,7 @@ pub fn element_distance(lists: &[u32], sh: Shape, floats: &[f64], r: usize, e: u
 {
     let mut list = [0u16; MAX_COUNT];
     let n = vertices::vertex_list(lists, sh, r, e, &mut list);
-    let d = sh.dimension;
-    distance::distance_of(floats, d, &list, n)
+    distance::distance_of(floats, sh.dimension, &list[..n])
 }
 
 // "A distance takes the smallest listed value strictly nearer than EPS, else joins the list": n values stand from float `from` on. The value taken is
@@ -45,12 +44,9 @@ fn classes_of_rank(lists: &[u32], sh: Shape, floats: &mut [f64], n: usize, r: us
     let done = sh.proper_number(r, 0);
     let many = sh.size(r);
     let mut m = n;
-    let mut e: usize = 0;
-    while e < many {
+    for e in 0..many {
         let x = element_distance(lists, sh, floats, r, e);
-        let next = take_class(floats, from, m, cell, done + e, x);
-        m = next;
-        e += 1;
+        m = take_class(floats, from, m, cell, done + e, x);
     }
     m
 }
@@ -62,13 +58,9 @@ pub fn all_classes(lists: &[u32], sh: Shape, floats: &mut [f64]) -> usize
     requires sh_in_bounds { classes_at sh + proper sh ≤ length floats.old }
     ensures { Classed sh lists.now floats.old floats.new result }
 {
-    let rank = sh.rank;
-    let mut n: usize = 0;
-    let mut r: usize = 1;
-    while r < rank {
-        let next = classes_of_rank(lists, sh, floats, n, r);
-        n = next;
-        r += 1;
+    let mut n = 0;
+    for r in 1..sh.rank {
+        n = classes_of_rank(lists, sh, floats, n, r);
     }
     n
 }

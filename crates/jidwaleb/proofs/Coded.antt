@@ -1,13 +1,12 @@
 -- The answer of a call is handed on as its code with the outputs as they are, and is read back from the code.
 -- Assumes nothing.
+use Rattle.std.specs.Prelude.{Ok, Err}
 use mathlib.Core.Path.{◌≡◌, refl, sym, ap, ◌∙◌}
 use Prim.Native.Nat.{ℕ, ◌^◌, ◌<◌}
 use native.Mathlib.Omega.{arith}
 use Rattle.spec.specs.declared.Refusal.{Refusal}
 use Rattle.spec.specs.declared.Refusal.TheVariants.{CutSheet, Format, OffTheBoard, BadList, Loose, Mitre, Bench, NotFull, DoubleCorner, Centred, Flat, Blank, ShortSheet, Open, Unsettled}
-use Rattle.spec.specs.declared.Answer.{Answer}
-use Rattle.spec.specs.declared.Answer.TheVariants.{Done, Refused}
-use Rattle.spec.specs.Refusal.{number, answer_number, answer_count}
+use Rattle.spec.specs.Refusal.{number, answer_number, answer_count, Answer}
 use Rattle.jidwaleb.specs.Code.{code_of, coded_out, refusal_in, count_in, Decoded}
 
 -- ---- refusals count from 1
@@ -29,9 +28,9 @@ number_some ShortSheet = omega arith
 number_some Open = omega arith
 number_some Unsettled = omega arith
 
-unrefused : (a : Answer) → answer_number a ≡ 0 → (n : ℕ) × (a ≡ Done n)
-unrefused (Done n) e = (n, refl)
-unrefused (Refused why n) e = absurd (omega (arith, number_some why))
+unrefused : (a : Answer) → answer_number a ≡ 0 → (n : ℕ) × (a ≡ Ok n)
+unrefused (Ok n) e = (n, refl)
+unrefused (Err r) e = absurd (omega (arith, number_some r.why))
 
 -- ---- the code
 
@@ -52,7 +51,7 @@ module _ {A : Type 0} (a : Answer) (out : A) (call : Answer × A) (e : (a, out) 
     pub told : Decoded r call.0
     told = decoded call.0 h r (p ∙ ap code_of answer_is)
 
-    pub done : refusal_in r ≡ 0 → (n : ℕ) × (a ≡ Done n)
+    pub done : refusal_in r ≡ 0 → (n : ℕ) × (a ≡ Ok n)
     done q = unrefused a (sym (decoded a fits r p).refusal ∙ q)
 
     pub counted : answer_count a ≡ count_in r

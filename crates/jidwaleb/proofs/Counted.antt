@@ -1,5 +1,6 @@
 -- No answer counts more than 2,048 copies, or 2,048 types a rank, so that its code fits 64 bits.
 -- Assumes nothing.
+use Rattle.std.specs.Prelude.{Err, Ok}
 use mathlib.Core.Path.{◌≡◌, refl}
 use mathlib.Core.Bool.{Bool, true, false, ◌&&◌}
 use mathlib.Core.List.{List}
@@ -9,11 +10,9 @@ use lib.ListN.{length, take, replicate, length-take}
 use lib.Dec.{eqb, leb}
 use lib.Ieee.{Float}
 use Rattle.spec.specs.declared.Refusal.TheVariants.{ShortSheet, Open}
-use Rattle.spec.specs.declared.Answer.{Answer}
-use Rattle.spec.specs.declared.Answer.TheVariants.{Done, Refused}
-use Rattle.spec.specs.Refusal.{answer_count}
+use Rattle.spec.specs.Refusal.{answer_count, Answer, refused_with}
 use Rattle.spec.specs.Limits.{max_count}
-use Rattle.spec.specs.Judged.{Judged, refused, passed}
+use Rattle.spec.specs.Judged.{Judged}
 use Rattle.spec.specs.Lists.{holds, join, written}
 use Rattle.spec.specs.Matrix.{Vector, Matrix}
 use Rattle.spec.specs.Calls.{TypesOut, types_call}
@@ -36,10 +35,10 @@ module _ (n : ℕ) (ms : List Matrix) (cs : List Vector) (out_points : List Floa
   out-count = go (leb (length cs) n) refl (leb cells (length out_table)) (holds eqb (length cs) (copy_table ms cs))
     where
       go : (a : Bool) → leb (length cs) n ≡ a → (b c : Bool) → CountWithin (elim (a && b) [
-        | false ↦ (Refused ShortSheet (length (take n cs)), written (join (take n cs)) out_points, out_table)
+        | false ↦ (refused_with ShortSheet (length (take n cs)), written (join (take n cs)) out_points, out_table)
         | true ↦ elim c [
-          | true ↦ (Refused Open (length (take n cs)), written (join (take n cs)) out_points, written (replicate cells no_image) out_table)
-          | false ↦ (Done (length cs), written (join (take n cs)) out_points, written (copy_table ms cs) out_table)
+          | true ↦ (refused_with Open (length (take n cs)), written (join (take n cs)) out_points, written (replicate cells no_image) out_table)
+          | false ↦ (Ok (length cs), written (join (take n cs)) out_points, written (copy_table ms cs) out_table)
         ]
       ])
       go false p b c = omega (arith, length-take n cs)
@@ -64,8 +63,8 @@ copy-count d ps ts out_points out_table = go (judge_copy d ps ts)
     CodeFits o = answer_count o.0 < 2 ^ 32
 
     go : (j : Judged (Unit {0})) → CodeFits (elim j [
-      | refused why ↦ (Refused why 0, out_points, out_table)
-      | passed u ↦ copy_out room ms cs out_points out_table
+      | Err why ↦ (refused_with why 0, out_points, out_table)
+      | Ok u ↦ copy_out room ms cs out_points out_table
     ])
-    go (refused why) = omega arith
-    go (passed u) = omega (arith, out-count room ms cs out_points out_table)
+    go (Err why) = omega arith
+    go (Ok u) = omega (arith, out-count room ms cs out_points out_table)

@@ -1,23 +1,22 @@
 -- A search lists at most one member for each flag, and gives out no more than it lists.
 -- Assumes nothing.
+use Rattle.std.specs.Prelude.{Err, None, Ok, Option, Some}
 use mathlib.Core.Path.{◌≡◌, refl, sym, ap, ◌∙◌, subst}
 use mathlib.Core.Bool.{Bool, true, false}
-use mathlib.Core.Option.{Option, none, some}
 use mathlib.Core.List.{List, [], ◌∷◌}
 use Prim.Native.Nat.{ℕ, suc, ◌-◌, ◌^◌, ◌≤◌, ◌<◌, zero-le}
 use native.Mathlib.Omega.{arith}
 use lib.ListN.{length}
 use lib.Dec.{leb, eqb, ltb}
 use Rattle.spec.specs.declared.Refusal.TheVariants.{NotFull, DoubleCorner, Centred, Flat, ShortSheet, Unsettled}
-use Rattle.spec.specs.declared.Answer.TheVariants.{Done, Refused}
-use Rattle.spec.specs.Refusal.{answer_count}
+use Rattle.spec.specs.Refusal.{answer_count, refused_with}
 use Rattle.spec.specs.Limits.{max_stored}
 use Rattle.spec.specs.Lists.{range, no_repeats}
 use Rattle.spec.specs.Types.{top, size}
 use Rattle.spec.specs.Matrix.{inverse}
 use Rattle.spec.specs.Points.{near}
 use Rattle.spec.specs.Judged as Judging
-use Rattle.spec.specs.Judged.{Judged, refused, passed}
+use Rattle.spec.specs.Judged.{Judged}
 use Rattle.spec.specs.Solid.{Concrete, entries, preflight}
 use Rattle.spec.specs.Flags.{Flag, first_flag, flags}
 use Rattle.spec.specs.Classes.{types_of}
@@ -40,10 +39,10 @@ members_few w [] = zero-le
 members_few w (F ∷ l) = go (same_types w F) (tested w (candidate w F)) (members_few w l)
   where
     go : (b : Bool) (o : Option Member) → length (members_of w l) ≤ length l
-        → length {A = Member} (elim b as (λ z. List Member) [ true ↦ elim o as (λ z. List Member) [ some m ↦ m ∷ members_of w l | none ↦ members_of w l ] | false ↦ members_of w l ]) ≤ suc (length l)
+        → length {A = Member} (elim b as (λ z. List Member) [ true ↦ elim o as (λ z. List Member) [ Some m ↦ m ∷ members_of w l | None ↦ members_of w l ] | false ↦ members_of w l ]) ≤ suc (length l)
     go false o h = omega arith
-    go true none h = omega arith
-    go true (some m) h = omega arith
+    go true None h = omega arith
+    go true (Some m) h = omega arith
 
 rotations_few : (l : List Member) → length (rotations_of l) ≤ length l
 unfolding rotations_of
@@ -68,24 +67,24 @@ unfolding kept_of
 kept-count [] kept = zero-le
 kept-count (x ∷ l) kept = go (ltb (length kept) (length (x ∷ l)))
   where
-    go : (b : Bool) → answer_count (elim b as (λ z. Outcome) [ true ↦ record { answer = Refused ShortSheet (length kept); members = kept } | false ↦ record { answer = Done (length kept); members = kept } ]).answer ≤ length kept
+    go : (b : Bool) → answer_count (elim b as (λ z. Outcome) [ true ↦ record { answer = refused_with ShortSheet (length kept); members = kept } | false ↦ record { answer = Ok (length kept); members = kept } ]).answer ≤ length kept
     go true = omega arith
     go false = omega arith
 
 -- ---- the members of a call
 
 abbrev Few : Judged (Concrete × List Member) → Type 0
-Few o = (y : Concrete × List Member) → o ≡ passed y → length y.1 < 2 ^ 32
+Few o = (y : Concrete × List Member) → o ≡ Ok y → length y.1 < 2 ^ 32
 
 found-count : (o : Judged (Concrete × List Member)) (m : Room) → Few o → answer_count (outcome o m).answer < 2 ^ 32
 unfolding outcome
-found-count (refused why) m h = omega arith
-found-count (passed y) m h =
+found-count (Err why) m h = omega arith
+found-count (Ok y) m h =
     let l = fitting m y.0.dimension (length y.0.points) 0 y.1 in
     omega (arith, kept-count y.1 l, fitting_few m y.0.dimension (length y.0.points) 0 y.1, h y refl)
 
 -- A solid as it is searched has few flags, too.
-exchanged_few : (b : List ℕ) (words floats : ℕ) (c : Concrete) → preflight b words floats ≡ passed c → 2 ≤ top c.abs
+exchanged_few : (b : List ℕ) (words floats : ℕ) (c : Concrete) → preflight b words floats ≡ Ok c → 2 ≤ top c.abs
     → (f : ℕ) → f < size c.abs (top c.abs - 1) → length (flags (exchanged_in c.abs f)) < 2 ^ 32
 exchanged_few b words floats c e tall f low =
     let s = c.abs in
@@ -98,14 +97,14 @@ exchanged_few b words floats c e tall f low =
     (omega (arith, p.tall))
 
 -- What a search goes through is the solid that was read, with a facet in the first's place.
-searched_is : (c : Concrete) (w : Setting) → setting c ≡ passed w → (2 ≤ top c.abs) × ((f : ℕ) × (f < size c.abs (top c.abs - 1)) × (w.searched ≡ exchanged c f))
+searched_is : (c : Concrete) (w : Setting) → setting c ≡ Ok w → (2 ≤ top c.abs) × ((f : ℕ) × (f < size c.abs (top c.abs - 1)) × (w.searched ≡ exchanged c f))
 unfolding setting full
 searched_is c w e =
     let n = size c.abs (top c.abs - 1) in
     let h₁ = then_to (Judging.judge NotFull (full c)) _ w e in
     let h₂ = then_to (Judging.judge DoubleCorner (no_repeats near c.points)) _ w h₁.2 in
     let h₃ = bound_to (Judging.wanted Centred (first_far c (range 0 n))) _ w h₂.2 in
-    let h₄ = bound_to (passed (exchanged c h₃.0)) _ w h₃.2 in
+    let h₄ = bound_to (Ok (exchanged c h₃.0)) _ w h₃.2 in
     let h₅ = bound_to (Judging.wanted Unsettled (types_of h₄.0)) _ w h₄.2 in
     let h₆ = bound_to (Judging.wanted Flat (inverse (flag_columns h₄.0 (first_flag h₄.0.abs)))) _ w h₅.2 in
     let h₇ = then_to (Judging.judge Flat (all_finite h₆.0)) _ w h₆.2 in
@@ -118,7 +117,7 @@ searched_is c w e =
       ),
     )
 
-search_few : (b : List ℕ) (words floats : ℕ) (c : Concrete) → preflight b words floats ≡ passed c → (ms : List Member) → search c ≡ passed ms → length ms < 2 ^ 32
+search_few : (b : List ℕ) (words floats : ℕ) (c : Concrete) → preflight b words floats ≡ Ok c → (ms : List Member) → search c ≡ Ok ms → length ms < 2 ^ 32
 unfolding search exchanged
 search_few b words floats c e ms q =
     let h = bound_to (setting c) _ ms q in

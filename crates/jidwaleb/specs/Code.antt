@@ -1,8 +1,7 @@
 -- An answer goes over C's interface as one number of 64 bits.
 -- Assumes nothing.
 use Rattle.std.specs.Prelude.{◌≡◌, ℕ, ◌+◌, ◌*◌, ◌/◌, ◌%◌, ◌^◌}
-use Rattle.spec.specs.declared.Answer.{Answer}
-use Rattle.spec.specs.Refusal.{answer_number, answer_count}
+use Rattle.spec.specs.Refusal.{answer_number, answer_count, Answer}
 
 -- Gives the code of an answer: the refusal's number, or 0 where the call gave its result, stands above the low 32 bits, which hold the count.
 abbrev pub code_of : Answer → ℕ

@@ -23,10 +23,10 @@ fn code(answer: Answer) -> u64
     ensures { result ≡ code_of answer }
 {
     match answer {
-        Answer::Done(n) => n as u64,
-        Answer::Refused(why, n) => {
-            let refusal = why.number() as u64;
-            let count = n as u64;
+        Ok(n) => n as u64,
+        Err(refused) => {
+            let refusal = refused.why.number() as u64;
+            let count = refused.kept as u64;
             refusal * 0x1_0000_0000 + count
         }
     }
@@ -41,12 +41,12 @@ pub fn jidwaleb_types(
     of: &mut [u16],
     table: &mut [u16],
 ) -> u64
-    ensures table_after { (result, record { elements = of.new; types = table.new })
+    ensures as_defined { (result, record { elements = of.new; types = table.new })
         ≡ coded_out (types_call sheet.now (length words.old) (length floats.old)
         (record { elements = of.old; types = table.old })) }
     ensures decoded { Decoded result (types_call sheet.now (length words.old) (length floats.old)
         (record { elements = of.old; types = table.old })).0 }
-    ensures demand3cells { refusal_in result ≡ 0
+    ensures types_kept { refusal_in result ≡ 0
         → Demand3Cells sheet.now (length words.old) (length floats.old) of.new }
     ensures free { Free words.old words.new floats.old floats.new }
 {
@@ -63,12 +63,12 @@ pub fn jidwaleb_search(
     rows: &mut [u16],
     marks: &mut [u8],
 ) -> u64
-    ensures marks_after { (result, out_of matrices.new rows.new marks.new)
+    ensures as_defined { (result, out_of matrices.new rows.new marks.new)
         ≡ coded_out (search_call sheet.now (length words.old) (length floats.old)
         (out_of matrices.old rows.old marks.old)) }
     ensures decoded { Decoded result (search_call sheet.now (length words.old) (length floats.old)
         (out_of matrices.old rows.old marks.old)).0 }
-    ensures demand3told { Demand3Told sheet.now (count_in result) rows.new marks.new }
+    ensures types_kept { Demand3Told sheet.now (count_in result) rows.new marks.new }
     ensures free { Free words.old words.new floats.old floats.new }
 {
     code(search::search(sheet, words, floats, matrices, rows, marks))
@@ -83,12 +83,12 @@ pub fn jidwaleb_rotations(
     rows: &mut [u16],
     marks: &mut [u8],
 ) -> u64
-    ensures marks_after { (result, out_of matrices.new rows.new marks.new)
+    ensures as_defined { (result, out_of matrices.new rows.new marks.new)
         ≡ coded_out (rotations_call sheet.now (length words.old) (length floats.old)
         (out_of matrices.old rows.old marks.old)) }
     ensures decoded { Decoded result (rotations_call sheet.now (length words.old) (length floats.old)
         (out_of matrices.old rows.old marks.old)).0 }
-    ensures demand3told { Demand3Told sheet.now (count_in result) rows.new marks.new }
+    ensures types_kept { Demand3Told sheet.now (count_in result) rows.new marks.new }
     ensures free { Free words.old words.new floats.old floats.new }
 {
     code(search::rotations(sheet, words, floats, matrices, rows, marks))
@@ -102,7 +102,7 @@ pub fn jidwaleb_copy(
     copies: &mut [f64],
     table: &mut [u16],
 ) -> u64
-    ensures table_after { (result, copies.new, table.new)
+    ensures as_defined { (result, copies.new, table.new)
         ≡ coded (copy_call dimension points.now turns.now copies.old table.old) }
     ensures decoded { Decoded result (copy_call dimension points.now turns.now copies.old table.old).0 }
 {

@@ -21,12 +21,12 @@ pub extern "C" fn jidwaleb_types(
     of: &mut [u16],
     table: &mut [u16],
 ) -> u64
-    ensures table_after { (result, record { elements = of.new; types = table.new })
+    ensures as_defined { (result, record { elements = of.new; types = table.new })
         ≡ coded_out (types_call sheet.now (length words.old) (length floats.old)
         (record { elements = of.old; types = table.old })) }
     ensures decoded { Decoded result (types_call sheet.now (length words.old) (length floats.old)
         (record { elements = of.old; types = table.old })).0 }
-    ensures demand3cells { refusal_in result ≡ 0
+    ensures types_kept { refusal_in result ≡ 0
         → Demand3Cells sheet.now (length words.old) (length floats.old) of.new }
     ensures free { Free words.old words.new floats.old floats.new }
 {
@@ -44,12 +44,12 @@ pub extern "C" fn jidwaleb_search(
     rows: &mut [u16],
     marks: &mut [u8],
 ) -> u64
-    ensures marks_after { (result, out_of matrices.new rows.new marks.new)
+    ensures as_defined { (result, out_of matrices.new rows.new marks.new)
         ≡ coded_out (search_call sheet.now (length words.old) (length floats.old)
         (out_of matrices.old rows.old marks.old)) }
     ensures decoded { Decoded result (search_call sheet.now (length words.old) (length floats.old)
         (out_of matrices.old rows.old marks.old)).0 }
-    ensures demand3told { Demand3Told sheet.now (count_in result) rows.new marks.new }
+    ensures types_kept { Demand3Told sheet.now (count_in result) rows.new marks.new }
     ensures free { Free words.old words.new floats.old floats.new }
 {
     jidwaleb::jidwaleb_search(sheet, words, floats, matrices, rows, marks)
@@ -65,12 +65,12 @@ pub extern "C" fn jidwaleb_rotations(
     rows: &mut [u16],
     marks: &mut [u8],
 ) -> u64
-    ensures marks_after { (result, out_of matrices.new rows.new marks.new)
+    ensures as_defined { (result, out_of matrices.new rows.new marks.new)
         ≡ coded_out (rotations_call sheet.now (length words.old) (length floats.old)
         (out_of matrices.old rows.old marks.old)) }
     ensures decoded { Decoded result (rotations_call sheet.now (length words.old) (length floats.old)
         (out_of matrices.old rows.old marks.old)).0 }
-    ensures demand3told { Demand3Told sheet.now (count_in result) rows.new marks.new }
+    ensures types_kept { Demand3Told sheet.now (count_in result) rows.new marks.new }
     ensures free { Free words.old words.new floats.old floats.new }
 {
     jidwaleb::jidwaleb_rotations(sheet, words, floats, matrices, rows, marks)
@@ -85,7 +85,7 @@ pub extern "C" fn jidwaleb_copy(
     copies: &mut [f64],
     table: &mut [u16],
 ) -> u64
-    ensures table_after { (result, copies.new, table.new)
+    ensures as_defined { (result, copies.new, table.new)
         ≡ coded (copy_call dimension points.now turns.now copies.old table.old) }
     ensures decoded { Decoded result (copy_call dimension points.now turns.now copies.old table.old).0 }
 {

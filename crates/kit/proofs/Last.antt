@@ -1,5 +1,6 @@
 -- The last line goes by the search's answer, and says what the search wrote.
 -- Assumes nothing.
+use Rattle.std.specs.Prelude.{Err, Ok, IsOk, IfOk}
 use mathlib.Core.Path.{◌≡◌, refl, sym, ap, ◌∙◌, subst}
 use mathlib.Core.Logic.{inl, inr}
 use mathlib.Core.Bool.{Bool, true, false}
@@ -8,14 +9,12 @@ use Prim.Native.Nat.{ℕ, ◌*◌, ◌≤◌}
 use native.Mathlib.Omega.{arith}
 use lib.ListN.{length, take, length-map}
 use lib.Dec.{ltb}
-use Rattle.spec.specs.declared.Refusal.{Refusal}
+use Rattle.spec.specs.declared.Refused.{Refused}
 use Rattle.spec.specs.declared.Refusal.TheVariants.{Blank, ShortSheet}
-use Rattle.spec.specs.declared.Answer.{Answer}
-use Rattle.spec.specs.declared.Answer.TheVariants.{Done, Refused}
-use Rattle.spec.specs.declared.Verdict.TheVariants.{Accepted}
+use Rattle.spec.specs.Refusal.{Answer}
 use Rattle.spec.specs.Limits.{max_dimension}
 use Rattle.spec.specs.Lists.{In, sum, join, parts}
-use Rattle.spec.specs.Judged.{Judged, refused, passed}
+use Rattle.spec.specs.Judged.{Judged}
 use Rattle.spec.specs.Sheet.{Parsed, read_sheet}
 use Rattle.spec.specs.Solid.{Concrete}
 use Rattle.spec.specs.Search.{Member}
@@ -26,43 +25,43 @@ use Rattle.laws.proofs.CallProofs.{apart, counted, choose}
 use Rattle.laws.proofs.CopyLaws.{Wide, wide-join}
 use Rattle.laws.proofs.Listed.{found_in, members_confirm}
 use Rattle.laws.proofs.Shapes.{Square, square_long, MembersShaped, members-shaped, found-cells}
-use Rattle.sheet.specs.Judge.{header_of, judgement_of}
 use Rattle.text.specs.Members.{members_text, rotation_count}
 use Rattle.text.proofs.Outputs.{members-out}
 
--- ---- a search that answered Done n
+-- ---- a search that was done
 
-kept-done : (l kept : List Member) (n : ℕ) → (kept_of l kept).answer ≡ Done n → length (kept_of l kept).members ≡ n
+kept-done : (l kept : List Member) (n : ℕ) → (kept_of l kept).answer ≡ Ok n → length (kept_of l kept).members ≡ n
 unfolding kept_of choose
 kept-done [] kept n e = absurd (apart Blank 0 n e)
 kept-done (x ∷ l) kept n e = go (ltb (length kept) (length (x ∷ l))) e
   where
-    go : (b : Bool) → (choose kept b).answer ≡ Done n → length (choose kept b).members ≡ n
+    go : (b : Bool) → (choose kept b).answer ≡ Ok n → length (choose kept b).members ≡ n
     go true e = absurd (apart ShortSheet (length kept) n e)
     go false e = counted (length kept) n e
 
 -- The sheet passed, and n members are written.
-found-done : (o : Judged (Concrete × List Member)) (m : Room) (n : ℕ) → (outcome o m).answer ≡ Done n
-    → (y : Concrete × List Member) × (o ≡ passed y) × (length (outcome o m).members ≡ n)
+found-done : (o : Judged (Concrete × List Member)) (m : Room) (n : ℕ) → (outcome o m).answer ≡ Ok n
+    → (y : Concrete × List Member) × (o ≡ Ok y) × (length (outcome o m).members ≡ n)
 unfolding outcome
-found-done (refused why) m n e = absurd (apart why 0 n e)
-found-done (passed y) m n e = (y, refl, kept-done y.1 (fitting m y.0.dimension (length y.0.points) 0 y.1) n e)
+found-done (Err why) m n e = absurd (apart why 0 n e)
+found-done (Ok y) m n e = (y, refl, kept-done y.1 (fitting m y.0.dimension (length y.0.points) 0 y.1) n e)
 
-done_line : (f : Outcome) (n : ℕ) → f.answer ≡ Done n → last_line f ≡ members_line f.members
+done_line : (f : Outcome) (n : ℕ) → f.answer ≡ Ok n → last_line f ≡ members_line f.members
 unfolding last_line
 done_line f n e = rw (e, last_line) refl
 
-refused_line_lem : (f : Outcome) (why : Refusal) (k : ℕ) → f.answer ≡ Refused why k → last_line f ≡ refused_line why
+refused_line_lem : (f : Outcome) (r : Refused) → f.answer ≡ Err r → last_line f ≡ refused_line r.why
 unfolding last_line
-refused_line_lem f why k e = rw (e, last_line) refl
+refused_line_lem f r e = rw (e, last_line) refl
 
--- The solid's D is the sheet's.
-dimension_is : (b : List ℕ) (words floats : ℕ) (y : Concrete × List Member) → members_in b words floats ≡ passed y
-    → (y.0.dimension ≡ (judgement_of (read_sheet b)).header.dimension) × (y.0.dimension ≤ max_dimension)
-unfolding judgement_of header_of
-dimension_is b words floats y e =
-    let p = every_passed b words floats y.0 ((members_confirm b words floats).read y e) in
-    (rw p.read p.dimension, p.wide)
+-- The sheet was read, and the solid's D is the sheet's.
+read_as : (b : List ℕ) (words floats : ℕ) (y : Concrete × List Member) → members_in b words floats ≡ Ok y
+    → (p : Parsed) × (read_sheet b ≡ Ok p) × (y.0.dimension ≡ p.dimension) × (y.0.dimension ≤ max_dimension)
+read_as b words floats y e = let p = every_passed b words floats y.0 ((members_confirm b words floats).read y e) in (p.parsed, p.read, p.dimension, p.wide)
+
+dimension_is : (b : List ℕ) (words floats : ℕ) (y : Concrete × List Member) → members_in b words floats ≡ Ok y → (d : ℕ) → IfOk (read_sheet b) (λ p. d ≡ p.dimension)
+    → d ≡ y.0.dimension
+dimension_is b words floats y e d s = let p = read_as b words floats y e in (rw p.1 at s) ∙ sym p.2
 
 -- Each member takes d * d cells.
 squares_wide : (d : ℕ) (ms : List Member) → ((x : Member) → In x ms → Square d x.matrix) → Wide (d * d) (map (λ x. join x.matrix) ms)
@@ -91,30 +90,25 @@ module _ (b : List ℕ) (old new : SearchOut) (a : Answer) (words floats : ℕ) 
   unfolding search_written
   answered = ap (λ (x : Answer × SearchOut). x.0) wrote
 
-  pub refused-last : (why : Refusal) (k : ℕ) → a ≡ Refused why k → refused_line why ≡ last_line found
-  refused-last why k d = sym (refused_line_lem found why k (sym answered ∙ d))
+  pub refused-last : (r : Refused) → a ≡ Err r → refused_line r.why ≡ last_line found
+  refused-last r d = sym (refused_line_lem found r (sym answered ∙ d))
 
-  solid : (n : ℕ) → a ≡ Done n → (y : Concrete × List Member) × (members ≡ passed y) × (length found.members ≡ n)
+  solid : (n : ℕ) → a ≡ Ok n → (y : Concrete × List Member) × (members ≡ Ok y) × (length found.members ≡ n)
   solid n q = found-done members lent n (sym answered ∙ q)
 
   -- A sheet whose search is done was accepted, so its D can be read from its bits.
-  pub accepted : (n : ℕ) → a ≡ Done n → (judgement_of (read_sheet b)).verdict ≡ Accepted
-  unfolding judgement_of
-  accepted n q =
-      let y = solid n q in
-      let p = every_passed b work_words work_floats y.0.0 ((members_confirm b work_words work_floats).read y.0 y.1) in
-      ap (λ (j : Judged Parsed). (judgement_of j).verdict) p.read
+  pub accepted : (n : ℕ) → a ≡ Ok n → IsOk (read_sheet b)
+  accepted n q = let y = solid n q in rw (read_as b work_words work_floats y.0 y.1).1
 
-  module _ (n : ℕ) (q : a ≡ Done n) (d : ℕ) (s : d ≡ (judgement_of (read_sheet b)).header.dimension) where
+  module _ (n : ℕ) (q : a ≡ Ok n) (d : ℕ) (s : IfOk (read_sheet b) (λ p. d ≡ p.dimension)) where
     pub flat : d ≤ max_dimension
-    flat = let h = dimension_is b work_words work_floats (solid n q).0 (solid n q).1 in omega (arith, s, h.0, h.1)
+    flat = let y = solid n q in omega (arith, dimension_is b work_words work_floats y.0 y.1 d s, (read_as b work_words work_floats y.0 y.1).3)
 
     square : (x : Member) → In x found.members → Square d x.matrix
     unfolding MembersShaped
     square x i =
         let h = found_in members lent x i in
-        let m = (members-shaped b work_words work_floats h.0 h.1 x h.2).matrix in
-        rw (s, ← (dimension_is b work_words work_floats h.0 h.1).0) m
+        rw (dimension_is b work_words work_floats h.0 h.1 d s) (members-shaped b work_words work_floats h.0 h.1 x h.2).matrix
 
     pub marks_hold : n ≤ lent.marks
     marks_hold = omega (arith, (found-cells members (members-shaped b work_words work_floats) lent).marks, length-map found.members (λ x. x.mark), (solid n q).2)

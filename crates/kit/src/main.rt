@@ -8,7 +8,7 @@ ghost use Rattle.spec.specs.KitText.{types_lines, last_line, type_records, lent,
 ghost use Rattle.text.specs.Puts.{Puts};
 ghost use Rattle.text.specs.Cells.{types_from};
 
-use spec::{Answer, Refusal};
+use spec::Refusal;
 use text::{counting, lines};
 
 // This is the longest input that is read as a sheet: "input past 8,192 bytes is refused 1".
@@ -61,13 +61,13 @@ fn last_line(sheet: &[u8], out: &mut [u8; TEXT], from: usize) -> usize
         &mut marks,
     );
     match answer {
-        Answer::Done(n) => {
+        Ok(n) => {
             let d = sheet::dimension(sheet);
             let confirmed = counting::confirmed(&marks, n);
             let rotations = counting::rotations(&matrices, d, n);
             lines::members(out, from, n, confirmed, rotations)
         }
-        Answer::Refused(why, _) => lines::refused(out, from, why),
+        Err(refused) => lines::refused(out, from, refused.why),
     }
 }
 
@@ -84,11 +84,11 @@ fn kit_text(sheet: &[u8], out: &mut [u8; TEXT]) -> usize
     let mut table = [0u16; 4 * TYPES];
     let answer = types::element_types(sheet, &mut words, &mut floats, &mut of, &mut table);
     match answer {
-        Answer::Done(n) => {
+        Ok(n) => {
             let end = put_types(out, &table, n);
             last_line(sheet, out, end)
         }
-        Answer::Refused(why, _) => lines::refused(out, 0, why),
+        Err(refused) => lines::refused(out, 0, refused.why),
     }
 }
 

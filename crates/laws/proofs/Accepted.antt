@@ -1,5 +1,6 @@
 -- Every sheet that passes gives a solid that section 2 allows: `Sound`, of the rank that the sheet says, within the limits.
 -- Assumes nothing.
+use Rattle.std.specs.Prelude.{Err, Ok}
 use mathlib.Core.Path.{◌≡◌, refl, sym, ◌∙◌, ap, subst}
 use mathlib.Core.Logic.{◌⊎◌, inl, inr}
 use Prim.Native.Nat.{ℕ, zero, suc, ◌+◌, ◌-◌, ◌*◌, ◌≤◌, ◌<◌}
@@ -19,7 +20,7 @@ use Rattle.spec.specs.Lists.{In, range}
 use Rattle.spec.specs.Types.{Solid, top, size, subs}
 use Rattle.spec.specs.Demand.{RisingAbove, Rising, Sound}
 use Rattle.spec.specs.Judged as Judging
-use Rattle.spec.specs.Judged.{Judged, refused, passed}
+use Rattle.spec.specs.Judged.{Judged}
 use Rattle.spec.specs.Sheet.{Parsed, Reader, ◌>>=◌, ◌>>◌, done, judge, times, bits, rank, dimension, count, coordinate, sub_list, list, lists_at, lists, end, sheet, read_sheet, vertex_count}
 use Rattle.spec.specs.Solid.{Concrete, proper_lists, with_top, solid_of, roomy, bound, diamond, preflight}
 use Rattle.laws.proofs.Lists.{length-range, in_get_d}
@@ -30,30 +31,30 @@ use Rattle.laws.specs.Passed.{EveryPassed}
 
 -- ---- what a passed reading passed through
 
-pub never : {A : Type 0} (why : Refusal) (y : A) → ◌≡◌ {A = Judged A} (refused why) (passed y) → ⊥
+pub never : {A : Type 0} (why : Refusal) (y : A) → ◌≡◌ {A = Judged A} (Err why) (Ok y) → ⊥
 never why y e = let z : ◌≡◌ {A = ℕ} 0 1 = cc in omega arith
 
-pub same : {A : Type 0} (x y : A) → passed x ≡ passed y → x ≡ y
+pub same : {A : Type 0} (x y : A) → ◌≡◌ {A = Judged A} (Ok x) (Ok y) → x ≡ y
 same x y e = cc
 
 module _ {A B : Type 0} where
-  pub bound_by : (m : Reader A) (k : A → Reader B) (i : ℕ) (y : B × ℕ) → (m >>= k) i ≡ passed y → (x : A × ℕ) × (m i ≡ passed x) × (k x.0 x.1 ≡ passed y)
+  pub bound_by : (m : Reader A) (k : A → Reader B) (i : ℕ) (y : B × ℕ) → (m >>= k) i ≡ Ok y → (x : A × ℕ) × (m i ≡ Ok x) × (k x.0 x.1 ≡ Ok y)
   unfolding ◌>>=◌
   bound_by m k i y = go (m i) refl
     where
-      go : (o : Judged (A × ℕ)) → m i ≡ o → elim o as (λ z. Judged (B × ℕ)) [ refused why ↦ refused why | passed x ↦ k x.0 x.1 ] ≡ passed y → (x : A × ℕ) × (m i ≡ passed x) × (k x.0 x.1 ≡ passed y)
-      go (refused why) q e = absurd (never why y e)
-      go (passed x) q e = (x, q, e)
+      go : (o : Judged (A × ℕ)) → m i ≡ o → elim o as (λ z. Judged (B × ℕ)) [ Err why ↦ Err why | Ok x ↦ k x.0 x.1 ] ≡ Ok y → (x : A × ℕ) × (m i ≡ Ok x) × (k x.0 x.1 ≡ Ok y)
+      go (Err why) q e = absurd (never why y e)
+      go (Ok x) q e = (x, q, e)
 
-  pub after : (m : Reader A) (k : Reader B) (i : ℕ) (y : B × ℕ) → (m >> k) i ≡ passed y → (x : A × ℕ) × (m i ≡ passed x) × (k x.1 ≡ passed y)
+  pub after : (m : Reader A) (k : Reader B) (i : ℕ) (y : B × ℕ) → (m >> k) i ≡ Ok y → (x : A × ℕ) × (m i ≡ Ok x) × (k x.1 ≡ Ok y)
   unfolding ◌>>◌
   after m k i y = go (m i) refl
     where
-      go : (o : Judged (A × ℕ)) → m i ≡ o → elim o as (λ z. Judged (B × ℕ)) [ refused why ↦ refused why | passed x ↦ k x.1 ] ≡ passed y → (x : A × ℕ) × (m i ≡ passed x) × (k x.1 ≡ passed y)
-      go (refused why) q e = absurd (never why y e)
-      go (passed x) q e = (x, q, e)
+      go : (o : Judged (A × ℕ)) → m i ≡ o → elim o as (λ z. Judged (B × ℕ)) [ Err why ↦ Err why | Ok x ↦ k x.1 ] ≡ Ok y → (x : A × ℕ) × (m i ≡ Ok x) × (k x.1 ≡ Ok y)
+      go (Err why) q e = absurd (never why y e)
+      go (Ok x) q e = (x, q, e)
 
-pub judged : (why : Refusal) (ok : Bool) (i : ℕ) (y : Unit {0} × ℕ) → judge why ok i ≡ passed y → ok ≡ true
+pub judged : (why : Refusal) (ok : Bool) (i : ℕ) (y : Unit {0} × ℕ) → judge why ok i ≡ Ok y → ok ≡ true
 unfolding judge
 judged why true i y e = refl
 judged why false i y e = absurd (never why y e)
@@ -90,7 +91,7 @@ Stack c [] = Unit {0}
 Stack c (ls ∷ more) = AllFrom c ls × Stack (length ls) more
 
 module _ (b : List ℕ) where
-  pub sub_read : (c n low i : ℕ) (y : List ℕ × ℕ) → sub_list b c n low i ≡ passed y → (length y.0 ≡ n) × From low c y.0
+  pub sub_read : (c n low i : ℕ) (y : List ℕ × ℕ) → sub_list b c n low i ≡ Ok y → (length y.0 ≡ n) × From low c y.0
   unfolding sub_list done From
   sub_read c zero low i y e = subst (λ (z : List ℕ × ℕ). (length z.0 ≡ 0) × From low c z.0) (same ([], i) y e) (refl, tt)
   sub_read c (suc n) low i y e =
@@ -102,7 +103,7 @@ module _ (b : List ℕ) where
       let r = sub_read c n (suc x) _ h₃.0 h₃.1 in
       subst (λ (z : List ℕ × ℕ). (length z.0 ≡ suc n) × From low c z.0) (same _ y h₃.2) (ap suc r.0, (le_test low x ok.1, lt_test x c ok.0, r.1))
 
-  list_read : (c used i : ℕ) (y : List ℕ × ℕ) → list b c used i ≡ passed y → (0 < length y.0) × From 0 c y.0
+  list_read : (c used i : ℕ) (y : List ℕ × ℕ) → list b c used i ≡ Ok y → (0 < length y.0) × From 0 c y.0
   unfolding list
   list_read c used i y e =
       let h₁ = bound_by (bits b 12) _ i y e in
@@ -112,7 +113,7 @@ module _ (b : List ℕ) where
       let k = lt_test 0 h₁.0.0 (judged BadList (ltb 0 h₁.0.0) _ _ h₃.1) in
       (rw r.0 k, r.1)
 
-  lists_at_lem : (c n used i : ℕ) (y : List (List ℕ) × ℕ) → lists_at b c n used i ≡ passed y → (length y.0 ≡ n) × AllFrom c y.0 × NoneEmpty y.0
+  lists_at_lem : (c n used i : ℕ) (y : List (List ℕ) × ℕ) → lists_at b c n used i ≡ Ok y → (length y.0 ≡ n) × AllFrom c y.0 × NoneEmpty y.0
   unfolding lists_at done AllFrom NoneEmpty
   lists_at_lem c zero used i y e = subst (λ (z : List (List ℕ) × ℕ). (length z.0 ≡ 0) × AllFrom c z.0 × NoneEmpty z.0) (same ([], i) y e) (refl, tt, tt)
   lists_at_lem c (suc n) used i y e =
@@ -122,7 +123,7 @@ module _ (b : List ℕ) where
       let l = list_read c used i h₁.0 h₁.1 in
       subst (λ (z : List (List ℕ) × ℕ). (length z.0 ≡ suc n) × AllFrom c z.0 × NoneEmpty z.0) (same _ y h₂.2) (ap suc r.0, (l.1, r.1), (l.0, r.2))
 
-  lists-read : (c : ℕ) (counts : List ℕ) (i : ℕ) (y : List (List (List ℕ)) × ℕ) → lists b (c ∷ counts) i ≡ passed y → Sized counts y.0 × Stack c y.0
+  lists-read : (c : ℕ) (counts : List ℕ) (i : ℕ) (y : List (List (List ℕ)) × ℕ) → lists b (c ∷ counts) i ≡ Ok y → Sized counts y.0 × Stack c y.0
   unfolding lists done Stack Sized
   lists-read c [] i y e = subst (λ (z : List (List (List ℕ)) × ℕ). Sized [] z.0 × Stack c z.0) (same ([], i) y e) (tt, tt)
   lists-read c (d ∷ counts) i y e =
@@ -140,7 +141,7 @@ sized-length (n ∷ sizes) (ls ∷ more) h = ap suc (sized-length sizes more h.2
 sized-length [] (ls ∷ more) h = elim h [ ]
 sized-length (n ∷ sizes) [] h = elim h [ ]
 
-pub times-read : {A : Type 0} (n : ℕ) (m : Reader A) (i : ℕ) (y : List A × ℕ) → times n m i ≡ passed y → length y.0 ≡ n
+pub times-read : {A : Type 0} (n : ℕ) (m : Reader A) (i : ℕ) (y : List A × ℕ) → times n m i ≡ Ok y → length y.0 ≡ n
 unfolding times done
 times-read zero m i y e = ap (λ (z : List _ × ℕ). length z.0) (sym (same ([], i) y e))
 times-read (suc n) m i y e =
@@ -152,7 +153,7 @@ pub one_or : {A : Type 0} (P : A → Type 0) (x a : A) (l : List A) → In x (a 
 one_or P x a l (inl q) k r = rw q k
 one_or P x a l (inr m) k r = r m
 
-pub times-each : {A : Type 0} (P : A → Type 0) (m : Reader A) → ((i : ℕ) (y : A × ℕ) → m i ≡ passed y → P y.0) → (n i : ℕ) (y : List A × ℕ) → times n m i ≡ passed y → (x : A) → In x y.0 → P x
+pub times-each : {A : Type 0} (P : A → Type 0) (m : Reader A) → ((i : ℕ) (y : A × ℕ) → m i ≡ Ok y → P y.0) → (n i : ℕ) (y : List A × ℕ) → times n m i ≡ Ok y → (x : A) → In x y.0 → P x
 unfolding times done
 times-each P m f zero i y e x h = absurd (subst (λ (z : List _ × ℕ). In x z.0) (sym (same ([], i) y e)) h)
 times-each P m f (suc n) i y e x h =
@@ -162,7 +163,7 @@ times-each P m f (suc n) i y e x h =
 
 -- A field is judged, and a value is worked out from it.
 judged-field : {A : Type 0} (b : List ℕ) (w : ℕ) (k : Refusal) (t : ℕ → Bool) (f : ℕ → A) (i : ℕ) (y : A × ℕ)
-    → (bits b w >>= λ n. judge k (t n) >> done (f n)) i ≡ passed y → (n : ℕ) × (t n ≡ true) × (y.0 ≡ f n)
+    → (bits b w >>= λ n. judge k (t n) >> done (f n)) i ≡ Ok y → (n : ℕ) × (t n ≡ true) × (y.0 ≡ f n)
 unfolding done
 judged-field b w k t f i y e =
     let h₁ = bound_by (bits b w) _ i y e in
@@ -170,15 +171,15 @@ judged-field b w k t f i y e =
     (h₁.0.0, judged k (t h₁.0.0) h₁.0.1 h₂.0 h₂.1, ap (λ z. z.0) (sym (same _ y h₂.2)))
 
 module _ (b : List ℕ) (i : ℕ) where
-  pub rank-read : (y : ℕ × ℕ) → rank b i ≡ passed y → y.0 ≤ max_rank
+  pub rank-read : (y : ℕ × ℕ) → rank b i ≡ Ok y → y.0 ≤ max_rank
   unfolding rank
   rank-read y e = let h = judged-field b 3 Format (λ n. leb n max_rank) (λ n. n) i y e in rw h.2 (le_test h.0 max_rank h.1)
 
-  pub dimension-read : (y : ℕ × ℕ) → dimension b i ≡ passed y → y.0 ≤ max_dimension
+  pub dimension-read : (y : ℕ × ℕ) → dimension b i ≡ Ok y → y.0 ≤ max_dimension
   unfolding dimension
   dimension-read y e = let h = judged-field b 3 Format (λ n. leb n max_dimension) (λ n. n) i y e in rw h.2 (le_test h.0 max_dimension h.1)
 
-  pub count-read : (y : ℕ × ℕ) → count b i ≡ passed y → (0 < y.0) × (y.0 ≤ max_count)
+  pub count-read : (y : ℕ × ℕ) → count b i ≡ Ok y → (0 < y.0) × (y.0 ≤ max_count)
   unfolding count
   count-read y e =
       let h = judged-field b 12 Format (λ n. ltb 0 n && leb n max_count) (λ n. n) i y e in
@@ -186,18 +187,18 @@ module _ (b : List ℕ) (i : ℕ) where
       rw h.2 (lt_test 0 h.0 k.0, le_test h.0 max_count k.1)
 
   -- The bits that were read are whole, and the next field starts behind them.
-  bits-read : (w : ℕ) (y : ℕ × ℕ) → bits b w i ≡ passed y → (i + w ≤ 8 * length b) × (y ≡ (field b i w, i + w))
+  bits-read : (w : ℕ) (y : ℕ × ℕ) → bits b w i ≡ Ok y → (i + w ≤ 8 * length b) × (y ≡ (field b i w, i + w))
   unfolding bits
   bits-read w y e = go (leb (i + w) (8 * length b)) refl e
     where
       go : (t : Bool) → leb (i + w) (8 * length b) ≡ t
-          → elim t as (λ z. Judged (ℕ × ℕ)) [ true ↦ passed (field b i w, i + w) | false ↦ refused CutSheet ] ≡ passed y
+          → elim t as (λ z. Judged (ℕ × ℕ)) [ true ↦ Ok (field b i w, i + w) | false ↦ Err CutSheet ] ≡ Ok y
           → (i + w ≤ 8 * length b) × (y ≡ (field b i w, i + w))
       go true q e = (le_test (i + w) (8 * length b) q, sym (same (field b i w, i + w) y e))
       go false q e = absurd (never CutSheet y e)
 
   -- A field of w bits that no test refused is what those bits say.
-  field-read : (w : ℕ) (k : Refusal) (t : ℕ → Bool) (y : ℕ × ℕ) → (bits b w >>= λ n. judge k (t n) >> done n) i ≡ passed y
+  field-read : (w : ℕ) (k : Refusal) (t : ℕ → Bool) (y : ℕ × ℕ) → (bits b w >>= λ n. judge k (t n) >> done n) i ≡ Ok y
       → (i + w ≤ 8 * length b) × (y ≡ (field b i w, i + w))
   unfolding done judge
   field-read w k t y e =
@@ -206,11 +207,11 @@ module _ (b : List ℕ) (i : ℕ) where
       let r = bits-read w h₁.0 h₁.1 in
       (r.0, sym (same (h₁.0.0, h₂.0.1) y h₂.2) ∙ ap (λ (n : ℕ). (h₁.0.0, n)) (stays (t h₁.0.0) h₂.0 h₂.1) ∙ r.1)
     where
-      stays : (ok : Bool) {j : ℕ} (z : Unit {0} × ℕ) → judge k ok j ≡ passed z → z.1 ≡ j
+      stays : (ok : Bool) {j : ℕ} (z : Unit {0} × ℕ) → judge k ok j ≡ Ok z → z.1 ≡ j
       stays true {j} z q = ap (λ (u : Unit {0} × ℕ). u.1) (sym (same (tt, j) z q))
       stays false z q = absurd (never k z q)
 
-  coordinate-read : (y : Float × ℕ) → coordinate b i ≡ passed y → in_range y.0 ≡ true
+  coordinate-read : (y : Float × ℕ) → coordinate b i ≡ Ok y → in_range y.0 ≡ true
   unfolding coordinate
   coordinate-read y e = let h = judged-field b 64 OffTheBoard (λ n. in_range (of_bits binary64 n)) (λ n. of_bits binary64 n) i y e in rw h.2 h.1
 
@@ -330,13 +331,13 @@ pub record PartsRead (b : List ℕ) (p : Parsed) : Type 0 where
   pub points-at : ℕ
   pub lists_at : ℕ
   pub end-at : ℕ
-  pub rank_is : rank b 0 ≡ passed (p.rank, dimension-at)
-  pub dimension_is : dimension b dimension-at ≡ passed (p.dimension, counts-at)
-  pub counts_are : times (p.rank - 1) (count b) counts-at ≡ passed (p.counts, points-at)
-  pub points_are : times (vertex_count p.rank p.counts) (times p.dimension (coordinate b)) points-at ≡ passed (p.points, lists_at)
-  pub lists_are : lists b p.counts lists_at ≡ passed (p.lists, end-at)
+  pub rank_is : rank b 0 ≡ Ok (p.rank, dimension-at)
+  pub dimension_is : dimension b dimension-at ≡ Ok (p.dimension, counts-at)
+  pub counts_are : times (p.rank - 1) (count b) counts-at ≡ Ok (p.counts, points-at)
+  pub points_are : times (vertex_count p.rank p.counts) (times p.dimension (coordinate b)) points-at ≡ Ok (p.points, lists_at)
+  pub lists_are : lists b p.counts lists_at ≡ Ok (p.lists, end-at)
 
-sheet-parts : (b : List ℕ) (y : Parsed × ℕ) → sheet b 0 ≡ passed y → PartsRead b y.0
+sheet-parts : (b : List ℕ) (y : Parsed × ℕ) → sheet b 0 ≡ Ok y → PartsRead b y.0
 unfolding sheet done
 sheet-parts b y e =
     let h₁ = bound_by (rank b) _ 0 y e in
@@ -358,14 +359,14 @@ sheet-parts b y e =
       lists_are = h₅.1;
     })
 
-pub parts-read : (b : List ℕ) (p : Parsed) → read_sheet b ≡ passed p → PartsRead b p
+pub parts-read : (b : List ℕ) (p : Parsed) → read_sheet b ≡ Ok p → PartsRead b p
 unfolding read_sheet
 parts-read b p = go (sheet b 0) refl
   where
-    go : (o : Judged (Parsed × ℕ)) → sheet b 0 ≡ o → elim o as (λ z. Judged Parsed) [ refused why ↦ refused why | passed x ↦ passed x.0 ] ≡ passed p
+    go : (o : Judged (Parsed × ℕ)) → sheet b 0 ≡ o → elim o as (λ z. Judged Parsed) [ Err why ↦ Err why | Ok x ↦ Ok x.0 ] ≡ Ok p
         → PartsRead b p
-    go (refused why) q e = absurd (never why p e)
-    go (passed x) q e = rw (← same x.0 p e) (sheet-parts b x q)
+    go (Err why) q e = absurd (never why p e)
+    go (Ok x) q e = rw (← same x.0 p e) (sheet-parts b x q)
 
 record Read (p : Parsed) : Type 0 where
   tall : p.rank ≤ max_rank
@@ -376,7 +377,7 @@ record Read (p : Parsed) : Type 0 where
   pointed : length p.points ≡ vertex_count p.rank p.counts
   low : (c : ℕ) (counts : List ℕ) → p.counts ≡ c ∷ counts → Sized counts p.lists × Stack c p.lists
 
-whole-sheet : (b : List ℕ) (p : Parsed) → read_sheet b ≡ passed p → Read p
+whole-sheet : (b : List ℕ) (p : Parsed) → read_sheet b ≡ Ok p → Read p
 whole-sheet b p e =
     let h = parts-read b p e in
     let v = vertex_count p.rank p.counts in
@@ -389,7 +390,7 @@ whole-sheet b p e =
           (λ i z k. (times-read p.dimension (coordinate b) i z k, times-each (λ y. in_range y ≡ true) (coordinate b) (coordinate-read b) p.dimension i z k))
           v h.points-at (p.points, h.lists_at) h.points_are;
       pointed = times-read v (times p.dimension (coordinate b)) h.points-at (p.points, h.lists_at) h.points_are;
-      low = λ c counts q. lists-read b c counts h.lists_at (p.lists, h.end-at) (subst (λ (l : List ℕ). lists b l h.lists_at ≡ passed (p.lists, h.end-at)) q h.lists_are);
+      low = λ c counts q. lists-read b c counts h.lists_at (p.lists, h.end-at) (subst (λ (l : List ℕ). lists b l h.lists_at ≡ Ok (p.lists, h.end-at)) q h.lists_are);
     }
 
 module _ (p : Parsed) (w : Read p) where
@@ -535,23 +536,23 @@ module _ (p : Parsed) (w : Read p) where
 -- ---- preflight
 
 module _ {A B : Type 0} where
-  pub bound_to : (m : Judged A) (k : A → Judged B) (y : B) → Judging.◌>>=◌ m k ≡ passed y → (x : A) × (m ≡ passed x) × (k x ≡ passed y)
+  pub bound_to : (m : Judged A) (k : A → Judged B) (y : B) → Judging.◌>>=◌ m k ≡ Ok y → (x : A) × (m ≡ Ok x) × (k x ≡ Ok y)
   unfolding Judging.◌>>=◌
-  bound_to (refused why) k y e = absurd (never why y e)
-  bound_to (passed x) k y e = (x, refl, e)
+  bound_to (Err why) k y e = absurd (never why y e)
+  bound_to (Ok x) k y e = (x, refl, e)
 
-  pub then_to : (m : Judged A) (k : Judged B) (y : B) → Judging.◌>>◌ m k ≡ passed y → (x : A) × (m ≡ passed x) × (k ≡ passed y)
+  pub then_to : (m : Judged A) (k : Judged B) (y : B) → Judging.◌>>◌ m k ≡ Ok y → (x : A) × (m ≡ Ok x) × (k ≡ Ok y)
   unfolding Judging.◌>>◌
-  then_to (refused why) k y e = absurd (never why y e)
-  then_to (passed x) k y e = (x, refl, e)
+  then_to (Err why) k y e = absurd (never why y e)
+  then_to (Ok x) k y e = (x, refl, e)
 
-pub tested : (why : Refusal) (ok : Bool) (y : Unit {0}) → Judging.judge why ok ≡ passed y → ok ≡ true
+pub tested : (why : Refusal) (ok : Bool) (y : Unit {0}) → Judging.judge why ok ≡ Ok y → ok ≡ true
 unfolding Judging.judge
 tested why true y e = refl
 tested why false y e = absurd (never why y e)
 
 -- This is the solid of a sheet that was read, whatever workspaces are lent.
-module _ (b : List ℕ) (p : Parsed) (e : read_sheet b ≡ passed p) where
+module _ (b : List ℕ) (p : Parsed) (e : read_sheet b ≡ Ok p) where
   pub read-rank : top (solid_of p) ≡ p.rank
   read-rank = rank-of p (whole-sheet b p e)
 
@@ -580,16 +581,16 @@ read-solid p = record { dimension = p.dimension; points = p.points; abs = solid_
 -- A passed preflight passed through these, and the workspace has no part in the solid.
 record Through (b : List ℕ) (c : Concrete) : Type 0 where
   parsed : Parsed
-  read : read_sheet b ≡ passed parsed
+  read : read_sheet b ≡ Ok parsed
   solid : read-solid parsed ≡ c
   joined : bound c.abs ≡ true
   diamonds : diamond c.abs ≡ true
 
-through : (b : List ℕ) (words floats : ℕ) (c : Concrete) → preflight b words floats ≡ passed c → Through b c
+through : (b : List ℕ) (words floats : ℕ) (c : Concrete) → preflight b words floats ≡ Ok c → Through b c
 unfolding preflight
 through b words floats c e =
     let h₁ = bound_to (read_sheet b) _ c e in
-    let h₂ = bound_to (passed (read-solid h₁.0)) _ c h₁.2 in
+    let h₂ = bound_to (Ok (read-solid h₁.0)) _ c h₁.2 in
     let d = h₂.0 in
     let h₃ = then_to (Judging.judge Bench (roomy d.abs words floats)) _ c h₂.2 in
     let h₄ = then_to (Judging.judge Loose (bound d.abs)) _ c h₃.2 in
@@ -604,7 +605,7 @@ through b words floats c e =
     }
 
 -- One sheet has one solid, whatever workspaces are lent.
-pub one-solid : (b : List ℕ) (words floats words' floats' : ℕ) (c d : Concrete) → preflight b words floats ≡ passed c → preflight b words' floats' ≡ passed d → c ≡ d
+pub one-solid : (b : List ℕ) (words floats words' floats' : ℕ) (c d : Concrete) → preflight b words floats ≡ Ok c → preflight b words' floats' ≡ Ok d → c ≡ d
 one-solid b words floats words' floats' c d e f =
     let t = through b words floats c e in
     let u = through b words' floats' d f in

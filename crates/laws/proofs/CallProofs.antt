@@ -1,12 +1,12 @@
 -- These are the laws of the calls: no empty list passes for success, when a call answers 13 or copying 14, what a refusal leaves in the outputs, and
 -- that these keep their lengths.
 -- Assumes nothing.
+use Rattle.std.specs.Prelude.{Err, Ok, Some}
 use mathlib.Core.Path.{◌≡◌, refl, sym, ◌∙◌, ap, subst}
 use mathlib.Core.Logic.{◌≢◌, ◌⊎◌, inl, inr, ⊎_elim}
 use Prim.Native.Nat.{ℕ, suc, ◌+◌, ◌*◌, ◌/◌, ◌%◌, ◌≤◌, ◌<◌, min}
 use native.Mathlib.Nat.{zero-mul, le_trans, mul-le-mul_right, div-mul-le_self, div-lt_iff_lt-mul}
 use mathlib.Core.Bool.{Bool, true, false, not, ◌&&◌}
-use mathlib.Core.Option.{some}
 use mathlib.Core.List.{List, [], ◌∷◌, map}
 use native.Mathlib.Omega.{arith}
 use native.Mathlib.Decide.{dec_lt}
@@ -17,8 +17,8 @@ use lib.Dec.{leb, ltb, eqb, nleb→lt, nltb→le, T}
 use lib.Ieee.{Float}
 use Rattle.spec.specs.declared.Refusal.{Refusal}
 use Rattle.spec.specs.declared.Refusal.TheVariants.{CutSheet, Format, OffTheBoard, Blank, ShortSheet, Open, Unsettled}
-use Rattle.spec.specs.declared.Answer.{Answer}
-use Rattle.spec.specs.declared.Answer.TheVariants.{Done, Refused}
+use Rattle.spec.specs.declared.Refused.{Refused}
+use Rattle.spec.specs.Refusal.{number, Answer, refused_with, answer_count}
 use Rattle.spec.specs.Limits.{max_dimension, max_count}
 use Rattle.spec.specs.Lists.{holds, join, every, written}
 use Rattle.spec.specs.Float.{in_range}
@@ -26,7 +26,7 @@ use Rattle.spec.specs.Matrix.{Vector, Matrix}
 use Rattle.spec.specs.Types.{State, given, element_types}
 use Rattle.spec.specs.Classes.{types_of}
 use Rattle.spec.specs.Judged as Judging
-use Rattle.spec.specs.Judged.{Judged, refused, passed}
+use Rattle.spec.specs.Judged.{Judged}
 use Rattle.spec.specs.Copying.{copies, copy_table, points, matrices, judge_copy, copy_out, copy_call, no_image}
 use Rattle.spec.specs.Solid.{Concrete, preflight}
 use Rattle.spec.specs.Search.{Member}
@@ -40,23 +40,24 @@ use Rattle.laws.proofs.Refuses.{by-judge, by-wanted, by-then, unlike, Refuses, n
 use Rattle.laws.proofs.Shapes.{wanted_some, MembersShaped, members-shaped, rotations-shaped, found-cells, type_cells_lem}
 use Rattle.laws.proofs.CopyLaws.{Wide, all-wide, kept_fit, wide-join, written-length, table_length, closed_table, open_table, some_copy}
 
-pub apart : (why : Refusal) (k m : ℕ) → Refused why k ≡ Done m → ⊥
+pub apart : (why : Refusal) (k m : ℕ) → refused_with why k ≡ Ok m → ⊥
 apart why k m e = let z : ◌≡◌ {A = ℕ} 0 1 = cc in omega arith
 
-same_refusal : (why other : Refusal) (k l : ℕ) → Refused why k ≡ Refused other l → why ≡ other
-same_refusal why other k l e = cc
+same_refusal : (why other : Refusal) (k l : ℕ) → refused_with why k ≡ refused_with other l → why ≡ other
+same_refusal why other k l e =
+    let q : ◌≡◌ {A = Refused} (record { why = why; kept = k }) (record { why = other; kept = l }) = cc in ap (λ (r : Refused). r.why) q
 
-same_count : (why : Refusal) (k l : ℕ) → Refused why k ≡ Refused why l → k ≡ l
-same_count why k l e = cc
+same_count : (why : Refusal) (k l : ℕ) → refused_with why k ≡ refused_with why l → k ≡ l
+same_count why k l e = ap answer_count e
 
-open_short : (k l : ℕ) → Refused Open k ≡ Refused ShortSheet l → ⊥
-open_short k l e = let z : ◌≡◌ {A = ℕ} 0 1 = cc in omega arith
+open_short : (k l : ℕ) → refused_with Open k ≡ refused_with ShortSheet l → ⊥
+open_short k l e = omega (arith, ap number (same_refusal Open ShortSheet k l e))
 
-pub counted : (n m : ℕ) → Done n ≡ Done m → n ≡ m
+pub counted : (n m : ℕ) → ◌≡◌ {A = Answer} (Ok n) (Ok m) → n ≡ m
 counted n m e = cc
 
 unfoldable pub choose : (kept : List Member) → Bool → Outcome
-choose kept b = elim b [ true ↦ record { answer = Refused ShortSheet (length kept); members = kept } | false ↦ record { answer = Done (length kept); members = kept } ]
+choose kept b = elim b [ true ↦ record { answer = refused_with ShortSheet (length kept); members = kept } | false ↦ record { answer = Ok (length kept); members = kept } ]
 
 -- ---- what fits
 
@@ -92,12 +93,12 @@ module _ (o : Judged (Concrete × List Member)) (m : Room) where
 
   -- A search whose members are o, with the room m, ends in one of these ways: by a refusal that is not 13, with the first k members, or with all.
   data SearchEnds : Outcome → Type 0 where
-    before : (why : Refusal) → why ≢ ShortSheet → SearchEnds (record { answer = Refused why 0; members = [] })
-    short : (c : Concrete) (ms : List Member) (k : ℕ) → o ≡ passed (c, ms) → MembersFit c k ≡ true → MembersFit c (suc k) ≡ false → k < length ms
-        → SearchEnds (record { answer = Refused ShortSheet k; members = take k ms })
-    whole : (c : Concrete) (ms : List Member) → o ≡ passed (c, ms) → MembersFit c (length ms) ≡ true → 0 < length ms → SearchEnds (record { answer = Done (length ms); members = ms })
+    before : (why : Refusal) → why ≢ ShortSheet → SearchEnds (record { answer = refused_with why 0; members = [] })
+    short : (c : Concrete) (ms : List Member) (k : ℕ) → o ≡ Ok (c, ms) → MembersFit c k ≡ true → MembersFit c (suc k) ≡ false → k < length ms
+        → SearchEnds (record { answer = refused_with ShortSheet k; members = take k ms })
+    whole : (c : Concrete) (ms : List Member) → o ≡ Ok (c, ms) → MembersFit c (length ms) ≡ true → 0 < length ms → SearchEnds (record { answer = Ok (length ms); members = ms })
 
-  kept-ends : (c : Concrete) (ms kept : List Member) → o ≡ passed (c, ms) → MembersKept m c.dimension (length c.points) 0 ms kept → SearchEnds (kept_of ms kept)
+  kept-ends : (c : Concrete) (ms kept : List Member) → o ≡ Ok (c, ms) → MembersKept m c.dimension (length c.points) 0 ms kept → SearchEnds (kept_of ms kept)
   unfolding kept_of choose
   kept-ends c [] kept q h = before Blank (unlike Blank ShortSheet tt)
   kept-ends c (x ∷ l) kept q h = go (ltb (length kept) (length (x ∷ l))) refl
@@ -108,29 +109,29 @@ module _ (o : Judged (Concrete × List Member)) (m : Room) where
       go : (b : Bool) → ltb (length kept) (length (x ∷ l)) ≡ b → SearchEnds (choose kept b)
       go true e =
           let k = lt_test (length kept) (length (x ∷ l)) e in
-          subst (λ (ys : List Member). SearchEnds (record { answer = Refused ShortSheet (length kept); members = ys })) (sym h.first)
+          subst (λ (ys : List Member). SearchEnds (record { answer = refused_with ShortSheet (length kept); members = ys })) (sym h.first)
           (short c (x ∷ l) (length kept) q (rw none_before at h.fit) (rw none_before at (h.full k)) k)
       go false e =
           let k : length (x ∷ l) ≤ length kept = nltb→le (length kept) (length (x ∷ l)) (subst (λ (b : Bool). T (not b)) (sym e) tt) in
           let r : kept ≡ x ∷ l = h.first ∙ take_all (length kept) (x ∷ l) k in
           let f : MembersFit c (length (x ∷ l)) ≡ true = subst (λ (ys : List Member). MembersFit c (length ys) ≡ true) r (rw none_before at h.fit) in
-          subst (λ (ys : List Member). SearchEnds (record { answer = Done (length ys); members = ys })) (sym r) (whole c (x ∷ l) q f (omega arith))
+          subst (λ (ys : List Member). SearchEnds (record { answer = Ok (length ys); members = ys })) (sym r) (whole c (x ∷ l) q f (omega arith))
 
 search-ends : (o : Judged (Concrete × List Member)) (m : Room) → Spares o → SearchEnds o m (outcome o m)
 unfolding outcome
-search-ends (refused why) m s = before why s
-search-ends (passed x) m s =
+search-ends (Err why) m s = before why s
+search-ends (Ok x) m s =
     let d = x.0.dimension in
     let v = length x.0.points in
-    kept-ends (passed x) m x.0 x.1 (fitting m d v 0 x.1) refl (fitting-kept m d v 0 x.1 (no_members_fit m d v))
+    kept-ends (Ok x) m x.0 x.1 (fitting m d v 0 x.1) refl (fitting-kept m d v 0 x.1 (no_members_fit m d v))
 
 module _ (o : Judged (Concrete × List Member)) (old : SearchOut) where
-  ended_some : (f : Outcome) → SearchEnds o (room_of old) f → (n : ℕ) → f.answer ≡ Done n → 0 < n
+  ended_some : (f : Outcome) → SearchEnds o (room_of old) f → (n : ℕ) → f.answer ≡ Ok n → 0 < n
   ended_some f (before why h) n e = absurd (apart why 0 n e)
   ended_some f (short c ms k q r t h) n e = absurd (apart ShortSheet k n e)
   ended_some f (whole c ms q r h) n e = rw (← counted (length ms) n e) h
 
-  ended-done : (f : Outcome) → SearchEnds o (room_of old) f → (n : ℕ) → f.answer ≡ Done n → AllMembers o old (search_written f old).1 n
+  ended-done : (f : Outcome) → SearchEnds o (room_of old) f → (n : ℕ) → f.answer ≡ Ok n → AllMembers o old (search_written f old).1 n
   unfolding search_written
   ended-done f (before why h) n e = absurd (apart why 0 n e)
   ended-done f (short c ms k q r t h) n e = absurd (apart ShortSheet k n e)
@@ -138,15 +139,15 @@ module _ (o : Judged (Concrete × List Member)) (old : SearchOut) where
       let k = counted (length ms) n e in
       record { solid = c; members = ms; listed = q; count = sym k; fit = rw (← k) r; hold = record { matrices = refl; rows = refl; marks = refl } }
 
-  ended_short : (f : Outcome) → SearchEnds o (room_of old) f → (n : ℕ) → f.answer ≡ Refused ShortSheet n → FirstMembers o old (search_written f old).1 n
+  ended_short : (f : Outcome) → SearchEnds o (room_of old) f → (n : ℕ) → f.answer ≡ refused_with ShortSheet n → FirstMembers o old (search_written f old).1 n
   unfolding search_written
   ended_short f (before why h) n e = absurd (h (same_refusal why ShortSheet 0 n e))
   ended_short f (whole c ms q r h) n e = absurd (apart ShortSheet n (length ms) (sym e))
   ended_short f (short c ms k q r t h) n e =
-      subst (λ (i : ℕ). FirstMembers o old (search_written (record { answer = Refused ShortSheet k; members = take k ms }) old).1 i) (same_count ShortSheet k n e)
+      subst (λ (i : ℕ). FirstMembers o old (search_written (record { answer = refused_with ShortSheet k; members = take k ms }) old).1 i) (same_count ShortSheet k n e)
       (record { solid = c; members = ms; listed = q; fit = r; full = t; more = h; hold = record { matrices = refl; rows = refl; marks = refl } })
 
-  ended_untouched : (f : Outcome) → SearchEnds o (room_of old) f → (why : Refusal) (k : ℕ) → f.answer ≡ Refused why k → why ≢ ShortSheet → (search_written f old).1 ≡ old
+  ended_untouched : (f : Outcome) → SearchEnds o (room_of old) f → (why : Refusal) (k : ℕ) → f.answer ≡ refused_with why k → why ≢ ShortSheet → (search_written f old).1 ≡ old
   unfolding search_written written join
   ended_untouched f (before why h) other k e p = refl
   ended_untouched f (short c ms n q r t h) why k e p = absurd (p (sym (same_refusal ShortSheet why n k e)))
@@ -176,27 +177,27 @@ search_laws inside shaped spares = record {
 
 -- ---- types
 
-types-out : (g : Judged Given) (old : TypesOut) (why : Refusal) (k : ℕ) → (types_written g old).0 ≡ Refused why k → (types_written g old).1 ≡ old
+types-out : (g : Judged Given) (old : TypesOut) (why : Refusal) (k : ℕ) → (types_written g old).0 ≡ refused_with why k → (types_written g old).1 ≡ old
 unfolding types_written
-types-out (refused m) old why k e = refl
-types-out (passed g) old why k e = absurd (apart why k (length g.types) (sym e))
+types-out (Err m) old why k e = refl
+types-out (Ok g) old why k e = absurd (apart why k (length g.types) (sym e))
 
 -- Behind a types call that passes stand the sheet's solid, the result of the sweeps, and room for what is given out.
 pub record Behind (b : List ℕ) (words floats n m : ℕ) (g : Given) : Type 0 where
   pub solid : Concrete
   pub result : State
-  pub read : preflight b words floats ≡ passed solid
-  pub ended : types_of solid ≡ some result
+  pub read : preflight b words floats ≡ Ok solid
+  pub ended : types_of solid ≡ Some result
   pub out : g ≡ record { elements = given solid.abs result; types = element_types solid.abs result }
   pub elements : length g.elements ≤ n
   pub types : 4 * length g.types ≤ m
 
-pub behind : (b : List ℕ) (words floats n m : ℕ) (g : Given) → types_given b words floats n m ≡ passed g → Behind b words floats n m g
+pub behind : (b : List ℕ) (words floats n m : ℕ) (g : Given) → types_given b words floats n m ≡ Ok g → Behind b words floats n m g
 unfolding types_given
 behind b words floats n m g q =
     let h₁ = bound_to (preflight b words floats) _ g q in
     let h₂ = bound_to (Judging.wanted Unsettled (types_of h₁.0)) _ g h₁.2 in
-    let h₃ = bound_to (passed (record { elements = given h₁.0.abs h₂.0; types = element_types h₁.0.abs h₂.0 })) _ g h₂.2 in
+    let h₃ = bound_to (Ok (record { elements = given h₁.0.abs h₂.0; types = element_types h₁.0.abs h₂.0 })) _ g h₂.2 in
     let a = leb (length h₃.0.elements) n in
     let h₄ = then_to (Judging.judge ShortSheet (a && leb (4 * length h₃.0.types) m)) _ g h₃.2 in
     let k = both a (leb (4 * length h₃.0.types) m) (tested ShortSheet _ _ h₄.1) in
@@ -212,10 +213,10 @@ behind b words floats n m g q =
     }
 
 types-done : (b : List ℕ) (words floats : ℕ) (old : TypesOut) (o : Judged Given) → types_given b words floats (length old.elements) (length old.types) ≡ o
-    → (n : ℕ) → (types_written o old).0 ≡ Done n → AllTypes b words floats old (types_written o old).1 n
+    → (n : ℕ) → (types_written o old).0 ≡ Ok n → AllTypes b words floats old (types_written o old).1 n
 unfolding types_written
-types-done b words floats old (refused why) q n e = absurd (apart why 0 n e)
-types-done b words floats old (passed g) q n e =
+types-done b words floats old (Err why) q n e = absurd (apart why 0 n e)
+types-done b words floats old (Ok g) q n e =
     let h = behind b words floats (length old.elements) (length old.types) g q in
     record {
       out = g;
@@ -228,27 +229,27 @@ types-done b words floats old (passed g) q n e =
     }
 
 -- A sequence of judgements that ends with 13, and not in its first one, passes that one.
-passed_by : {A B : Type 0} (m : Judged A) (k : A → Judged B) → Spares m → Judging.◌>>=◌ m k ≡ refused ShortSheet → (x : A) × (m ≡ passed x) × (k x ≡ refused ShortSheet)
+passed_by : {A B : Type 0} (m : Judged A) (k : A → Judged B) → Spares m → Judging.◌>>=◌ m k ≡ Err ShortSheet → (x : A) × (m ≡ Ok x) × (k x ≡ Err ShortSheet)
 unfolding Judging.◌>>=◌
-passed_by (refused why) k s e = let q : why ≡ ShortSheet = cc in absurd (s q)
-passed_by (passed x) k s e = (x, refl, e)
+passed_by (Err why) k s e = let q : why ≡ ShortSheet = cc in absurd (s q)
+passed_by (Ok x) k s e = (x, refl, e)
 
 -- The last judgement is what refuses.
-test_failed : {A : Type 0} (why : Refusal) (a b : Bool) (x : A) → Judging.◌>>◌ (Judging.judge why (a && b)) (passed x) ≡ refused why → (a ≡ false) ⊎ (b ≡ false)
+test_failed : {A : Type 0} (why : Refusal) (a b : Bool) (x : A) → Judging.◌>>◌ (Judging.judge why (a && b)) (Ok x) ≡ Err why → (a ≡ false) ⊎ (b ≡ false)
 unfolding Judging.◌>>◌ Judging.judge
 test_failed why false b x e = inl refl
 test_failed why true false x e = inr refl
 test_failed why true true x e = absurd (never why x (sym e))
 
 types_short : (b : List ℕ) (words floats : ℕ) (old : TypesOut) (o : Judged Given) → types_given b words floats (length old.elements) (length old.types) ≡ o
-    → (k : ℕ) → (types_written o old).0 ≡ Refused ShortSheet k → NoRoom b words floats old k
+    → (k : ℕ) → (types_written o old).0 ≡ refused_with ShortSheet k → NoRoom b words floats old k
 unfolding types_written types_given
-types_short b words floats old (passed g) q k e = absurd (apart ShortSheet k (length g.types) (sym e))
-types_short b words floats old (refused why) q k e =
-    let h₁ = passed_by (preflight b words floats) _ (spares_preflight b words floats) (q ∙ ap refused (same_refusal why ShortSheet 0 k e)) in
+types_short b words floats old (Ok g) q k e = absurd (apart ShortSheet k (length g.types) (sym e))
+types_short b words floats old (Err why) q k e =
+    let h₁ = passed_by (preflight b words floats) _ (spares_preflight b words floats) (q ∙ ap Err (same_refusal why ShortSheet 0 k e)) in
     let h₂ = passed_by (Judging.wanted Unsettled (types_of h₁.0)) _ (by-wanted not13 Unsettled (types_of h₁.0) (unlike Unsettled ShortSheet tt)) h₁.2 in
     let g : Given = record { elements = given h₁.0.abs h₂.0; types = element_types h₁.0.abs h₂.0 } in
-    let h₃ = passed_by (passed g) _ tt h₂.2 in
+    let h₃ = passed_by (Ok g) _ tt h₂.2 in
     let l = h₃.0 in
     let t = test_failed ShortSheet (leb (length l.elements) (length old.elements)) (leb (4 * length l.types) (length old.types)) l h₃.2 in
     record {
@@ -258,14 +259,14 @@ types_short b words floats old (refused why) q k e =
       exceed = ⊎_elim (λ p. inl (leb-false _ _ p)) (λ p. inr (leb-false _ _ p)) t;
     }
   where
-    same_zero : (why : Refusal) (k : ℕ) → Refused why 0 ≡ Refused ShortSheet k → ◌≡◌ {A = ℕ} 0 k
-    same_zero why k e = cc
+    same_zero : (why : Refusal) (k : ℕ) → refused_with why 0 ≡ refused_with ShortSheet k → ◌≡◌ {A = ℕ} 0 k
+    same_zero why k e = ap answer_count e
 
 types_lengths : (b : List ℕ) (words floats : ℕ) (old : TypesOut) (o : Judged Given) → types_given b words floats (length old.elements) (length old.types) ≡ o
     → SameLength old.elements (types_written o old).1.elements × SameLength old.types (types_written o old).1.types
 unfolding types_written
-types_lengths b words floats old (refused why) q = (refl, refl)
-types_lengths b words floats old (passed g) q =
+types_lengths b words floats old (Err why) q = (refl, refl)
+types_lengths b words floats old (Ok g) q =
     let h = behind b words floats (length old.elements) (length old.types) g q in
     (written-length g.elements old.elements h.elements, written-length (join (map type_cells g.types)) old.types (rw (type_cells_lem g.types) h.types))
 
@@ -296,7 +297,7 @@ module _ (d : ℕ) (ps ts : List Float) where
       (by-judge Early Blank _ (unlike Blank ShortSheet tt, unlike Blank Open tt))))
 
   -- A call that is not refused before 13 has at least one dimension and at least one copy.
-  judged : (u : Unit {0}) → judge_copy d ps ts ≡ passed u → (0 < d) × (0 < length (copies (matrices d ts) (points d ps)))
+  judged : (u : Unit {0}) → judge_copy d ps ts ≡ Ok u → (0 < d) × (0 < length (copies (matrices d ts) (points d ps)))
   unfolding judge_copy
   judged u e =
       let h₁ = then_to (Judging.judge Format (leb 1 d && leb d max_dimension)) _ u e in
@@ -327,10 +328,10 @@ module _ (d : ℕ) (ms : List Matrix) (cs : List Vector) (out_points : List Floa
 
   -- A call with the copies cs under the matrices ms ends in one of these ways, which say what it answers, and what it leaves in the outputs.
   data Ends : Answer × List Float × List ℕ → Type 0 where
-    before : (why : Refusal) → Early why → Ends (Refused why 0, out_points, out_table)
-    short : (k : ℕ) (p : List Float) (t : List ℕ) → FirstKept k p t → Ends (Refused ShortSheet k, p, t)
-    unclosed : (k : ℕ) (p : List Float) (t : List ℕ) → Unclosed k p t → Ends (Refused Open k, p, t)
-    whole : (n : ℕ) (p : List Float) (t : List ℕ) → All n p t → Ends (Done n, p, t)
+    before : (why : Refusal) → Early why → Ends (refused_with why 0, out_points, out_table)
+    short : (k : ℕ) (p : List Float) (t : List ℕ) → FirstKept k p t → Ends (refused_with ShortSheet k, p, t)
+    unclosed : (k : ℕ) (p : List Float) (t : List ℕ) → Unclosed k p t → Ends (refused_with Open k, p, t)
+    whole : (n : ℕ) (p : List Float) (t : List ℕ) → All n p t → Ends (Ok n, p, t)
 
   ends : (n : ℕ) → PointsFit n d (length out_points) → 0 < length cs → Ends (copy_out n ms cs out_points out_table)
   unfolding copy_out
@@ -343,10 +344,10 @@ module _ (d : ℕ) (ms : List Matrix) (cs : List Vector) (out_points : List Floa
       fits h = le_trans (mul-le-mul_right d h) f.cells
 
       go : (a : Bool) → leb (length cs) n ≡ a → (b : Bool) → leb cells (length out_table) ≡ b → (c : Bool) → holds eqb (length cs) (copy_table ms cs) ≡ c → Ends (elim (a && b) [
-        | false ↦ (Refused ShortSheet (length (take n cs)), written (join (take n cs)) out_points, out_table)
+        | false ↦ (refused_with ShortSheet (length (take n cs)), written (join (take n cs)) out_points, out_table)
         | true ↦ elim c [
-          | true ↦ (Refused Open (length (take n cs)), written (join (take n cs)) out_points, written (replicate cells no_image) out_table)
-          | false ↦ (Done (length cs), written (join (take n cs)) out_points, written (copy_table ms cs) out_table)
+          | true ↦ (refused_with Open (length (take n cs)), written (join (take n cs)) out_points, written (replicate cells no_image) out_table)
+          | false ↦ (Ok (length cs), written (join (take n cs)) out_points, written (copy_table ms cs) out_table)
         ]
       ])
       go false p b q c r =
@@ -393,25 +394,25 @@ module _ (d : ℕ) (ms : List Matrix) (cs : List Vector) (out_points : List Floa
             closed = closed_table ms cs r;
           }))
 
-  ends-done : (o : Answer × List Float × List ℕ) → Ends o → (n : ℕ) → o.0 ≡ Done n → All n o.1 o.2
+  ends-done : (o : Answer × List Float × List ℕ) → Ends o → (n : ℕ) → o.0 ≡ Ok n → All n o.1 o.2
   ends-done o (before why h) n e = absurd (apart why 0 n e)
   ends-done o (short k p t h) n e = absurd (apart ShortSheet k n e)
   ends-done o (unclosed k p t h) n e = absurd (apart Open k n e)
   ends-done o (whole k p t h) n e = subst (λ (i : ℕ). All i p t) (counted k n e) h
 
-  ends_short : (o : Answer × List Float × List ℕ) → Ends o → (k : ℕ) → o.0 ≡ Refused ShortSheet k → FirstKept k o.1 o.2
+  ends_short : (o : Answer × List Float × List ℕ) → Ends o → (k : ℕ) → o.0 ≡ refused_with ShortSheet k → FirstKept k o.1 o.2
   ends_short o (before why h) k e = absurd (h.0 (same_refusal why ShortSheet 0 k e))
   ends_short o (short n p t h) k e = subst (λ (i : ℕ). FirstKept i p t) (same_count ShortSheet n k e) h
   ends_short o (unclosed n p t h) k e = absurd (open_short n k e)
   ends_short o (whole n p t h) k e = absurd (apart ShortSheet k n (sym e))
 
-  ends_unclosed : (o : Answer × List Float × List ℕ) → Ends o → (k : ℕ) → o.0 ≡ Refused Open k → Unclosed k o.1 o.2
+  ends_unclosed : (o : Answer × List Float × List ℕ) → Ends o → (k : ℕ) → o.0 ≡ refused_with Open k → Unclosed k o.1 o.2
   ends_unclosed o (before why h) k e = absurd (h.1 (same_refusal why Open 0 k e))
   ends_unclosed o (short n p t h) k e = absurd (open_short k n (sym e))
   ends_unclosed o (unclosed n p t h) k e = subst (λ (i : ℕ). Unclosed i p t) (same_count Open n k e) h
   ends_unclosed o (whole n p t h) k e = absurd (apart Open k n (sym e))
 
-  ends_untouched : (o : Answer × List Float × List ℕ) → Ends o → (why : Refusal) (k : ℕ) → o.0 ≡ Refused why k → why ≢ ShortSheet → why ≢ Open → (o.1 ≡ out_points) × (o.2 ≡ out_table)
+  ends_untouched : (o : Answer × List Float × List ℕ) → Ends o → (why : Refusal) (k : ℕ) → o.0 ≡ refused_with why k → why ≢ ShortSheet → why ≢ Open → (o.1 ≡ out_points) × (o.2 ≡ out_table)
   ends_untouched o (before w h) why k e s u = (refl, refl)
   ends_untouched o (short n p t h) why k e s u = absurd (s (sym (same_refusal ShortSheet why n k e)))
   ends_untouched o (unclosed n p t h) why k e s u = absurd (u (sym (same_refusal Open why n k e)))
@@ -444,10 +445,10 @@ over-min a b c h = go (dec_lt a c)
     go (no n) = inr (omega arith)
 
 -- Where a is one of two values, chosen by a judgement, what holds of both holds of a.
-either : {A : Type 0} (P : A → Type 0) (j : Judged (Unit {0})) (f : Refusal → A) (x a : A) → a ≡ elim j [ refused why ↦ f why | passed u ↦ x ]
-    → ((why : Refusal) → j ≡ refused why → P (f why)) → ((u : Unit {0}) → j ≡ passed u → P x) → P a
-either P (refused why) f x a q g h = rw q (g why refl)
-either P (passed u) f x a q g h = rw q (h u refl)
+either : {A : Type 0} (P : A → Type 0) (j : Judged (Unit {0})) (f : Refusal → A) (x a : A) → a ≡ elim j [ Err why ↦ f why | Ok u ↦ x ]
+    → ((why : Refusal) → j ≡ Err why → P (f why)) → ((u : Unit {0}) → j ≡ Ok u → P x) → P a
+either P (Err why) f x a q g h = rw q (g why refl)
+either P (Ok u) f x a q g h = rw q (h u refl)
 
 call_ends : (d : ℕ) (ps ts out_points : List Float) (out_table : List ℕ)
     → Ends d (matrices d ts) (copies (matrices d ts) (points d ps)) out_points out_table (copy_call d ps ts out_points out_table)

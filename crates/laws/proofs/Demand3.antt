@@ -1,8 +1,8 @@
 -- Demand 3 holds for any solid that has a result, and any list of steps.
 -- Assumes nothing.
+use Rattle.std.specs.Prelude.{Some}
 use mathlib.Core.Path.{◌≡◌, ap}
 use Prim.Native.Nat.{ℕ, ◌<◌}
-use mathlib.Core.Option.{some}
 use mathlib.Core.List.{List}
 use Rattle.spec.specs.Mark.{goes}
 use Rattle.spec.specs.Types.{Solid, size, Classes, State, type_of, start, Step, at, step, play, result}
@@ -13,7 +13,7 @@ use Rattle.laws.proofs.Result.{kept, result-kept, result_good, play-below, play-
 use Rattle.laws.proofs.Carry.{TypesKept, start-kept, step_kept}
 use Rattle.laws.proofs.Marked.{carries}
 
-module _ (s : Solid) (w : Sound s) (cls : Classes) (z : State) (e : result s cls ≡ some z) (xs : List Step) (a : AllProper s xs) (σ : ℕ → ℕ → ℕ) (c : Carries s cls σ) where
+module _ (s : Solid) (w : Sound s) (cls : Classes) (z : State) (e : result s cls ≡ Some z) (xs : List Step) (a : AllProper s xs) (σ : ℕ → ℕ → ℕ) (c : Carries s cls σ) where
   both : State → Type 0
   both S = Good s cls S × TypesKept s w cls σ c S
 

@@ -1,5 +1,6 @@
 -- Demand 3 holds of the calls. A search writes out its members in order: cell k of the marks and part k of the rows are member k's.
 -- Assumes nothing.
+use Rattle.std.specs.Prelude.{Err, Ok}
 use mathlib.Core.Path.{◌≡◌, refl, sym, ◌∙◌, ap, subst}
 use mathlib.Core.Logic.{inl, inr}
 use Prim.Native.Nat.{ℕ, zero, suc, ◌+◌, ◌*◌, ◌<◌}
@@ -10,12 +11,11 @@ use native.Mathlib.Omega.{arith}
 use lib.ListN.{length, get_or, take, drop, length-map, get_or-append}
 use lib.Seq.{take_at, drop-append-add}
 use lib.Dec.{ltb}
-use Rattle.spec.specs.declared.Answer.TheVariants.{Done}
 use Rattle.spec.specs.Lists.{In, join, written}
 use Rattle.spec.specs.Types.{State, start, play}
 use Rattle.spec.specs.Mark.{marked}
 use Rattle.spec.specs.Demand.{Agree}
-use Rattle.spec.specs.Judged.{Judged, refused, passed}
+use Rattle.spec.specs.Judged.{Judged}
 use Rattle.spec.specs.Solid.{Concrete, preflight}
 use Rattle.spec.specs.Classes.{class_table, by_table, types_of}
 use Rattle.spec.specs.Search.{Member}
@@ -56,8 +56,8 @@ kept-count (x ∷ l) kept = go (ltb (length kept) (length (x ∷ l)))
 
 found-count : (o : Judged (Concrete × List Member)) (m : Room) → answer_count (outcome o m).answer ≡ length (outcome o m).members
 unfolding outcome
-found-count (refused why) m = refl
-found-count (passed x) m = kept-count x.1 (fitting m x.0.dimension (length x.0.points) 0 x.1)
+found-count (Err why) m = refl
+found-count (Ok x) m = kept-count x.1 (fitting m x.0.dimension (length x.0.points) 0 x.1)
 
 -- This is what is read past the last member.
 no_member : Member
@@ -65,7 +65,7 @@ no_member = record { matrix = []; row = []; mark = 0 }
 
 -- The members of the call are o, and the solid of the sheet is c.
 module _ (b : List ℕ) (words floats : ℕ) (o : Judged (Concrete × List Member)) (shaped : MembersShaped o) (w : Confirms b words floats o)
-    (words' floats' : ℕ) (c : Concrete) (e : preflight b words' floats' ≡ passed c) (old : SearchOut) where
+    (words' floats' : ℕ) (c : Concrete) (e : preflight b words' floats' ≡ Ok c) (old : SearchOut) where
   ms : List Member
   ms = (outcome o (room_of old)).members
 
@@ -106,7 +106,7 @@ module _ (b : List ℕ) (words floats : ℕ) (o : Judged (Concrete × List Membe
     confirmed q = rw row_is (row_rule one (in_get_d no_member ms k there) (sym mark_is ∙ q))
 
 listed : (inside : List ℕ → ℕ → ℕ → Judged (Concrete × List Member)) → ((b : List ℕ) (words floats : ℕ) → MembersShaped (inside b words floats)) → ((b : List ℕ) (words floats : ℕ) → Confirms b words floats (inside b words floats))
-    → (b : List ℕ) (words floats : ℕ) (c : Concrete) → preflight b words floats ≡ passed c → (S z : State) → Agree c.abs (by_table (class_table c)) S z
+    → (b : List ℕ) (words floats : ℕ) (c : Concrete) → preflight b words floats ≡ Ok c → (S z : State) → Agree c.abs (by_table (class_table c)) S z
     → ListedMembers (λ b words floats old. search_written (outcome (inside b words floats) (room_of old)) old) b c S z
 listed inside shaped confirms b words floats c e S z a = record {
   confirmed = λ words' floats' old k h q r i l.
@@ -116,10 +116,10 @@ listed inside shaped confirms b words floats c e S z a = record {
 
 -- ---- the types call
 
-types-done : (o : Judged Given) (old : TypesOut) (n : ℕ) → (types_written o old).0 ≡ Done n → (g : Given) × (o ≡ passed g) × (n ≡ length g.types)
+types-done : (o : Judged Given) (old : TypesOut) (n : ℕ) → (types_written o old).0 ≡ Ok n → (g : Given) × (o ≡ Ok g) × (n ≡ length g.types)
 unfolding types_written
-types-done (refused why) old n e = absurd (apart why 0 n e)
-types-done (passed g) old n e = (g, refl, sym (counted (length g.types) n e))
+types-done (Err why) old n e = absurd (apart why 0 n e)
+types-done (Ok g) old n e = (g, refl, sym (counted (length g.types) n e))
 
 pub demand3_calls : Demand3Calls
 unfolding types_call types_written types_of search_call rotations_call

@@ -1,11 +1,11 @@
 -- Solids of rank 0 or 1: they have no proper rank, so preflight asks nothing of them but its least workspace, the types call gives out nothing, and a
 -- search refuses them. And what `kit` prints for them, and for an input that is too long.
 -- Assumes nothing.
+use Rattle.std.specs.Prelude.{Err, None, Ok, Option, Some}
 use mathlib.Core.Path.{◌≡◌, refl, ap}
 use mathlib.Core.Logic.{◌≢◌, inl}
 use Prim.Native.Nat.{ℕ, zero, suc, ◌+◌, ◌-◌, ◌*◌, ◌/◌, ◌%◌, ◌≤◌, ◌<◌}
 use mathlib.Core.Bool.{Bool, true}
-use mathlib.Core.Option.{Option, none, some}
 use mathlib.Core.List.{List, [], ◌∷◌, map, append-nil}
 use native.Mathlib.Omega.{arith}
 use lib.ListN.{length, get_or, length-append, get_or-eq_default}
@@ -16,7 +16,6 @@ use Rattle.spec.specs.declared.Refusal.TheVariants.{NotFull}
 use Rattle.spec.specs.Lists.{In, range, every, sum, join, written}
 use Rattle.spec.specs.Types.{Solid, State, types_at, top, size, proper_ranks, elements, given, element_types_at, element_types}
 use Rattle.spec.specs.Judged as Judging
-use Rattle.spec.specs.Judged.{refused, passed}
 use Rattle.spec.specs.Sheet.{Parsed, vertex_count, read_sheet}
 use Rattle.spec.specs.Pack.{bits_of, point_bits, rank_bits, pack_bits}
 use Rattle.spec.specs.Solid.{Concrete, solid_of, entries, roomy, bound, diamond, preflight}
@@ -79,7 +78,7 @@ module _ (s : Solid) (low : top s < 2) where
 
 -- ---- the calls
 
-module _ (b : List ℕ) (p : Parsed) (e : read_sheet b ≡ passed p) (h : p.rank < 2) where
+module _ (b : List ℕ) (p : Parsed) (e : read_sheet b ≡ Ok p) (h : p.rank < 2) where
   solid : Concrete
   solid = record { dimension = p.dimension; points = p.points; abs = solid_of p }
 
@@ -87,29 +86,29 @@ module _ (b : List ℕ) (p : Parsed) (e : read_sheet b ≡ passed p) (h : p.rank
   low = omega (arith, read-rank b p e)
 
   module _ (words floats : ℕ) (w : 64 ≤ words) (f : 64 ≤ floats) where
-    accepted : preflight b words floats ≡ passed solid
+    accepted : preflight b words floats ≡ Ok solid
     unfolding preflight Judging.◌>>=◌ Judging.◌>>◌ Judging.judge solid
     accepted = rw (e, least-room (solid_of p) low words floats w f, all-bound (solid_of p) low, all_diamonds (solid_of p) low) refl
 
-    settled : (z : State) × (types_of solid ≡ some z)
+    settled : (z : State) × (types_of solid ≡ Some z)
     settled = go (types_of solid) (never_unsettled.types solid)
       where
-        go : (o : Option State) → o ≢ none → (z : State) × (o ≡ some z)
-        go none k = absurd (k refl)
-        go (some z) k = (z, refl)
+        go : (o : Option State) → o ≢ None → (z : State) × (o ≡ Some z)
+        go None k = absurd (k refl)
+        go (Some z) k = (z, refl)
 
-    no_types : (n m : ℕ) → types_given b words floats n m ≡ passed (record { elements = []; types = [] })
+    no_types : (n m : ℕ) → types_given b words floats n m ≡ Ok (record { elements = []; types = [] })
     unfolding types_given Judging.◌>>=◌ Judging.◌>>◌ Judging.judge Judging.wanted solid
     no_types n m =
         let z = settled.0 in
         let s = solid_of p in
         rw (accepted, settled.1, no_element-types s low z, no_types-listed s low z, le-leb 0 n (omega arith), le-leb 0 m (omega arith)) refl
 
-    not_full : members_in b words floats ≡ refused NotFull
+    not_full : members_in b words floats ≡ Err NotFull
     unfolding members_in search setting full Judging.◌>>=◌ Judging.◌>>◌ Judging.judge solid
     not_full = rw (accepted, lt-leb 2 (top (solid_of p)) low) refl
 
-    no_rotations : rotations_in b words floats ≡ refused NotFull
+    no_rotations : rotations_in b words floats ≡ Err NotFull
     unfolding rotations_in Judging.◌>>=◌
     no_rotations = rw not_full refl
 
@@ -152,13 +151,13 @@ few_bits d [] k f = omega arith
 few_bits d (v ∷ []) k f = rw (append-nil, point-length v, f v (inl refl)) (omega arith)
 few_bits d (v ∷ u ∷ vs) k f = absurd (omega arith)
 
-few_bytes : (b : List ℕ) (p : Parsed) → read_sheet b ≡ passed p → p.rank < 2 → length b ≤ 8 * max_dimension + 1
+few_bytes : (b : List ℕ) (p : Parsed) → read_sheet b ≡ Ok p → p.rank < 2 → length b ≤ 8 * max_dimension + 1
 unfolding pack_bits vertex_count
 few_bytes b p e h =
     let s = sheet-of b p e in
     let r = sheet_reads b (p, s.0) s.1 in
     let a = r.0 in
-    let none : length p.counts ≡ 0 = omega (arith, a.counted) in
+    let None : length p.counts ≡ 0 = omega (arith, a.counted) in
     let one : length p.points < 2 = omega (arith, a.pointed, get_or-eq_default p.counts p.rank {n = 0} (omega arith)) in
     let total : length (pack_bits p) ≤ 6 + 64 * p.dimension =
     simp length-append
@@ -166,7 +165,7 @@ few_bytes b p e h =
       arith,
       bits-length 3 p.rank,
       bits-length 3 p.dimension,
-      no_bits (bits_of 12) p.counts none,
+      no_bits (bits_of 12) p.counts None,
       few_bits p.dimension p.points one (λ v i. (a.points v i).wide),
       no_bits rank_bits p.lists (omega (arith, a.listed)),
     ))

@@ -1,11 +1,11 @@
 -- Refusal 15 comes from no solid, and so from no call, because of all the refusals that a call can meet, 15 alone stands behind the sweeps, and these
 -- always settle.
 -- Assumes nothing.
+use Rattle.std.specs.Prelude.{Err, None, Ok, Option, Some}
 use mathlib.Core.Path.{refl, subst}
 use mathlib.Core.Logic.{◌≢◌}
 use Prim.Native.Nat.{ℕ, zero, suc, ◌+◌, ◌-◌, ◌*◌, ◌<◌}
 use mathlib.Core.Bool.{Bool, true, false, ◌&&◌}
-use mathlib.Core.Option.{Option, none, some}
 use mathlib.Core.List.{List, [], ◌∷◌}
 use native.Mathlib.Omega.{arith}
 use lib.ListN.{length, take, replicate}
@@ -13,14 +13,12 @@ use lib.Dec.{leb, ltb, eqb, lit<}
 use lib.Ieee.{Float}
 use Rattle.spec.specs.declared.Refusal.{Refusal}
 use Rattle.spec.specs.declared.Refusal.TheVariants.{CutSheet, Format, OffTheBoard, BadList, Loose, Mitre, Bench, NotFull, DoubleCorner, Centred, Flat, Blank, ShortSheet, Open, Unsettled}
-use Rattle.spec.specs.declared.Answer.{Answer}
-use Rattle.spec.specs.declared.Answer.TheVariants.{Done, Refused}
-use Rattle.spec.specs.Refusal.{number}
+use Rattle.spec.specs.Refusal.{number, Answer, refused_with}
 use Rattle.spec.specs.Bits.{field}
 use Rattle.spec.specs.Lists.{holds, join, written}
 use Rattle.spec.specs.Matrix.{Vector, Matrix}
 use Rattle.spec.specs.Judged as Judging
-use Rattle.spec.specs.Judged.{Judged, refused, passed}
+use Rattle.spec.specs.Judged.{Judged}
 use Rattle.spec.specs.Sheet.{Parsed, Reader, ◌>>=◌, ◌>>◌, done, judge, times, bits, rank, dimension, count, coordinate, sub_list, list, lists_at, lists, end, sheet, read_sheet, vertex_count}
 use Rattle.spec.specs.Solid.{Concrete, preflight}
 use Rattle.spec.specs.Classes.{by_table, class_table, types_of}
@@ -37,18 +35,18 @@ abbrev Low : Refusal → Type 0
 Low why = number why < 15
 
 abbrev LowIfRefused : {A : Type 0} → Judged A → Type 0
-LowIfRefused (refused why) = Low why
-LowIfRefused (passed x) = Unit {0}
+LowIfRefused (Err why) = Low why
+LowIfRefused (Ok x) = Unit {0}
 
 clear_bind : {A B : Type 0} (m : Judged A) (k : A → Judged B) → LowIfRefused m → ((x : A) → LowIfRefused (k x)) → LowIfRefused (Judging.◌>>=◌ m k)
 unfolding Judging.◌>>=◌
-clear_bind (refused why) k h f = h
-clear_bind (passed x) k h f = f x
+clear_bind (Err why) k h f = h
+clear_bind (Ok x) k h f = f x
 
 clear-then : {A B : Type 0} (m : Judged A) (k : Judged B) → LowIfRefused m → LowIfRefused k → LowIfRefused (Judging.◌>>◌ m k)
 unfolding Judging.◌>>◌
-clear-then (refused why) k h f = h
-clear-then (passed x) k h f = f
+clear-then (Err why) k h f = h
+clear-then (Ok x) k h f = f
 
 clear-judge : (why : Refusal) (ok : Bool) → Low why → LowIfRefused (Judging.judge why ok)
 unfolding Judging.judge
@@ -57,16 +55,16 @@ clear-judge why false h = h
 
 clear-wanted : {A : Type 0} (why : Refusal) (o : Option A) → Low why → LowIfRefused (Judging.wanted why o)
 unfolding Judging.wanted
-clear-wanted why none h = h
-clear-wanted why (some a) h = tt
+clear-wanted why None h = h
+clear-wanted why (Some a) h = tt
 
 -- What is there is not refused at all.
-clear_there : {A : Type 0} (why : Refusal) (o : Option A) → o ≢ none → LowIfRefused (Judging.wanted why o)
+clear_there : {A : Type 0} (why : Refusal) (o : Option A) → o ≢ None → LowIfRefused (Judging.wanted why o)
 unfolding Judging.wanted
-clear_there why none n = absurd (n refl)
-clear_there why (some a) n = tt
+clear_there why None n = absurd (n refl)
+clear_there why (Some a) n = tt
 
-clear_not : {A : Type 0} (m : Judged A) → LowIfRefused m → m ≢ refused Unsettled
+clear_not : {A : Type 0} (m : Judged A) → LowIfRefused m → m ≢ Err Unsettled
 clear_not m h e = let k : Low Unsettled = subst LowIfRefused e h in omega arith
 
 -- ---- reading a sheet
@@ -79,17 +77,17 @@ module _ {A B : Type 0} where
   unfolding ◌>>=◌
   reads_bind m k h f i = go (m i) (h i)
     where
-      go : (o : Judged (A × ℕ)) → LowIfRefused o → LowIfRefused {A = B × ℕ} (elim o as (λ z. Judged (B × ℕ)) [ refused why ↦ refused why | passed x ↦ k x.0 x.1 ])
-      go (refused why) l = l
-      go (passed x) l = f x.0 x.1
+      go : (o : Judged (A × ℕ)) → LowIfRefused o → LowIfRefused {A = B × ℕ} (elim o as (λ z. Judged (B × ℕ)) [ Err why ↦ Err why | Ok x ↦ k x.0 x.1 ])
+      go (Err why) l = l
+      go (Ok x) l = f x.0 x.1
 
   reads_then : (m : Reader A) (k : Reader B) → ClearReader m → ClearReader k → ClearReader (m >> k)
   unfolding ◌>>◌
   reads_then m k h f i = go (m i) (h i)
     where
-      go : (o : Judged (A × ℕ)) → LowIfRefused o → LowIfRefused {A = B × ℕ} (elim o as (λ z. Judged (B × ℕ)) [ refused why ↦ refused why | passed x ↦ k x.1 ])
-      go (refused why) l = l
-      go (passed x) l = f x.1
+      go : (o : Judged (A × ℕ)) → LowIfRefused o → LowIfRefused {A = B × ℕ} (elim o as (λ z. Judged (B × ℕ)) [ Err why ↦ Err why | Ok x ↦ k x.1 ])
+      go (Err why) l = l
+      go (Ok x) l = f x.1
 
 reads_done : {A : Type 0} (a : A) → ClearReader (done a)
 unfolding done
@@ -110,7 +108,7 @@ module _ (b : List ℕ) where
   unfolding bits
   reads_bits w i = go (leb (i + w) (8 * length b))
     where
-      go : (o : Bool) → LowIfRefused {A = ℕ × ℕ} (elim o as (λ z. Judged (ℕ × ℕ)) [ true ↦ passed (field b i w, i + w) | false ↦ refused CutSheet ])
+      go : (o : Bool) → LowIfRefused {A = ℕ × ℕ} (elim o as (λ z. Judged (ℕ × ℕ)) [ true ↦ Ok (field b i w, i + w) | false ↦ Err CutSheet ])
       go true = tt
       go false = lit< tt
 
@@ -154,9 +152,9 @@ module _ (b : List ℕ) where
   unfolding read_sheet
   clear-sheet = go (sheet b 0) (reads_sheet 0)
     where
-      go : (o : Judged (Parsed × ℕ)) → LowIfRefused o → LowIfRefused {A = Parsed} (elim o as (λ z. Judged Parsed) [ refused why ↦ refused why | passed x ↦ passed x.0 ])
-      go (refused why) l = l
-      go (passed x) l = tt
+      go : (o : Judged (Parsed × ℕ)) → LowIfRefused o → LowIfRefused {A = Parsed} (elim o as (λ z. Judged Parsed) [ Err why ↦ Err why | Ok x ↦ Ok x.0 ])
+      go (Err why) l = l
+      go (Ok x) l = tt
 
   clear-preflight : (words floats : ℕ) → LowIfRefused (preflight b words floats)
   unfolding preflight
@@ -169,7 +167,7 @@ module _ (b : List ℕ) where
 
 -- ---- types, search, rotations
 
-have_types : (c : Concrete) → types_of c ≢ none
+have_types : (c : Concrete) → types_of c ≢ None
 unfolding types_of
 have_types c = settled c.abs (by_table (class_table c))
 
@@ -205,30 +203,30 @@ clear-rotations b words floats = clear_bind _ _ (clear-members b words floats) (
 -- ---- answers
 
 abbrev ClearAnswer : Answer → Type 0
-ClearAnswer (Done n) = Unit {0}
-ClearAnswer (Refused why k) = Low why
+ClearAnswer (Ok n) = Unit {0}
+ClearAnswer (Err r) = Low r.why
 
 clear-answer : (a : Answer) → ClearAnswer a → NotUnsettled a
 clear-answer a h k e = let l : Low Unsettled = subst ClearAnswer e h in omega arith
 
 types-answer : (o : Judged Given) (old : TypesOut) → LowIfRefused o → ClearAnswer (types_written o old).0
 unfolding types_written
-types-answer (refused why) old h = h
-types-answer (passed g) old h = tt
+types-answer (Err why) old h = h
+types-answer (Ok g) old h = tt
 
 kept-answer : (l kept : List Member) → ClearAnswer (kept_of l kept).answer
 unfolding kept_of
 kept-answer [] kept = lit< tt
 kept-answer (x ∷ l) kept = go (ltb (length kept) (length (x ∷ l)))
   where
-    go : (b : Bool) → ClearAnswer (elim b as (λ z. Outcome) [ true ↦ record { answer = Refused ShortSheet (length kept); members = kept } | false ↦ record { answer = Done (length kept); members = kept } ]).answer
+    go : (b : Bool) → ClearAnswer (elim b as (λ z. Outcome) [ true ↦ record { answer = refused_with ShortSheet (length kept); members = kept } | false ↦ record { answer = Ok (length kept); members = kept } ]).answer
     go true = lit< tt
     go false = tt
 
 found-answer : (o : Judged (Concrete × List Member)) (m : Room) → LowIfRefused o → ClearAnswer (outcome o m).answer
 unfolding outcome
-found-answer (refused why) m h = h
-found-answer (passed x) m h = kept-answer x.1 _
+found-answer (Err why) m h = h
+found-answer (Ok x) m h = kept-answer x.1 _
 
 -- ---- copying
 
@@ -247,10 +245,10 @@ unfolding copy_out
 copy-out n ms cs out_points out_table = go (leb (length cs) n && leb (length ms * length cs) (length out_table)) (holds eqb (length cs) (copy_table ms cs))
   where
     go : (a c : Bool) → ClearAnswer (elim a as (λ z. CopySettles) [
-      | false ↦ (Refused ShortSheet (length (take n cs)), written (join (take n cs)) out_points, out_table)
+      | false ↦ (refused_with ShortSheet (length (take n cs)), written (join (take n cs)) out_points, out_table)
       | true ↦ elim c as (λ z. CopySettles) [
-        | true ↦ (Refused Open (length (take n cs)), written (join (take n cs)) out_points, written (replicate (length ms * length cs) no_image) out_table)
-        | false ↦ (Done (length cs), written (join (take n cs)) out_points, written (copy_table ms cs) out_table)
+        | true ↦ (refused_with Open (length (take n cs)), written (join (take n cs)) out_points, written (replicate (length ms * length cs) no_image) out_table)
+        | false ↦ (Ok (length cs), written (join (take n cs)) out_points, written (copy_table ms cs) out_table)
       ]
     ]).0
     go false c = lit< tt
@@ -258,9 +256,9 @@ copy-out n ms cs out_points out_table = go (leb (length cs) n && leb (length ms 
     go true false = tt
 
 copy-answer : (o : Judged (Unit {0})) (out_points : List Float) (out_table : List ℕ) (x : CopySettles) → LowIfRefused o → ClearAnswer x.0
-    → ClearAnswer (elim o as (λ z. CopySettles) [ refused why ↦ (Refused why 0, out_points, out_table) | passed u ↦ x ]).0
-copy-answer (refused why) out_points out_table x h k = h
-copy-answer (passed u) out_points out_table x h k = k
+    → ClearAnswer (elim o as (λ z. CopySettles) [ Err why ↦ (refused_with why 0, out_points, out_table) | Ok u ↦ x ]).0
+copy-answer (Err why) out_points out_table x h k = h
+copy-answer (Ok u) out_points out_table x h k = k
 
 pub never_unsettled : NeverUnsettled
 unfolding types_call search_call rotations_call search_written copy_call

@@ -1,11 +1,11 @@
 -- What holds of every refusal that a judgement or a reading names holds of the one that it gives. So nothing that is judged before the outputs are
 -- looked at, the sheet, preflight or the search, ends with 13.
 -- Assumes nothing.
+use Rattle.std.specs.Prelude.{Err, None, Ok, Option, Some}
 use mathlib.Core.Path.{subst}
 use mathlib.Core.Logic.{◌≢◌}
 use Prim.Native.Nat.{ℕ, zero, suc, ◌+◌, ◌-◌, ◌*◌}
 use mathlib.Core.Bool.{Bool, true, false, not}
-use mathlib.Core.Option.{Option, none, some}
 use mathlib.Core.List.{List, [], ◌∷◌}
 use lib.ListN.{length}
 use lib.Dec.{leb, eqb, eqb_refl, T, T_not}
@@ -15,7 +15,7 @@ use Rattle.spec.specs.declared.Refusal.TheVariants.{CutSheet, Format, OffTheBoar
 use Rattle.spec.specs.Refusal.{number}
 use Rattle.spec.specs.Bits.{field}
 use Rattle.spec.specs.Judged as Judging
-use Rattle.spec.specs.Judged.{Judged, refused, passed}
+use Rattle.spec.specs.Judged.{Judged}
 use Rattle.spec.specs.Sheet.{Parsed, Reader, ◌>>=◌, ◌>>◌, done, judge, times, bits, rank, dimension, count, coordinate, sub_list, list, lists_at, lists, end, sheet, read_sheet}
 use Rattle.spec.specs.Solid.{Concrete, preflight}
 use Rattle.spec.specs.Search.{setting, search}
@@ -24,8 +24,8 @@ use Rattle.spec.specs.Calls.{members_in, rotations_in}
 module _ (P : Refusal → Type 0) where
   -- Where o is a refusal, P holds of it.
   abbrev pub Refuses : {A : Type 0} → Judged A → Type 0
-  Refuses (refused why) = P why
-  Refuses (passed x) = Unit {0}
+  Refuses (Err why) = P why
+  Refuses (Ok x) = Unit {0}
 
   pub by-judge : (why : Refusal) (ok : Bool) → P why → Refuses (Judging.judge why ok)
   unfolding Judging.judge
@@ -34,18 +34,18 @@ module _ (P : Refusal → Type 0) where
 
   pub by-wanted : {A : Type 0} (why : Refusal) (o : Option A) → P why → Refuses (Judging.wanted why o)
   unfolding Judging.wanted
-  by-wanted why none h = h
-  by-wanted why (some x) h = tt
+  by-wanted why None h = h
+  by-wanted why (Some x) h = tt
 
   pub by_bind : {A B : Type 0} (m : Judged A) (k : A → Judged B) → Refuses m → ((x : A) → Refuses (k x)) → Refuses (Judging.◌>>=◌ m k)
   unfolding Judging.◌>>=◌
-  by_bind (refused why) k h f = h
-  by_bind (passed x) k h f = f x
+  by_bind (Err why) k h f = h
+  by_bind (Ok x) k h f = f x
 
   pub by-then : {A B : Type 0} (m : Judged A) (k : Judged B) → Refuses m → Refuses k → Refuses (Judging.◌>>◌ m k)
   unfolding Judging.◌>>◌
-  by-then (refused why) k h f = h
-  by-then (passed x) k h f = f
+  by-then (Err why) k h f = h
+  by-then (Ok x) k h f = f
 
   -- ---- readings
 
@@ -66,17 +66,17 @@ module _ (P : Refusal → Type 0) where
   unfolding ◌>>=◌
   read_bind {A} {B} m k h f i = go (m i) (h i)
     where
-      go : (o : Judged (A × ℕ)) → Refuses o → Refuses {A = B × ℕ} (elim o [ refused why ↦ refused why | passed x ↦ k x.0 x.1 ])
-      go (refused why) g = g
-      go (passed x) g = f x.0 x.1
+      go : (o : Judged (A × ℕ)) → Refuses o → Refuses {A = B × ℕ} (elim o [ Err why ↦ Err why | Ok x ↦ k x.0 x.1 ])
+      go (Err why) g = g
+      go (Ok x) g = f x.0 x.1
 
   read-then : {A B : Type 0} (m : Reader A) (k : Reader B) → Reads m → Reads k → Reads (m >> k)
   unfolding ◌>>◌
   read-then {A} {B} m k h f i = go (m i) (h i)
     where
-      go : (o : Judged (A × ℕ)) → Refuses o → Refuses {A = B × ℕ} (elim o [ refused why ↦ refused why | passed x ↦ k x.1 ])
-      go (refused why) g = g
-      go (passed x) g = f x.1
+      go : (o : Judged (A × ℕ)) → Refuses o → Refuses {A = B × ℕ} (elim o [ Err why ↦ Err why | Ok x ↦ k x.1 ])
+      go (Err why) g = g
+      go (Ok x) g = f x.1
 
   read-times : {A : Type 0} (n : ℕ) (m : Reader A) → Reads m → Reads (times n m)
   unfolding times
@@ -90,7 +90,7 @@ module _ (P : Refusal → Type 0) where
     unfolding bits
     read-bits w i = go (leb (i + w) (8 * length b)) (field b i w, i + w)
       where
-        go : (ok : Bool) (x : ℕ × ℕ) → Refuses {A = ℕ × ℕ} (elim ok [ true ↦ passed x | false ↦ refused CutSheet ])
+        go : (ok : Bool) (x : ℕ × ℕ) → Refuses {A = ℕ × ℕ} (elim ok [ true ↦ Ok x | false ↦ Err CutSheet ])
         go true x = tt
         go false x = cut
 
@@ -150,9 +150,9 @@ module _ (P : Refusal → Type 0) where
     unfolding read_sheet
     by-sheet = go (sheet b 0) (whole 0)
       where
-        go : (o : Judged (Parsed × ℕ)) → Refuses o → Refuses {A = Parsed} (elim o [ refused why ↦ refused why | passed x ↦ passed x.0 ])
-        go (refused why) g = g
-        go (passed x) g = tt
+        go : (o : Judged (Parsed × ℕ)) → Refuses o → Refuses {A = Parsed} (elim o [ Err why ↦ Err why | Ok x ↦ Ok x.0 ])
+        go (Err why) g = g
+        go (Ok x) g = tt
 
 -- ---- what comes before 13
 
@@ -171,7 +171,7 @@ pub spares_preflight : (b : List ℕ) (words floats : ℕ) → Spares (preflight
 unfolding preflight
 spares_preflight b words floats =
     by_bind not13 (read_sheet b) _ (by-sheet not13 (unlike CutSheet ShortSheet tt) (unlike Format ShortSheet tt) (unlike OffTheBoard ShortSheet tt) (unlike BadList ShortSheet tt) b) (λ p.
-    by_bind not13 (passed _) _ tt (λ c.
+    by_bind not13 (Ok _) _ tt (λ c.
     by-then not13 _ _ (by-judge not13 Bench _ (unlike Bench ShortSheet tt))
     (by-then not13 _ _ (by-judge not13 Loose _ (unlike Loose ShortSheet tt))
     (by-then not13 _ _ (by-judge not13 Mitre _ (unlike Mitre ShortSheet tt)) tt))))
@@ -185,7 +185,7 @@ spares_search c = by_bind not13 (setting c) _ settings (λ w. tt)
         by-then not13 _ _ (by-judge not13 NotFull _ (unlike NotFull ShortSheet tt))
         (by-then not13 _ _ (by-judge not13 DoubleCorner _ (unlike DoubleCorner ShortSheet tt))
         (by_bind not13 _ _ (by-wanted not13 Centred _ (unlike Centred ShortSheet tt)) (λ f.
-        by_bind not13 (passed _) _ tt (λ d.
+        by_bind not13 (Ok _) _ tt (λ d.
         by_bind not13 _ _ (by-wanted not13 Unsettled _ (unlike Unsettled ShortSheet tt)) (λ z.
         by_bind not13 _ _ (by-wanted not13 Flat _ (unlike Flat ShortSheet tt)) (λ i. by-then not13 _ _ (by-judge not13 Flat _ (unlike Flat ShortSheet tt)) tt))))))
 

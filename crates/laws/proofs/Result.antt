@@ -1,10 +1,11 @@
 -- The result is a steady state, and parts what any list of steps parts. A steady state that steps reach is the result.
 -- Assumes nothing.
+use Rattle.std.specs.Prelude.{Some}
 use mathlib.Core.Path.{◌≡◌, refl, sym, ◌∙◌, ap, subst}
 use mathlib.Core.Logic.{◌⊎◌, inl, inr}
 use Prim.Native.Nat.{ℕ, zero, suc, ◌+◌, ◌-◌, ◌<◌}
 use mathlib.Core.Bool.{Bool, true, false}
-use mathlib.Core.Option.{some, none-ne-some, some-injective}
+use Rattle.laws.proofs.Options.{none-ne-some, some-injective}
 use mathlib.Core.List.{List, [], ◌∷◌, map, ◌++◌, reverse, reverse_aux}
 use native.Mathlib.Nat.{not-suc-le-zero}
 use native.Mathlib.Decide.{ℕ_discrete}
@@ -208,12 +209,12 @@ module _ (s : Solid) (cls : Classes) where
       go (no n) = rw (gz.fixed r n, g.fixed r n) (λ i j hi hj t. t)
 
   -- Where the sweeps settle, no step changes anything.
-  pub settle_idle : (n : ℕ) (S z : State) → Good s cls S → settle s n S ≡ some z → (x : Step) → Proper s (at x) → step s z x ≡ z
+  pub settle_idle : (n : ℕ) (S z : State) → Good s cls S → settle s n S ≡ Some z → (x : Step) → Proper s (at x) → step s z x ≡ z
   unfolding settle sweep
   settle_idle zero S z g e x p = absurd (none-ne-some z e)
   settle_idle (suc n) S z g e x p = go (eqb (type_count s (sweep s S)) (type_count s S)) refl (λ h. settle_idle n (sweep s S) z (good_play S (sweep_steps s) (sweep-proper s) g) h x p)
     where
-      go : (b : Bool) → eqb (type_count s (sweep s S)) (type_count s S) ≡ b → (settle s n (sweep s S) ≡ some z → step s z x ≡ z) → step s z x ≡ z
+      go : (b : Bool) → eqb (type_count s (sweep s S)) (type_count s S) ≡ b → (settle s n (sweep s S) ≡ Some z → step s z x ≡ z) → step s z x ≡ z
       go true q ih =
           let zz : sweep s S ≡ z = some-injective (sweep s S) z (rw (q, settle) at e) in
           subst (λ (y : State). step s y x ≡ y) zz
@@ -221,27 +222,27 @@ module _ (s : Solid) (cls : Classes) where
       go false q ih = ih (rw (q, settle) at e)
 
   -- What every step keeps, the sweeps keep.
-  pub settle-kept : (P : State → Type 0) → ((S : State) (x : Step) → Proper s (at x) → P S → P (step s S x)) → (n : ℕ) (S z : State) → P S → settle s n S ≡ some z → P z
+  pub settle-kept : (P : State → Type 0) → ((S : State) (x : Step) → Proper s (at x) → P S → P (step s S x)) → (n : ℕ) (S z : State) → P S → settle s n S ≡ Some z → P z
   unfolding settle sweep
   settle-kept P k zero S z h e = absurd (none-ne-some z e)
   settle-kept P k (suc n) S z h e = go (eqb (type_count s (sweep s S)) (type_count s S)) refl (λ q. settle-kept P k n (sweep s S) z (kept s P k S (sweep_steps s) (sweep-proper s) h) q)
     where
-      go : (b : Bool) → eqb (type_count s (sweep s S)) (type_count s S) ≡ b → (settle s n (sweep s S) ≡ some z → P z) → P z
+      go : (b : Bool) → eqb (type_count s (sweep s S)) (type_count s S) ≡ b → (settle s n (sweep s S) ≡ Some z → P z) → P z
       go true q ih = subst P (some-injective (sweep s S) z (rw (q, settle) at e)) (kept s P k S (sweep_steps s) (sweep-proper s) h)
       go false q ih = ih (rw (q, settle) at e)
 
-  pub result-kept : (P : State → Type 0) → ((S : State) (x : Step) → Proper s (at x) → P S → P (step s S x)) → P (start s cls) → (z : State) → result s cls ≡ some z → P z
+  pub result-kept : (P : State → Type 0) → ((S : State) (x : Step) → Proper s (at x) → P S → P (step s S x)) → P (start s cls) → (z : State) → result s cls ≡ Some z → P z
   unfolding result sweep
   result-kept P k h z e = settle-kept P k (elements s + 1) (sweep s (start s cls)) z (kept s P k (start s cls) (sweep_steps s) (sweep-proper s) h) e
 
-  pub result_idle : (z : State) → result s cls ≡ some z → (x : Step) → Proper s (at x) → step s z x ≡ z
+  pub result_idle : (z : State) → result s cls ≡ Some z → (x : Step) → Proper s (at x) → step s z x ≡ z
   unfolding result sweep
   result_idle z e = settle_idle (elements s + 1) (sweep s (start s cls)) z (good_play (start s cls) (sweep_steps s) (sweep-proper s) (start_good s cls)) e
 
-  pub result_good : (z : State) → result s cls ≡ some z → Good s cls z
+  pub result_good : (z : State) → result s cls ≡ Some z → Good s cls z
   result_good = result-kept (Good s cls) (λ S x p g. step_good s cls S g x p) (start_good s cls)
 
-  pub result-above : (z : State) → result s cls ≡ some z → PartsNoMore (start s cls) z
+  pub result-above : (z : State) → result s cls ≡ Some z → PartsNoMore (start s cls) z
   result-above z e =
       (result-kept (Above (start s cls))
       (λ T x p h. (step_good s cls T h.0 x p, below_trans (start s cls) T (step s T x) h.0 (step_good s cls T h.0 x p) h.1 (step-parts s cls T h.0 x p)))
@@ -255,7 +256,7 @@ module _ (s : Solid) (cls : Classes) where
     pub under-step : (S : State) (x : Step) → Proper s (at x) → Under S → Under (step s S x)
     under-step S x p h = (step_good s cls S h.0 x p, below_step s w cls S T h.0 gT h.1 x p (calm x p))
 
-  module _ (w : Sound s) (z : State) (e : result s cls ≡ some z) (xs : List Step) (a : AllProper s xs) where
+  module _ (w : Sound s) (z : State) (e : result s cls ≡ Some z) (xs : List Step) (a : AllProper s xs) where
     result_calm : (x : Step) → Proper s (at x) → Calm s z x
     result_calm x p = rw (result_idle z e x p) (λ i j hi hj t. t)
 

@@ -1,5 +1,6 @@
 -- The bytes of what a sheet says are the sheet's, and whatever may be packed is read back from its bytes.
 -- Assumes nothing.
+use Rattle.std.specs.Prelude.{Err, Ok}
 use mathlib.Core.Path.{◌≡◌, refl, sym, ◌∙◌, ap, subst}
 use Prim.Native.Nat.{ℕ, zero, suc, ◌+◌, ◌-◌, ◌*◌, ◌/◌, ◌%◌, ◌^◌, ◌≤◌, ◌<◌}
 use mathlib.Core.List.{List, [], ◌∷◌, ◌++◌, map}
@@ -11,7 +12,7 @@ use lib.Seq.{get_or-drop, ext_get_or}
 use lib.Ieee.{binary64, to_bits}
 use Rattle.spec.specs.Lists.{join}
 use Rattle.spec.specs.Bits.{bit, field}
-use Rattle.spec.specs.Judged.{Judged, refused, passed}
+use Rattle.spec.specs.Judged.{Judged}
 use Rattle.spec.specs.Sheet.{Parsed, sheet, read_sheet}
 use Rattle.spec.specs.Pack.{bits_of, point_bits, list_bits, rank_bits, pack_bits, number, bytes_from, bytes_of, pack, Bytes}
 use Rattle.laws.specs.RoundTrip.{RoundTrip, PackedAllowed, ReadAllowed}
@@ -176,13 +177,13 @@ module _ (b : List ℕ) where
 
 -- ---- a sheet that was read
 
-pub sheet-of : (b : List ℕ) (p : Parsed) → read_sheet b ≡ passed p → (j : ℕ) × (sheet b 0 ≡ passed (p, j))
+pub sheet-of : (b : List ℕ) (p : Parsed) → read_sheet b ≡ Ok p → (j : ℕ) × (sheet b 0 ≡ Ok (p, j))
 unfolding read_sheet
 sheet-of b p = go (sheet b 0) refl
   where
-    go : (o : Judged (Parsed × ℕ)) → sheet b 0 ≡ o → elim o as (λ z. Judged Parsed) [ refused why ↦ refused why | passed x ↦ passed x.0 ] ≡ passed p → (j : ℕ) × (sheet b 0 ≡ passed (p, j))
-    go (refused why) q e = absurd (never why p e)
-    go (passed x) q e = (x.1, rw (← same x.0 p e) q)
+    go : (o : Judged (Parsed × ℕ)) → sheet b 0 ≡ o → elim o as (λ z. Judged Parsed) [ Err why ↦ Err why | Ok x ↦ Ok x.0 ] ≡ Ok p → (j : ℕ) × (sheet b 0 ≡ Ok (p, j))
+    go (Err why) q e = absurd (never why p e)
+    go (Ok x) q e = (x.1, rw (← same x.0 p e) q)
 
 module _ (b l : List ℕ) (j : ℕ) (h : BitsAre b 0 l j) (z : BitsEnded b j) where
   -- The bits are those of b, and 0 past their end, where b's are too.
@@ -208,7 +209,7 @@ module _ (b l : List ℕ) (j : ℕ) (h : BitsAre b 0 l j) (z : BitsEnded b j) wh
       ∙ byte_field b y k 8 0 f refl
       ∙ div-one (get_or b k 0)
 
-packs : (b : List ℕ) (p : Parsed) → Bytes b → read_sheet b ≡ passed p → pack p ≡ b
+packs : (b : List ℕ) (p : Parsed) → Bytes b → read_sheet b ≡ Ok p → pack p ≡ b
 unfolding pack
 packs b p y e =
     let s = sheet-of b p e in

@@ -1,10 +1,11 @@
 -- The sweeps always settle, as E + 2 are enough, so there is always a result.
 -- Assumes nothing.
+use Rattle.std.specs.Prelude.{None}
 use mathlib.Core.Path.{◌≡◌, refl, sym, ◌∙◌, subst}
 use mathlib.Core.Logic.{◌≢◌}
 use Prim.Native.Nat.{ℕ, zero, suc, ◌+◌, ◌≤◌}
 use mathlib.Core.Bool.{Bool, true, false, false≢true}
-use mathlib.Core.Option.{none, none-ne-some}
+use Rattle.laws.proofs.Options.{none-ne-some}
 use native.Mathlib.Decide.{ℕ_discrete}
 use native.Mathlib.Omega.{arith}
 use lib.ListN.{length}
@@ -35,12 +36,12 @@ module _ (s : Solid) (cls : Classes) where
       (λ r m. fewer eqb numbers eqb numbers 0 0 (types_at z r) (types_at S r) (g.sizes r ∙ sym (gz.sizes r)) (play-parts s cls S (sweep_steps s) (sweep-proper s) g r))
 
   -- So each sweep that is not the last adds one.
-  adds : (n : ℕ) (S : State) → Good s cls S → settle s n S ≡ none → type_count s S + n ≤ elements s
+  adds : (n : ℕ) (S : State) → Good s cls S → settle s n S ≡ None → type_count s S + n ≤ elements s
   unfolding settle sweep
   adds zero S g e = omega (arith, few S g)
   adds (suc n) S g e = go (eqb (type_count s (sweep s S)) (type_count s S)) refl (adds n (sweep s S) (good_play s cls S (sweep_steps s) (sweep-proper s) g))
     where
-      go : (b : Bool) → eqb (type_count s (sweep s S)) (type_count s S) ≡ b → (settle s n (sweep s S) ≡ none → type_count s (sweep s S) + n ≤ elements s) → type_count s S + suc n ≤ elements s
+      go : (b : Bool) → eqb (type_count s (sweep s S)) (type_count s S) ≡ b → (settle s n (sweep s S) ≡ None → type_count s (sweep s S) + n ≤ elements s) → type_count s S + suc n ≤ elements s
       go true q ih = absurd (none-ne-some (sweep s S) (sym (rw (q, settle) at e)))
       go false q ih = last (ℕ_discrete (type_count s (sweep s S)) (type_count s S))
         where
@@ -48,6 +49,6 @@ module _ (s : Solid) (cls : Classes) where
           last (yes t) = absurd (false≢true (sym q ∙ subst (λ (k : ℕ). eqb (type_count s (sweep s S)) k ≡ true) t (numbers.pass (type_count s (sweep s S)))))
           last (no t) = omega (arith, ih (rw (q, settle) at e), grows S g)
 
-  pub settled : result s cls ≢ none
+  pub settled : result s cls ≢ None
   unfolding result sweep
   settled e = omega (arith, adds (elements s + 1) (sweep s (start s cls)) (good_play s cls (start s cls) (sweep_steps s) (sweep-proper s) (start_good s cls)) e)

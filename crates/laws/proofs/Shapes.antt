@@ -1,10 +1,11 @@
 -- A search works out D by D matrices, and rows of one entry a vertex. So what a call writes fits the outputs.
 -- Assumes nothing.
+use Rattle.std.specs.Prelude.{Err, None, Ok, Option, Some}
 use mathlib.Core.Path.{◌≡◌, refl, sym, ◌∙◌, ap, subst}
 use mathlib.Core.Logic.{inl, inr}
 use Prim.Native.Nat.{ℕ, zero, suc, ◌+◌, ◌-◌, ◌*◌, ◌≤◌}
 use mathlib.Core.Bool.{Bool, true, false, ◌&&◌}
-use mathlib.Core.Option.{Option, none, some, some-injective, none-ne-some}
+use Rattle.laws.proofs.Options.{some-injective, none-ne-some}
 use mathlib.Core.List.{List, [], ◌∷◌, ◌++◌, map}
 use native.Mathlib.Omega.{arith}
 use native.Mathlib.Nat.{suc-mul, zero-mul}
@@ -13,14 +14,14 @@ use lib.Dec.{leb, ltb}
 use lib.Ieee.{eq}
 use Rattle.spec.specs.declared.Refusal.{Refusal}
 use Rattle.spec.specs.declared.Refusal.TheVariants.{NotFull, DoubleCorner, Centred, Flat, ShortSheet, Unsettled}
-use Rattle.spec.specs.declared.Answer.TheVariants.{Done, Refused}
+use Rattle.spec.specs.Refusal.{refused_with}
 use Rattle.spec.specs.Lists.{In, range, join, every, no_repeats}
 use Rattle.spec.specs.Types.{ElementType, top, size}
 use Rattle.spec.specs.Float.{zero_f, zip, dot}
 use Rattle.spec.specs.Matrix.{Matrix, Vector, row, entry, columns, mul_mat, identity, Work, pivot_row, swap_rows, clear, column, eliminate, gauss_jordan, inverse}
 use Rattle.spec.specs.Points.{near, row_of}
 use Rattle.spec.specs.Judged as Judging
-use Rattle.spec.specs.Judged.{Judged, refused, passed}
+use Rattle.spec.specs.Judged.{Judged}
 use Rattle.spec.specs.Solid.{Concrete, preflight}
 use Rattle.spec.specs.Flags.{Flag, first_flag, flags}
 use Rattle.spec.specs.Classes.{point_of, by_table, types_of}
@@ -82,25 +83,25 @@ swap-length : (a : Matrix) (p c : ℕ) → length (swap_rows a p c) ≡ length a
 unfolding swap_rows
 swap-length a p c = length-set (set a p (row a c)) c (row a p) ∙ length-set a p (row a c)
 
-column-length : (c : ℕ) (w v : Work) → column c w ≡ some v → length v.rows ≡ length w.rows
+column-length : (c : ℕ) (w v : Work) → column c w ≡ Some v → length v.rows ≡ length w.rows
 unfolding column
 column-length c w v = go (eq (entry w.rows (pivot_row w.rows c) c) zero_f) _ (clear-length c _ (swap_rows w.rows (pivot_row w.rows c) c) ∙ swap-length w.rows (pivot_row w.rows c) c)
   where
-    go : (b : Bool) (u : Work) → length u.rows ≡ length w.rows → elim b as (λ z. Option Work) [ true ↦ none | false ↦ some u ] ≡ some v → length v.rows ≡ length w.rows
+    go : (b : Bool) (u : Work) → length u.rows ≡ length w.rows → elim b as (λ z. Option Work) [ true ↦ None | false ↦ Some u ] ≡ Some v → length v.rows ≡ length w.rows
     go true u h e = absurd (none-ne-some v e)
     go false u h e = subst (λ (x : Work). length x.rows ≡ length w.rows) (some-injective u v e) h
 
-eliminate-length : (cs : List ℕ) (w v : Work) → eliminate cs w ≡ some v → length v.rows ≡ length w.rows
+eliminate-length : (cs : List ℕ) (w v : Work) → eliminate cs w ≡ Some v → length v.rows ≡ length w.rows
 unfolding eliminate
 eliminate-length [] w v e = ap (λ (x : Work). length x.rows) (sym (some-injective w v e))
 eliminate-length (c ∷ cs) w v e = go (column c w) refl e (λ u h. eliminate-length cs u v h)
   where
-    go : (o : Option Work) → column c w ≡ o → elim o as (λ z. Option Work) [ none ↦ none | some u ↦ eliminate cs u ] ≡ some v
-        → ((u : Work) → eliminate cs u ≡ some v → length v.rows ≡ length u.rows) → length v.rows ≡ length w.rows
-    go none q e f = absurd (none-ne-some v e)
-    go (some u) q e f = f u e ∙ column-length c w u q
+    go : (o : Option Work) → column c w ≡ o → elim o as (λ z. Option Work) [ None ↦ None | Some u ↦ eliminate cs u ] ≡ Some v
+        → ((u : Work) → eliminate cs u ≡ Some v → length v.rows ≡ length u.rows) → length v.rows ≡ length w.rows
+    go None q e f = absurd (none-ne-some v e)
+    go (Some u) q e f = f u e ∙ column-length c w u q
 
-pub inverse-length : (a b : Matrix) → inverse a ≡ some b → length b ≡ length a
+pub inverse-length : (a b : Matrix) → inverse a ≡ Some b → length b ≡ length a
 unfolding inverse gauss_jordan identity
 inverse-length a b = go (gauss_jordan a) refl
   where
@@ -109,9 +110,9 @@ inverse-length a b = go (gauss_jordan a) refl
         let k : length (identity (length a)) ≡ length a = length-map (range 0 (length a)) _ ∙ length-range 0 (length a) in
         zip_length (λ r e. r ++ e) a (identity (length a)) (sym k) ∙ k
 
-    go : (o : Option Work) → gauss_jordan a ≡ o → elim o as (λ z. Option Matrix) [ none ↦ none | some w ↦ some (map (drop (length a)) w.rows) ] ≡ some b → length b ≡ length a
-    go none q e = absurd (none-ne-some b e)
-    go (some w) q e = ap (λ (m : Matrix). length m) (sym (some-injective _ b e)) ∙ length-map w.rows (drop (length a)) ∙ eliminate-length (range 0 (length a)) _ w q ∙ begun
+    go : (o : Option Work) → gauss_jordan a ≡ o → elim o as (λ z. Option Matrix) [ None ↦ None | Some w ↦ Some (map (drop (length a)) w.rows) ] ≡ Some b → length b ≡ length a
+    go None q e = absurd (none-ne-some b e)
+    go (Some w) q e = ap (λ (m : Matrix). length m) (sym (some-injective _ b e)) ∙ length-map w.rows (drop (length a)) ∙ eliminate-length (range 0 (length a)) _ w q ∙ begun
 
 -- ---- a member's matrix and row
 
@@ -140,13 +141,13 @@ candidate_shape d v w h F =
     let a = flag_columns w.searched F in
     (product-length a w.inv ∙ flag_columns_lem w.searched F ∙ h.wide, λ r m. product-rows a w.inv r m ∙ h.inverse)
 
-pub tested_shape : (d v : ℕ) (w : Setting) → SettingFit d v w → (m : Matrix) → Square d m → (x : Member) → tested w m ≡ some x → MemberShape d v x
+pub tested_shape : (d v : ℕ) (w : Setting) → SettingFit d v w → (m : Matrix) → Square d m → (x : Member) → tested w m ≡ Some x → MemberShape d v x
 unfolding tested row_of
 tested_shape d v w h m k x = go (every (λ u. ltb u (length w.searched.points)) (row_of w.searched.points m) && examples_go w.searched.abs w.types (row_of w.searched.points m))
     (record { matrix = k; row = length-map w.searched.points _ ∙ h.many })
   where
     go : (b : Bool) → MemberShape d v (record { matrix = m; row = row_of w.searched.points m; mark = mark_of w.read.abs (by_table w.classes) (row_of w.searched.points m) })
-        → elim b as (λ z. Option Member) [ true ↦ some (record { matrix = m; row = row_of w.searched.points m; mark = mark_of w.read.abs (by_table w.classes) (row_of w.searched.points m) }) | false ↦ none ] ≡ some x → MemberShape d v x
+        → elim b as (λ z. Option Member) [ true ↦ Some (record { matrix = m; row = row_of w.searched.points m; mark = mark_of w.read.abs (by_table w.classes) (row_of w.searched.points m) }) | false ↦ None ] ≡ Some x → MemberShape d v x
     go true s e = subst (λ (y : Member). MemberShape d v y) (some-injective _ x e) s
     go false s e = absurd (none-ne-some x e)
 
@@ -155,26 +156,26 @@ unfolding members_of
 member_shape d v w s (F ∷ l) x h = go (same_types w F) (tested w (candidate w F)) refl h (λ k. member_shape d v w s l x k)
   where
     go : (b : Bool) (o : Option Member) → tested w (candidate w F) ≡ o
-        → In x (elim b as (λ z. List Member) [ true ↦ elim o as (λ z. List Member) [ some m ↦ m ∷ members_of w l | none ↦ members_of w l ] | false ↦ members_of w l ])
+        → In x (elim b as (λ z. List Member) [ true ↦ elim o as (λ z. List Member) [ Some m ↦ m ∷ members_of w l | None ↦ members_of w l ] | false ↦ members_of w l ])
         → (In x (members_of w l) → MemberShape d v x) → MemberShape d v x
     go false o e k f = f k
-    go true none e k f = f k
-    go true (some m) e (inl q) f = rw q (tested_shape d v w s (candidate w F) (candidate_shape d v w s F) m e)
-    go true (some m) e (inr k) f = f k
+    go true None e k f = f k
+    go true (Some m) e (inl q) f = rw q (tested_shape d v w s (candidate w F) (candidate_shape d v w s F) m e)
+    go true (Some m) e (inr k) f = f k
 member_shape d v w s [] x h = elim h [ ]
 
-pub wanted_some : {A : Type 0} (why : Refusal) (o : Option A) (x : A) → Judging.wanted why o ≡ passed x → o ≡ some x
+pub wanted_some : {A : Type 0} (why : Refusal) (o : Option A) (x : A) → Judging.wanted why o ≡ Ok x → o ≡ Some x
 unfolding Judging.wanted
-wanted_some why none x e = absurd (never why x e)
-wanted_some why (some y) x e = ap some (same y x e)
+wanted_some why None x e = absurd (never why x e)
+wanted_some why (Some y) x e = ap Some (same y x e)
 
-set_shape : (c : Concrete) (w : Setting) → setting c ≡ passed w → SettingFit c.dimension (length c.points) w
+set_shape : (c : Concrete) (w : Setting) → setting c ≡ Ok w → SettingFit c.dimension (length c.points) w
 unfolding setting exchanged
 set_shape c w e =
     let h₁ = then_to (Judging.judge NotFull (full c)) _ w e in
     let h₂ = then_to (Judging.judge DoubleCorner (no_repeats near c.points)) _ w h₁.2 in
     let h₃ = bound_to (Judging.wanted Centred (first_far c (range 0 (size c.abs (top c.abs - 1))))) _ w h₂.2 in
-    let h₄ = bound_to (passed (exchanged c h₃.0)) _ w h₃.2 in
+    let h₄ = bound_to (Ok (exchanged c h₃.0)) _ w h₃.2 in
     let h₅ = bound_to (Judging.wanted Unsettled (types_of h₄.0)) _ w h₄.2 in
     let h₆ = bound_to (Judging.wanted Flat (inverse (flag_columns h₄.0 (first_flag h₄.0.abs)))) _ w h₅.2 in
     let h₇ = then_to (Judging.judge Flat (all_finite h₆.0)) _ w h₆.2 in
@@ -190,9 +191,9 @@ set_shape c w e =
 -- ---- the members of a call
 
 unfoldable pub MembersShaped : Judged (Concrete × List Member) → Type 0
-MembersShaped o = (y : Concrete × List Member) → o ≡ passed y → (x : Member) → In x y.1 → MemberShape y.0.dimension (length y.0.points) x
+MembersShaped o = (y : Concrete × List Member) → o ≡ Ok y → (x : Member) → In x y.1 → MemberShape y.0.dimension (length y.0.points) x
 
-search_shape : (c : Concrete) (ms : List Member) → search c ≡ passed ms → (x : Member) → In x ms → MemberShape c.dimension (length c.points) x
+search_shape : (c : Concrete) (ms : List Member) → search c ≡ Ok ms → (x : Member) → In x ms → MemberShape c.dimension (length c.points) x
 unfolding search
 search_shape c ms e x h =
     let s = bound_to (setting c) _ ms e in
@@ -273,14 +274,14 @@ unfolding kept_of
 kept-cells m [] kept h = no_cells m
 kept-cells m (x ∷ l) kept h = go (ltb (length kept) (length (x ∷ l)))
   where
-    go : (b : Bool) → Cells m (elim b as (λ z. Outcome) [ true ↦ record { answer = Refused ShortSheet (length kept); members = kept } | false ↦ record { answer = Done (length kept); members = kept } ]).members
+    go : (b : Bool) → Cells m (elim b as (λ z. Outcome) [ true ↦ record { answer = refused_with ShortSheet (length kept); members = kept } | false ↦ record { answer = Ok (length kept); members = kept } ]).members
     go true = h
     go false = h
 
 pub found-cells : (o : Judged (Concrete × List Member)) → MembersShaped o → (m : Room) → Cells m (outcome o m).members
 unfolding outcome MembersShaped
-found-cells (refused why) s m = no_cells m
-found-cells (passed y) s m =
+found-cells (Err why) s m = no_cells m
+found-cells (Ok y) s m =
     let d = y.0.dimension in
     let v = length y.0.points in
     let l = fitting m d v 0 y.1 in

@@ -1,6 +1,7 @@
 -- This file says what each reading of a sheet passes on, and over which bits: a reader passes a value exactly when the value is within its limits and
 -- the bits that it goes over are the value's.
 -- Assumes nothing.
+use Rattle.std.specs.Prelude.{Err, Ok}
 use mathlib.Core.Path.{◌≡◌, refl, sym, ◌∙◌, ap, subst}
 use mathlib.Core.Logic.{inl, inr}
 use Prim.Native.Nat.{ℕ, zero, suc, ◌+◌, ◌-◌, ◌*◌, ◌/◌, ◌%◌, ◌^◌, ◌≤◌, ◌<◌}
@@ -19,7 +20,7 @@ use Rattle.spec.specs.Lists.{In, sum, join}
 use Rattle.spec.specs.Float.{finite, in_range}
 use Rattle.spec.specs.Demand.{RisingAbove, Rising}
 use Rattle.spec.specs.Bits.{bit, field}
-use Rattle.spec.specs.Judged.{Judged, refused, passed}
+use Rattle.spec.specs.Judged.{Judged}
 use Rattle.spec.specs.Sheet.{Parsed, Reader, ◌>>=◌, ◌>>◌, done, judge, times, bits, rank, dimension, count, coordinate, sub_list, list, lists_at, lists, end, sheet, vertex_count}
 use Rattle.spec.specs.Pack.{bits_of, point_bits, list_bits, rank_bits, pack_bits, AllowedCoordinate, AllowedPoint, AllowedList, AllowedRank, Allowed}
 use Rattle.laws.proofs.Marked.{both, lt_test}
@@ -28,12 +29,12 @@ use Rattle.laws.proofs.Accepted.{never, same, bound_by, le_test, From, sub_read,
 -- ---- steps of a reading that passes
 
 module _ {A B : Type 0} where
-  bind_on : (m : Reader A) (k : A → Reader B) (i : ℕ) (x : A × ℕ) → m i ≡ passed x → (m >>= k) i ≡ k x.0 x.1
+  bind_on : (m : Reader A) (k : A → Reader B) (i : ℕ) (x : A × ℕ) → m i ≡ Ok x → (m >>= k) i ≡ k x.0 x.1
   unfolding ◌>>=◌
   bind_on m k i x e = rw (e, ◌>>=◌)
 
 module _ {A : Type 0} (why : Refusal) (k : Reader A) (i : ℕ) where
-  judge-then : (ok : Bool) (y : A × ℕ) → (judge why ok >> k) i ≡ passed y → (ok ≡ true) × (k i ≡ passed y)
+  judge-then : (ok : Bool) (y : A × ℕ) → (judge why ok >> k) i ≡ Ok y → (ok ≡ true) × (k i ≡ Ok y)
   unfolding judge ◌>>◌
   judge-then true y e = (refl, e)
   judge-then false y e = absurd (never why y e)
@@ -98,8 +99,8 @@ module _ (b : List ℕ) where
 
   -- The reader m passes the values that are P, over the bits that k says.
   pub record Code {A : Type 0} (m : Reader A) (k : A → List ℕ) (P : A → Type 0) : Type 0 where
-    pub reads : (i : ℕ) (y : A × ℕ) → m i ≡ passed y → P y.0 × BitsAre i (k y.0) y.1
-    pub writes : (i : ℕ) (y : A × ℕ) → P y.0 → BitsAre i (k y.0) y.1 → m i ≡ passed y
+    pub reads : (i : ℕ) (y : A × ℕ) → m i ≡ Ok y → P y.0 × BitsAre i (k y.0) y.1
+    pub writes : (i : ℕ) (y : A × ℕ) → P y.0 → BitsAre i (k y.0) y.1 → m i ≡ Ok y
 
   bits-code : (w : ℕ) → Code (bits b (suc w)) (bits_of (suc w)) (λ n. n < 2 ^ suc w)
   unfolding bits
@@ -112,7 +113,7 @@ module _ (b : List ℕ) where
   }
     where
       read : (i : ℕ) (y : ℕ × ℕ) (o : Bool) → leb (i + suc w) (8 * length b) ≡ o
-          → elim o as (λ z. Judged (ℕ × ℕ)) [ true ↦ passed (field b i (suc w), i + suc w) | false ↦ refused CutSheet ] ≡ passed y
+          → elim o as (λ z. Judged (ℕ × ℕ)) [ true ↦ Ok (field b i (suc w), i + suc w) | false ↦ Err CutSheet ] ≡ Ok y
           → (y.0 < 2 ^ suc w) × BitsAre i (bits_of (suc w) y.0) y.1
       read i y true q e =
           subst (λ (z : ℕ × ℕ). (z.0 < 2 ^ suc w) × BitsAre i (bits_of (suc w) z.0) z.1) (same _ y e)
@@ -135,7 +136,7 @@ module _ (b : List ℕ) where
     writes = λ i y p h.
         bind_on (bits b (suc w)) (λ n. judge why (t n) >> done (f n)) i (g y.0, y.1) ((bits-code w).writes i (g y.0, y.1) p.1 h)
         ∙ judge_on why (done (f (g y.0))) y.1 (t (g y.0)) p.0
-        ∙ ap (λ (a : A). passed (a, y.1)) p.2;
+        ∙ ap (λ (a : A). Ok (a, y.1)) p.2;
   }
 
   -- The same reader goes n times.
@@ -143,7 +144,7 @@ module _ (b : List ℕ) where
     EachRead : ℕ → List A → Type 0
     EachRead n l = (length l ≡ n) × ((x : A) → In x l → P x)
 
-    times_reads : (n i : ℕ) (y : List A × ℕ) → times n m i ≡ passed y → EachRead n y.0 × BitsAre i (join (map k y.0)) y.1
+    times_reads : (n i : ℕ) (y : List A × ℕ) → times n m i ≡ Ok y → EachRead n y.0 × BitsAre i (join (map k y.0)) y.1
     unfolding times done BitsAre EachRead join
     times_reads zero i y e = subst (λ (z : List A × ℕ). EachRead 0 z.0 × BitsAre i (join (map k z.0)) z.1) (same ([], i) y e) ((refl, λ x h. absurd h), refl)
     times_reads (suc n) i y e =
@@ -154,7 +155,7 @@ module _ (b : List ℕ) where
         subst (λ (z : List A × ℕ). EachRead (suc n) z.0 × BitsAre i (join (map k z.0)) z.1) (same _ y h₂.2)
         ((ap suc r₂.0.0, λ x q. one_or P x h₁.0.0 h₂.0.0 q r₁.0 (r₂.0.1 x)), holds-join (k h₁.0.0) (join (map k h₂.0.0)) i h₁.0.1 h₂.0.1 r₁.1 r₂.1)
 
-    times_writes : (n i : ℕ) (l : List A) (j : ℕ) → EachRead n l → BitsAre i (join (map k l)) j → times n m i ≡ passed (l, j)
+    times_writes : (n i : ℕ) (l : List A) (j : ℕ) → EachRead n l → BitsAre i (join (map k l)) j → times n m i ≡ Ok (l, j)
     unfolding times done BitsAre EachRead join
     times_writes zero i [] j p h = rw h
     times_writes zero i (x ∷ l) j p h = absurd (omega arith)
@@ -242,7 +243,7 @@ rising_from c [] r h = tt
 rising_from c (x ∷ l) r h = (omega arith, h x (inl refl), above_from c x l r (λ z q. h z (inr q)))
 
 module _ (b : List ℕ) (c : ℕ) (small : c ≤ max_count) where
-  sub_reads : (n low i : ℕ) (y : List ℕ × ℕ) → sub_list b c n low i ≡ passed y → BitsAre b i (join (map (bits_of 11) y.0)) y.1
+  sub_reads : (n low i : ℕ) (y : List ℕ × ℕ) → sub_list b c n low i ≡ Ok y → BitsAre b i (join (map (bits_of 11) y.0)) y.1
   unfolding sub_list done BitsAre join
   sub_reads zero low i y e = subst (λ (z : List ℕ × ℕ). BitsAre b i (join (map (bits_of 11) z.0)) z.1) (same ([], i) y e) refl
   sub_reads (suc n) low i y e =
@@ -253,7 +254,7 @@ module _ (b : List ℕ) (c : ℕ) (small : c ≤ max_count) where
       subst (λ (z : List ℕ × ℕ). BitsAre b i (join (map (bits_of 11) z.0)) z.1) (same _ y h₃.2)
       (holds-join b (bits_of 11 x) (join (map (bits_of 11) h₃.0.0)) i h₁.0.1 h₃.0.1 ((bits-code b 10).reads i h₁.0 h₁.1).1 (sub_reads n (suc x) h₁.0.1 h₃.0 h₃.1))
 
-  sub_writes : (n low i : ℕ) (l : List ℕ) (j : ℕ) → length l ≡ n → From low c l → BitsAre b i (join (map (bits_of 11) l)) j → sub_list b c n low i ≡ passed (l, j)
+  sub_writes : (n low i : ℕ) (l : List ℕ) (j : ℕ) → length l ≡ n → From low c l → BitsAre b i (join (map (bits_of 11) l)) j → sub_list b c n low i ≡ Ok (l, j)
   unfolding sub_list done BitsAre join From
   sub_writes zero low i [] j q w h = rw h
   sub_writes zero low i (x ∷ l) j q w h = absurd (omega arith)
@@ -291,7 +292,7 @@ module _ (b : List ℕ) (c : ℕ) (small : c ≤ max_count) where
   AllLists : ℕ → ℕ → List (List ℕ) → Type 0
   AllLists n used ls = (length ls ≡ n) × ((l : List ℕ) → In l ls → AllowedList c l) × (used + sum (map length ls) ≤ max_entries)
 
-  lists_reads : (n used i : ℕ) (y : List (List ℕ) × ℕ) → used ≤ max_entries → lists_at b c n used i ≡ passed y → AllLists n used y.0 × BitsAre b i (rank_bits y.0) y.1
+  lists_reads : (n used i : ℕ) (y : List (List ℕ) × ℕ) → used ≤ max_entries → lists_at b c n used i ≡ Ok y → AllLists n used y.0 × BitsAre b i (rank_bits y.0) y.1
   unfolding lists_at done BitsAre join rank_bits AllLists sum
   lists_reads zero used i y u e =
       subst (λ (z : List (List ℕ) × ℕ). AllLists 0 used z.0 × BitsAre b i (rank_bits z.0) z.1) (same ([], i) y e) ((refl, λ l q. absurd q, omega arith), refl)
@@ -307,7 +308,7 @@ module _ (b : List ℕ) (c : ℕ) (small : c ≤ max_count) where
         holds-join b (list_bits l) (join (map list_bits ls)) i h₁.0.1 h₂.0.1 r₁.1 r₂.1,
       )
 
-  lists_writes : (n used i : ℕ) (ls : List (List ℕ)) (j : ℕ) → AllLists n used ls → BitsAre b i (rank_bits ls) j → lists_at b c n used i ≡ passed (ls, j)
+  lists_writes : (n used i : ℕ) (ls : List (List ℕ)) (j : ℕ) → AllLists n used ls → BitsAre b i (rank_bits ls) j → lists_at b c n used i ≡ Ok (ls, j)
   unfolding lists_at done BitsAre join rank_bits AllLists sum
   lists_writes zero used i [] j p h = rw h
   lists_writes zero used i (l ∷ ls) j p h = absurd (omega arith)
@@ -331,7 +332,7 @@ ListsCounted : List ℕ → List (List (List ℕ)) → Type 0
 ListsCounted counts more = (length more ≡ length counts - 1) × ((r : ℕ) → suc r < length counts → AllowedRank (get_or counts r 0) (get_or counts (suc r) 0) (get_or more r []))
 
 module _ (b : List ℕ) where
-  rank-lists_reads : (counts : List ℕ) (i : ℕ) (y : List (List (List ℕ)) × ℕ) → ((n : ℕ) → In n counts → n ≤ max_count) → lists b counts i ≡ passed y
+  rank-lists_reads : (counts : List ℕ) (i : ℕ) (y : List (List (List ℕ)) × ℕ) → ((n : ℕ) → In n counts → n ≤ max_count) → lists b counts i ≡ Ok y
       → ListsCounted counts y.0 × BitsAre b i (join (map rank_bits y.0)) y.1
   unfolding lists done BitsAre join ListsCounted
   rank-lists_reads [] i y s e =
@@ -355,7 +356,7 @@ module _ (b : List ℕ) where
       each ls more a f (suc r) h = f r (omega arith)
 
   rank-lists_writes : (counts : List ℕ) (i : ℕ) (more : List (List (List ℕ))) (j : ℕ) → ((n : ℕ) → In n counts → n ≤ max_count)
-      → ListsCounted counts more → BitsAre b i (join (map rank_bits more)) j → lists b counts i ≡ passed (more, j)
+      → ListsCounted counts more → BitsAre b i (join (map rank_bits more)) j → lists b counts i ≡ Ok (more, j)
   unfolding lists done BitsAre join ListsCounted
   rank-lists_writes [] i [] j s p h = rw h
   rank-lists_writes [] i (ls ∷ more) j s p h = absurd (omega (arith, p.0))
@@ -391,7 +392,7 @@ module _ (b : List ℕ) where
   end_test : ℕ → Bool
   end_test i = ltb (8 * length b - i) 8 && eqb (field b i (8 * length b - i)) 0
 
-  end_reads : {A : Type 0} (k : Reader A) (i : ℕ) (y : A × ℕ) → (end b >> k) i ≡ passed y → BitsEnded i × (k i ≡ passed y)
+  end_reads : {A : Type 0} (k : Reader A) (i : ℕ) (y : A × ℕ) → (end b >> k) i ≡ Ok y → BitsEnded i × (k i ≡ Ok y)
   unfolding end end_test ◌>>◌
   end_reads k i y e =
       let h = judge-then CutSheet k i (end_test i) y e in
@@ -404,7 +405,7 @@ module _ (b : List ℕ) where
       judge_on CutSheet k i (end_test i)
       (and_true (ltb (8 * length b - i) 8) (eqb (field b i (8 * length b - i)) 0) (le_true (suc (8 * length b - i)) 8 w.short) (rw w.zeros))
 
-  pub sheet_reads : (y : Parsed × ℕ) → sheet b 0 ≡ passed y → Allowed y.0 × BitsAre b 0 (pack_bits y.0) y.1 × BitsEnded y.1
+  pub sheet_reads : (y : Parsed × ℕ) → sheet b 0 ≡ Ok y → Allowed y.0 × BitsAre b 0 (pack_bits y.0) y.1 × BitsEnded y.1
   unfolding sheet done pack_bits ListsCounted
   sheet_reads y e =
       let h₁ = bound_by (rank b) _ 0 y e in
@@ -432,7 +433,7 @@ module _ (b : List ℕ) where
         h₆.0,
       )
 
-  pub sheet_writes : (p : Parsed) (j : ℕ) → Allowed p → BitsAre b 0 (pack_bits p) j → BitsEnded j → sheet b 0 ≡ passed (p, j)
+  pub sheet_writes : (p : Parsed) (j : ℕ) → Allowed p → BitsAre b 0 (pack_bits p) j → BitsEnded j → sheet b 0 ≡ Ok (p, j)
   unfolding sheet done pack_bits ListsCounted
   sheet_writes p j w h z =
       let R = p.rank in

@@ -2,17 +2,15 @@
 -- outputs, what every other refusal leaves untouched, that outputs keep their lengths, and what the calls answer for a solid without proper ranks;
 -- and about finding, which search and copying share.
 -- Assumes nothing.
-use Rattle.std.specs.Prelude.{◌≡◌, ◌≢◌, ◌⊎◌, ℕ, suc, ◌*◌, ◌≤◌, ◌<◌, true, false, List, [], map, length, get_or, take, replicate, Float}
-use Rattle.std.proofs.Math.Option.{some}
+use Rattle.std.specs.Prelude.{◌≡◌, ◌≢◌, ◌⊎◌, ℕ, suc, ◌*◌, ◌≤◌, ◌<◌, true, false, List, [], map, length, get_or, take, replicate, Float, Ok, Some}
 use Rattle.spec.specs.declared.Refusal.{Refusal}
 use Rattle.spec.specs.declared.Refusal.TheVariants.{NotFull, ShortSheet, Open}
-use Rattle.spec.specs.declared.Answer.{Answer}
-use Rattle.spec.specs.declared.Answer.TheVariants.{Done, Refused}
+use Rattle.spec.specs.Refusal.{Answer, refused_with}
 use Rattle.spec.specs.Limits.{max_count}
 use Rattle.spec.specs.Lists.{In, join, written}
 use Rattle.spec.specs.Types.{State, given, element_types}
 use Rattle.spec.specs.Matrix.{Vector, Matrix, mul_vec}
-use Rattle.spec.specs.Judged.{Judged, passed}
+use Rattle.spec.specs.Judged.{Judged}
 use Rattle.spec.specs.Sheet.{Parsed, read_sheet}
 use Rattle.spec.specs.Solid.{Concrete, preflight}
 use Rattle.spec.specs.Classes.{types_of}
@@ -35,7 +33,7 @@ pub record HoldMembers (ms : List Member) (old new : SearchOut) : Type 0 where
 pub record AllMembers (o : Judged (Concrete × List Member)) (old new : SearchOut) (n : ℕ) : Type 0 where
   pub solid : Concrete
   pub members : List Member
-  pub listed : o ≡ passed (solid, members)
+  pub listed : o ≡ Ok (solid, members)
   pub count : n ≡ length members
   pub fit : have_room (room_of old) solid.dimension (length solid.points) n ≡ true
   pub hold : HoldMembers members old new
@@ -45,7 +43,7 @@ pub record AllMembers (o : Judged (Concrete × List Member)) (old new : SearchOu
 pub record FirstMembers (o : Judged (Concrete × List Member)) (old new : SearchOut) (k : ℕ) : Type 0 where
   pub solid : Concrete
   pub members : List Member
-  pub listed : o ≡ passed (solid, members)
+  pub listed : o ≡ Ok (solid, members)
   pub fit : have_room (room_of old) solid.dimension (length solid.points) k ≡ true
   pub full : have_room (room_of old) solid.dimension (length solid.points) (suc k) ≡ false
   pub more : k < length members
@@ -54,12 +52,12 @@ pub record FirstMembers (o : Judged (Concrete × List Member)) (old new : Search
 -- These are the laws of a search call, or of a rotations call. `inside` lists all members, or all rotations, of a sheet's solid.
 pub record SearchLaws (call : List ℕ → ℕ → ℕ → SearchOut → Answer × SearchOut) (inside : List ℕ → ℕ → ℕ → Judged (Concrete × List Member)) : Type 0 where
   -- An empty list is never a success.
-  pub some_member : (b : List ℕ) (words floats : ℕ) (old : SearchOut) (n : ℕ) → (call b words floats old).0 ≡ Done n → 0 < n
-  pub done : (b : List ℕ) (words floats : ℕ) (old : SearchOut) (n : ℕ) → (call b words floats old).0 ≡ Done n → AllMembers (inside b words floats) old (call b words floats old).1 n
+  pub some_member : (b : List ℕ) (words floats : ℕ) (old : SearchOut) (n : ℕ) → (call b words floats old).0 ≡ Ok n → 0 < n
+  pub done : (b : List ℕ) (words floats : ℕ) (old : SearchOut) (n : ℕ) → (call b words floats old).0 ≡ Ok n → AllMembers (inside b words floats) old (call b words floats old).1 n
   -- 13 comes when "members (rotations in their call) .. exceed their buffers", and it "keeps what fitted in search (whole members only)".
-  pub short : (b : List ℕ) (words floats : ℕ) (old : SearchOut) (k : ℕ) → (call b words floats old).0 ≡ Refused ShortSheet k → FirstMembers (inside b words floats) old (call b words floats old).1 k
+  pub short : (b : List ℕ) (words floats : ℕ) (old : SearchOut) (k : ℕ) → (call b words floats old).0 ≡ refused_with ShortSheet k → FirstMembers (inside b words floats) old (call b words floats old).1 k
   -- "Outputs are untouched, except: 13": any other refusal leaves all three as they were.
-  pub untouched : (b : List ℕ) (words floats : ℕ) (old : SearchOut) (why : Refusal) (k : ℕ) → (call b words floats old).0 ≡ Refused why k → why ≢ ShortSheet → (call b words floats old).1 ≡ old
+  pub untouched : (b : List ℕ) (words floats : ℕ) (old : SearchOut) (why : Refusal) (k : ℕ) → (call b words floats old).0 ≡ refused_with why k → why ≢ ShortSheet → (call b words floats old).1 ≡ old
   pub lengths : (b : List ℕ) (words floats : ℕ) (old : SearchOut) →
       let new = (call b words floats old).1 in
       SameLength old.matrices new.matrices × SameLength old.rows new.rows × SameLength old.marks new.marks
@@ -70,8 +68,8 @@ pub record SearchLaws (call : List ℕ → ℕ → ℕ → SearchOut → Answer 
 pub record Settled (b : List ℕ) (words floats : ℕ) (g : Given) : Type 0 where
   pub solid : Concrete
   pub result : State
-  pub read : preflight b words floats ≡ passed solid
-  pub ended : types_of solid ≡ some result
+  pub read : preflight b words floats ≡ Ok solid
+  pub ended : types_of solid ≡ Some result
   pub out : g ≡ record { elements = given solid.abs result; types = element_types solid.abs result }
 
 -- This is what success with the count n means: n is how many types there are, both outputs have room for everything, and they hold everything.
@@ -94,11 +92,11 @@ pub record NoRoom (b : List ℕ) (words floats : ℕ) (old : TypesOut) (k : ℕ)
 pub record CallLaws : Type 0 where
   pub searches : SearchLaws search_call members_in
   pub rotations : SearchLaws rotations_call rotations_in
-  pub types-done : (b : List ℕ) (words floats : ℕ) (old : TypesOut) (n : ℕ) → (types_call b words floats old).0 ≡ Done n → AllTypes b words floats old (types_call b words floats old).1 n
+  pub types-done : (b : List ℕ) (words floats : ℕ) (old : TypesOut) (n : ℕ) → (types_call b words floats old).0 ≡ Ok n → AllTypes b words floats old (types_call b words floats old).1 n
   -- 13 comes when "types .. exceed their buffers".
-  pub types_short : (b : List ℕ) (words floats : ℕ) (old : TypesOut) (k : ℕ) → (types_call b words floats old).0 ≡ Refused ShortSheet k → NoRoom b words floats old k
+  pub types_short : (b : List ℕ) (words floats : ℕ) (old : TypesOut) (k : ℕ) → (types_call b words floats old).0 ≡ refused_with ShortSheet k → NoRoom b words floats old k
   -- "Outputs are untouched": every refusal of the types call leaves them so.
-  pub types : (b : List ℕ) (words floats : ℕ) (old : TypesOut) (why : Refusal) (k : ℕ) → (types_call b words floats old).0 ≡ Refused why k → (types_call b words floats old).1 ≡ old
+  pub types : (b : List ℕ) (words floats : ℕ) (old : TypesOut) (why : Refusal) (k : ℕ) → (types_call b words floats old).0 ≡ refused_with why k → (types_call b words floats old).1 ≡ old
   pub lengths : (b : List ℕ) (words floats : ℕ) (old : TypesOut) →
       let new = (types_call b words floats old).1 in
       SameLength old.elements new.elements × SameLength old.types new.types
@@ -107,14 +105,14 @@ pub record CallLaws : Type 0 where
 
 -- This is what the calls answer for a solid without proper ranks: "R = 1: no types; search 8". The outputs stay as they were, whatever they hold.
 pub record NoProperRank (b : List ℕ) (words floats : ℕ) : Type 0 where
-  pub types : (old : TypesOut) → types_call b words floats old ≡ (Done 0, old)
-  pub search : (old : SearchOut) → search_call b words floats old ≡ (Refused NotFull 0, old)
-  pub rotations : (old : SearchOut) → rotations_call b words floats old ≡ (Refused NotFull 0, old)
+  pub types : (old : TypesOut) → types_call b words floats old ≡ (Ok 0, old)
+  pub search : (old : SearchOut) → search_call b words floats old ≡ (refused_with NotFull 0, old)
+  pub rotations : (old : SearchOut) → rotations_call b words floats old ≡ (refused_with NotFull 0, old)
 
 -- This holds of every accepted sheet of rank 0 or 1, on any workspace that 7 does not refuse: E and I are 0, so that 64 words and 64 floats are
 -- enough.
 abbrev pub EveryLowSheet : Type 0
-EveryLowSheet = (b : List ℕ) (p : Parsed) → read_sheet b ≡ passed p → p.rank < 2 → (words floats : ℕ) → 64 ≤ words → 64 ≤ floats → NoProperRank b words floats
+EveryLowSheet = (b : List ℕ) (p : Parsed) → read_sheet b ≡ Ok p → p.rank < 2 → (words floats : ℕ) → 64 ≤ words → 64 ≤ floats → NoProperRank b words floats
 
 -- ---- copying
 
@@ -166,13 +164,13 @@ module _ (d : ℕ) (ms : List Matrix) (cs : List Vector) (out_points : List Floa
 
   -- These are the laws of such a call, where o is what it answers and what it leaves in its two outputs.
   pub record CopyCallLaws (o : Answer × List Float × List ℕ) : Type 0 where
-    pub done : (n : ℕ) → o.0 ≡ Done n → AllCopies n o.1 o.2
+    pub done : (n : ℕ) → o.0 ≡ Ok n → AllCopies n o.1 o.2
     -- 13 comes when "points and then table entries, exceed their buffers; copies over 2,048", and it "keeps what fitted .. in copying (points only)".
-    pub short : (k : ℕ) → o.0 ≡ Refused ShortSheet k → FirstCopies k o.1 o.2
+    pub short : (k : ℕ) → o.0 ≡ refused_with ShortSheet k → FirstCopies k o.1 o.2
     -- 14 comes when "an image isn't among the copies", and it "keeps the points and sets the table's entries, matrices times copies, to 65,535".
-    pub unclosed : (k : ℕ) → o.0 ≡ Refused Open k → OpenCopies k o.1 o.2
+    pub unclosed : (k : ℕ) → o.0 ≡ refused_with Open k → OpenCopies k o.1 o.2
     -- "Outputs are untouched, except: 13 .. 14 .."
-    pub untouched : (why : Refusal) (k : ℕ) → o.0 ≡ Refused why k → why ≢ ShortSheet → why ≢ Open → (o.1 ≡ out_points) × (o.2 ≡ out_table)
+    pub untouched : (why : Refusal) (k : ℕ) → o.0 ≡ refused_with why k → why ≢ ShortSheet → why ≢ Open → (o.1 ≡ out_points) × (o.2 ≡ out_table)
     pub lengths : SameLength out_points o.1 × SameLength out_table o.2
 
 -- Every copying call obeys these laws: ps holds the coordinates of its points, and ts the entries of its matrices.

@@ -1,11 +1,10 @@
 -- What McMullen and Schulte say of flags, and what section 5 says of every solid whose sheet passes preflight, both as it was read and after search has
 -- exchanged its facets.
 -- Assumes nothing.
-use Rattle.std.specs.Prelude.{◌≡◌, ◌≢◌, ◌↔◌, ℕ, suc, ◌-◌, ◌≤◌, ◌<◌, true, List, [], length, get_or}
+use Rattle.std.specs.Prelude.{◌≡◌, ◌≢◌, ◌↔◌, ℕ, suc, ◌-◌, ◌≤◌, ◌<◌, true, List, [], length, get_or, Ok}
 use Rattle.spec.specs.Lists.{In}
 use Rattle.spec.specs.Types.{Solid, top, size, subs}
 use Rattle.spec.specs.Demand.{Sound, Proper}
-use Rattle.spec.specs.Judged.{passed}
 use Rattle.spec.specs.Solid.{Concrete, diamond, preflight}
 use Rattle.spec.specs.Flags.{Flag, element_at, first_flag, flags, change, IsFlag}
 use Rattle.spec.specs.Search.{exchanged_in}
@@ -65,4 +64,4 @@ pub record FlagLaws (c : Concrete) : Type 0 where
   pub searched : 2 ≤ top c.abs → (f : ℕ) → f < size c.abs (top c.abs - 1) → FlagsOf (exchanged_in c.abs f)
 
 abbrev pub EveryFlagLaw : Type 0
-EveryFlagLaw = (b : List ℕ) (words floats : ℕ) (c : Concrete) → preflight b words floats ≡ passed c → FlagLaws c
+EveryFlagLaw = (b : List ℕ) (words floats : ℕ) (c : Concrete) → preflight b words floats ≡ Ok c → FlagLaws c

@@ -1,12 +1,11 @@
 -- This file says what holds of every solid that passes preflight, and what the exchange of facets keeps.
 -- Assumes nothing.
-use Rattle.std.specs.Prelude.{◌≡◌, ℕ, suc, ◌-◌, ◌≤◌, ◌<◌, true, List, length, Float}
+use Rattle.std.specs.Prelude.{◌≡◌, ℕ, suc, ◌-◌, ◌≤◌, ◌<◌, true, List, length, Float, Ok}
 use Rattle.spec.specs.Limits.{max_rank, max_dimension, max_count}
 use Rattle.spec.specs.Lists.{In}
 use Rattle.spec.specs.Float.{in_range}
 use Rattle.spec.specs.Types.{Solid, top, size, subs}
 use Rattle.spec.specs.Demand.{Sound}
-use Rattle.spec.specs.Judged.{passed}
 use Rattle.spec.specs.Sheet.{Parsed, read_sheet}
 use Rattle.spec.specs.Solid.{Concrete, solid_of, bound, diamond, preflight}
 use Rattle.spec.specs.Search.{exchanged_in}
@@ -14,7 +13,7 @@ use Rattle.spec.specs.Search.{exchanged_in}
 -- The sheet was read, the solid is the one that the sheet says, it is as section 2 allows, and neither 5 nor 6 applies to it.
 pub record Passed (b : List ℕ) (c : Concrete) : Type 0 where
   pub parsed : Parsed
-  pub read : read_sheet b ≡ passed parsed
+  pub read : read_sheet b ≡ Ok parsed
   pub solid : c.abs ≡ solid_of parsed
   pub rank : top c.abs ≡ parsed.rank
   pub dimension : c.dimension ≡ parsed.dimension
@@ -33,7 +32,7 @@ pub record Passed (b : List ℕ) (c : Concrete) : Type 0 where
   pub diamonds : diamond c.abs ≡ true
 
 abbrev pub EveryPassed : Type 0
-EveryPassed = (b : List ℕ) (words floats : ℕ) (c : Concrete) → preflight b words floats ≡ passed c → Passed b c
+EveryPassed = (b : List ℕ) (words floats : ℕ) (c : Concrete) → preflight b words floats ≡ Ok c → Passed b c
 
 -- The exchange of facets keeps what section 2 and the diamond ask, every rank's size, and the verdict of the test behind refusal 5.
 pub record ExchangeKept (s t : Solid) : Type 0 where

@@ -1,9 +1,8 @@
 -- The theorems that tie the order, the maximal chains and the diamonds of a solid to the lists and the tests that the calls go by.
 -- Assumes nothing.
-use Rattle.std.specs.Prelude.{◌≡◌, ◌↔◌, ℕ, suc, ◌-◌, ◌≤◌, ◌<◌, true, List, [], ◌∷◌, length}
+use Rattle.std.specs.Prelude.{◌≡◌, ◌↔◌, ℕ, suc, ◌-◌, ◌≤◌, ◌<◌, true, List, [], ◌∷◌, length, Ok}
 use Rattle.spec.specs.Types.{Solid, top, size, subs}
 use Rattle.spec.specs.Demand.{Sound}
-use Rattle.spec.specs.Judged.{passed}
 use Rattle.spec.specs.Solid.{Concrete, bound, diamond, preflight}
 use Rattle.spec.specs.Search.{exchanged_in}
 use Rattle.spec.specs.Polytope.{Element, IsElement, AtMost, top_element, IsMaximal, elements_of, Ordered, MaximalChains, Diamonds, Polytope}
@@ -33,7 +32,7 @@ pub record Polytopes (c : Concrete) : Type 0 where
   pub searched : 2 ≤ top c.abs → (f : ℕ) → f < size c.abs (top c.abs - 1) → Polytope (exchanged_in c.abs f)
 
 abbrev pub EveryPolytope : Type 0
-EveryPolytope = (b : List ℕ) (words floats : ℕ) (c : Concrete) → preflight b words floats ≡ passed c → Polytopes c
+EveryPolytope = (b : List ℕ) (words floats : ℕ) (c : Concrete) → preflight b words floats ≡ Ok c → Polytopes c
 
 -- This is what the theorems say of the square: the elements of its first flag are a maximal chain, and P4 holds.
 pub record OfSquare : Type 0 where

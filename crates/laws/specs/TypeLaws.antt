@@ -1,16 +1,13 @@
 -- These are statements about section 4: the numbers after any list of steps, what the start and each step do, what the types call gives out, and that
 -- refusal 15 never comes.
 -- Assumes nothing.
-use Rattle.std.specs.Prelude.{◌≡◌, ◌≢◌, ◌⊎◌, ◌↔◌, ℕ, ◌<◌, List, map, eqb, Float}
-use Rattle.std.proofs.Math.Option.{none, some}
+use Rattle.std.specs.Prelude.{◌≡◌, ◌≢◌, ◌⊎◌, ◌↔◌, ℕ, ◌<◌, List, map, eqb, Float, Err, None, Some}
 use Rattle.spec.specs.declared.Refusal.TheVariants.{Unsettled}
-use Rattle.spec.specs.declared.Answer.{Answer}
-use Rattle.spec.specs.declared.Answer.TheVariants.{Refused}
+use Rattle.spec.specs.Refusal.{Answer, refused_with}
 use Rattle.spec.specs.Lists.{In, count, range, sum, join}
 use Rattle.spec.specs.Types.{Solid, top, size, proper_ranks, Classes, State, types_at, type_of, in_use, Numbered, start, Step, at, next, neighbours, step, play, result, ElementType, element_types_at, element_types}
 use Rattle.spec.specs.Demand.{Proper, AllProper}
 use Rattle.spec.specs.Solid.{Concrete}
-use Rattle.spec.specs.Judged.{refused}
 use Rattle.spec.specs.Classes.{types_of}
 use Rattle.spec.specs.Copying.{copy_call}
 use Rattle.spec.specs.Search.{setting}
@@ -66,23 +63,23 @@ pub record TypeLaws : Type 0 where
   -- The numbers are so after any list of steps, and "at the start too", which is the case of the empty list.
   pub steps : (s : Solid) (cls : Classes) (xs : List Step) → AllProper s xs → (r : ℕ) → Numbered s (play s (start s cls) xs) r
   -- The types given out at each rank obey these laws, where z is the result of any solid.
-  pub ranks : (c : Concrete) (z : State) → types_of c ≡ some z → (r : ℕ) → RankLaws c.abs z r
+  pub ranks : (c : Concrete) (z : State) → types_of c ≡ Some z → (r : ℕ) → RankLaws c.abs z r
   -- Over the proper ranks, the rank and number of each type given out rise.
-  pub listed : (c : Concrete) (z : State) → types_of c ≡ some z
+  pub listed : (c : Concrete) (z : State) → types_of c ≡ Some z
       → map {B = ℕ × ℕ} (λ k. (k.rank, k.number)) (element_types c.abs z) ≡ join (map (λ r. map (λ t. (r, t)) (range 0 (in_use z r))) (proper_ranks c.abs))
 
 -- ---- refusal 15
 
 -- The answer is not refusal 15.
 abbrev pub NotUnsettled : Answer → Type 0
-NotUnsettled a = (k : ℕ) → a ≢ Refused Unsettled k
+NotUnsettled a = (k : ℕ) → a ≢ refused_with Unsettled k
 
 -- Refusal 15, "E + 2 sweeps done, still changing", never comes. The sweeps of every solid end in time, whatever its distance classes are. So both the
 -- solid of a sheet and the solid that search makes of it by exchanging facets have types, and no call answers 15.
 pub record NeverUnsettled : Type 0 where
-  pub settles : (s : Solid) (cls : Classes) → result s cls ≢ none
-  pub types : (c : Concrete) → types_of c ≢ none
-  pub searching : (c : Concrete) → setting c ≢ refused Unsettled
+  pub settles : (s : Solid) (cls : Classes) → result s cls ≢ None
+  pub types : (c : Concrete) → types_of c ≢ None
+  pub searching : (c : Concrete) → setting c ≢ Err Unsettled
   pub types-call : (b : List ℕ) (words floats : ℕ) (old : TypesOut) → NotUnsettled (types_call b words floats old).0
   pub search-call : (b : List ℕ) (words floats : ℕ) (old : SearchOut) → NotUnsettled (search_call b words floats old).0
   pub rotations-call : (b : List ℕ) (words floats : ℕ) (old : SearchOut) → NotUnsettled (rotations_call b words floats old).0

@@ -1,5 +1,6 @@
 -- For a rank's elements, and for the ranks one after another, what the cells hold says where elements go, as long as all are carried.
 -- Assumes nothing.
+use Rattle.std.specs.Prelude.{Option, Some, None}
 use mathlib.Core.Path.{◌≡◌, refl, sym, ◌∙◌, ap, ap₂}
 use mathlib.Core.Bool.{Bool, true, false}
 use mathlib.Core.List.{List}
@@ -21,8 +22,6 @@ use Rattle.laws.proofs.Distinct.{Once}
 use Rattle.laws.proofs.Counts.{lists}
 use Rattle.laws.proofs.Result.{proper-rank}
 use Rattle.laws.proofs.Marked.{every_in, no_repeats_lem, Permutes}
-use Rattle.points.specs.declared.Found.{Found}
-use Rattle.points.specs.declared.Found.TheVariants.{At, Nothing}
 use Rattle.ranked.specs.declared.Shape.{Shape}
 use Rattle.ranked.specs.Words.{first_at, size_at, total, abs_in, Held}
 use Rattle.ranked.specs.Layout.{proper, before, classes_at, class_at, solid_on}
@@ -58,7 +57,7 @@ module _ {sh : Shape} {w row : List ℕ} (a : Row sh w row) where
     pub row-cell : r ≡ 1 → e < length row
     row-cell q = let k : e < size_at sh 1 = rw q at h in omega (arith, a.full)
 
-    pub vertex_lands : r ≡ 1 → (x : ℕ) → x ≡ get_or row e 0 → (cls : Classes) → Reached (abs_in sh w) cls row r e (At x)
+    pub vertex_lands : r ≡ 1 → (x : ℕ) → x ≡ get_or row e 0 → (cls : Classes) → Reached (abs_in sh w) cls row r e (Some x)
     vertex_lands q x z cls =
         let s = abs_in sh w in
         let p : Proper s 1 = is_proper_lem 1 (omega arith) (omega (arith, b.high)) in
@@ -83,7 +82,7 @@ module _ {sh : Shape} {w row : List ℕ} (a : Row sh w row) where
       (λ f. get_or cells (first_at sh (suc q) + f) 0) (λ f k. (i f (rw n₁ at k)).0) e (in_solid b e h))
 
   pub element-lands : {cells : List ℕ} {r : ℕ} → Rank sh w row cells r → 2 ≤ r → (e : ℕ) → e < size_at sh r
-      → (x : Found) → x ≡ rises_to (abs_in sh w) (λ f. get_or cells (first_at sh (r - 1) + f) 0) (r - 1) e → (cls : Classes) → Reached (abs_in sh w) cls row r e x
+      → (x : Option ℕ) → x ≡ rises_to (abs_in sh w) (λ f. get_or cells (first_at sh (r - 1) + f) 0) (r - 1) e → (cls : Classes) → Reached (abs_in sh w) cls row r e x
   element-lands {cells} {r} b two e h x z cls = rw z (higher cells r b two e h cls)
 
 -- ---- classes
@@ -130,15 +129,15 @@ module _ (sh : Shape) (w : List ℕ) (fs : List Float) (h : Held sh w) (c : Clas
 
 -- ---- an element that goes to x, and whether it shares x's class
 
-module _ (sh : Shape) (w row : List ℕ) (cls : Classes) (r e x : ℕ) (a : Reached (abs_in sh w) cls row r e (At x)) where
+module _ (sh : Shape) (w row : List ℕ) (cls : Classes) (r e x : ℕ) (a : Reached (abs_in sh w) cls row r e (Some x)) where
   pub lies_in : r < sh.rank → x < size_at sh r
   lies_in high = rw (size_is sh w r (omega arith)) at a.1
 
   module _ (b : Bool) (is : b ≡ eqb (cls r x) (cls r e)) where
-    pub other-class : b ≡ false → Landed (abs_in sh w) cls row r e Nothing
+    pub other-class : b ≡ false → Landed (abs_in sh w) cls row r e None
     other-class f = a.2 ∙ sym is ∙ f
 
-    pub its_class : b ≡ true → Landed (abs_in sh w) cls row r e (At x)
+    pub its_class : b ≡ true → Landed (abs_in sh w) cls row r e (Some x)
     its_class t = (a.0, a.1, a.2 ∙ sym is ∙ t)
 
 -- ---- a rank's elements
@@ -182,10 +181,10 @@ module _ {sh : Shape} {w row : List ℕ} {cls : Classes} {cells₀ : List ℕ} {
     pub cell_in : base + e < length cells
     cell_in = omega (arith, t.base_is, t.rank.room, number_in sh w h r e (omega (arith, t.rank.high)) (omega (arith, t.many)))
 
-    pub elements_stop : Landed (abs_in sh w) cls row r e Nothing → false ≡ carries_at (abs_in sh w) cls row r
+    pub elements_stop : Landed (abs_in sh w) cls row r e None → false ≡ carries_at (abs_in sh w) cls row r
     elements_stop z = range_no (carries_element (abs_in sh w) cls row r) 0 (size (abs_in sh w) r) e e (omega arith) (omega (arith, many_in)) t.rest z
 
-    pub elements-next : (x : ℕ) → Landed (abs_in sh w) cls row r e (At x) → ElementsCarried sh w row cls cells₀ r n base (set cells (base + e) x) (e + 1)
+    pub elements-next : (x : ℕ) → Landed (abs_in sh w) cls row r e (Some x) → ElementsCarried sh w row cls cells₀ r n base (set cells (base + e) x) (e + 1)
     elements-next x l = record {
       base_is = t.base_is;
       bound = omega arith;

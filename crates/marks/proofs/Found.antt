@@ -1,5 +1,6 @@
 -- The element whose subs are the images of an element's own is looked for by the words.
 -- Assumes nothing.
+use Rattle.std.specs.Prelude.{Option, Some, None}
 use mathlib.Core.Path.{◌≡◌, sym, ◌∙◌, ap}
 use mathlib.Core.Bool.{Bool, true, false}
 use mathlib.Core.List.{List, ◌∷◌}
@@ -13,8 +14,6 @@ use borrow.Author.Tests.{eq-eqb, ne_eqb}
 use Rattle.spec.specs.Lists.{In, holds, keep, every}
 use Rattle.spec.specs.Types.{subs, sups}
 use Rattle.laws.proofs.Lists.{in_get_d}
-use Rattle.points.specs.declared.Found.{Found}
-use Rattle.points.specs.declared.Found.TheVariants.{At, Nothing}
 use Rattle.points.specs.Finding.{first_of}
 use Rattle.ranked.specs.declared.Shape.{Shape}
 use Rattle.ranked.specs.Words.{first_at, size_at, total, list_at, abs_in, Held, subs_word, sups_word}
@@ -41,7 +40,7 @@ module _ (p : ℕ → Bool) where
   unfolding keep
   kept_no x l e = rw (e, keep)
 
-  kept_yes : (x : ℕ) (l : List ℕ) → p x ≡ true → first_of (keep p (x ∷ l)) ≡ At x
+  kept_yes : (x : ℕ) (l : List ℕ) → p x ≡ true → first_of (keep p (x ∷ l)) ≡ Some x
   unfolding keep
   kept_yes x l e = rw (e, keep)
 
@@ -53,10 +52,10 @@ module _ (p : ℕ → Bool) where
     pub first_no : p (get_or l k 0) ≡ false → First l (k + 1)
     first_no e = rw add-one (sym (ap (λ (m : List ℕ). first_of (keep p m)) (drop-cons l k 0 more) ∙ kept_no _ _ e) ∙ inv)
 
-    pub first_yes : p (get_or l k 0) ≡ true → At (get_or l k 0) ≡ first_of (keep p l)
+    pub first_yes : p (get_or l k 0) ≡ true → Some (get_or l k 0) ≡ first_of (keep p l)
     first_yes e = sym (ap (λ (m : List ℕ). first_of (keep p m)) (drop-cons l k 0 more) ∙ kept_yes _ _ e) ∙ inv
 
-  pub first-end : (l : List ℕ) (k : ℕ) → length l ≤ k → First l k → Nothing ≡ first_of (keep p l)
+  pub first-end : (l : List ℕ) (k : ℕ) → length l ≤ k → First l k → None ≡ first_of (keep p l)
   unfolding keep
   first-end l k h inv = rw (drop_of_length-le l h) at inv
 
@@ -95,7 +94,7 @@ module _ (sh : Shape) (w : List ℕ) (h : Held sh w) (cells : List ℕ) (r e : �
         let q : subs_word (first_at sh (suc r)) 0 + 4 * g ≡ subs_word (first_at sh (suc r)) g = omega arith in
         rw q (subs_lie sh w h (suc r) g high (over-low g m))
 
-    pub rises : (x : Found) → x ≡ first_of (keep (λ g. onto (λ k. get_or cells (first_at sh r + k) 0) (list_at w (subs_word (first_at sh (suc r)) e)) (list_at w (subs_word (first_at sh (suc r)) 0 + 4 * g)))
+    pub rises : (x : Option ℕ) → x ≡ first_of (keep (λ g. onto (λ k. get_or cells (first_at sh r + k) 0) (list_at w (subs_word (first_at sh (suc r)) e)) (list_at w (subs_word (first_at sh (suc r)) 0 + 4 * g)))
         (list_at w (sups_word (first_at sh r) y))) → x ≡ rises_to (abs_in sh w) (λ k. get_or cells (first_at sh r + k) 0) r e
     unfolding rises_to
     rises x q =

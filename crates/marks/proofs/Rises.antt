@@ -1,5 +1,6 @@
 -- The mark's clause on elements goes up rank by rank: an element goes to the one whose subs are the images of its own, if there is one.
 -- Assumes nothing.
+use Rattle.std.specs.Prelude.{Some}
 use mathlib.Core.Path.{◌≡◌, refl, sym, ◌∙◌, ap, subst}
 use mathlib.Core.Logic.{inl, inr}
 use Prim.Native.Nat.{ℕ, suc, ◌<◌}
@@ -20,7 +21,6 @@ use Rattle.laws.proofs.Counts.{lists, keep_in, in_keep}
 use Rattle.laws.proofs.Carry.{rising_once}
 use Rattle.laws.proofs.FlagList.{join_in, in_join}
 use Rattle.laws.proofs.Marked.{in_order_lem, of_order, order_same, goes-proper, goes_improper, goes-vertices, set-place, Permutes, row_low, goes-apart, fit_of}
-use Rattle.points.specs.declared.Found.TheVariants.{At}
 use Rattle.points.specs.Finding.{first_of}
 use Rattle.ranked.proofs.Between.{sup_means, means_sup}
 use Rattle.marks.specs.Rises.{onto, rises_to, Reached}
@@ -98,7 +98,7 @@ module _ (s : Solid) (ok : Sound s) (filled : (r e : ℕ) → e < size s (suc r)
       go (x ∷ []) n r b = let z : x ≡ 0 = omega (arith, b x (inl refl)) in rw z
       go (x ∷ (y ∷ l)) n r b = absurd (omega (arith, b y (inr (inl refl)), r.0))
 
-  pub vertex_reached : Proper s 1 → Once (vertex_sets s 1) → (v : ℕ) → v < size s 1 → Reached s cls row 1 v (At (get_or row v 0))
+  pub vertex_reached : Proper s 1 → Once (vertex_sets s 1) → (v : ℕ) → v < size s 1 → Reached s cls row 1 v (Some (get_or row v 0))
   vertex_reached p o v h =
       let g = vertex_goes p o v h in
       let k = row_low s row a v h in
@@ -147,7 +147,7 @@ module _ (s : Solid) (ok : Sound s) (filled : (r e : ℕ) → e < size s (suc r)
           (λ x y i j z. let hx = ok.below (suc q) e x i in goes-apart s row a (suc q) x y p o hx (ok.below (suc q) e y j) (low x hx) z)
           (rising_once (subs s (suc (suc q)) e) (ok.rising (suc (suc q)) e)))
 
-      found : (g : ℕ) → g < size s (suc (suc q)) → onto to (subs s (suc (suc q)) e) (subs s (suc (suc q)) g) ≡ true → Reached s cls row (suc (suc q)) e (At g)
+      found : (g : ℕ) → g < size s (suc (suc q)) → onto to (subs s (suc (suc q)) e) (subs s (suc (suc q)) g) ≡ true → Reached s cls row (suc (suc q)) e (Some g)
       found g k t =
           let h : SameNumbers (subs s (suc (suc q)) g) (map (goes s row (suc q)) (subs s (suc (suc q)) e)) = rw images at (onto_same to (subs s (suc (suc q)) e) (subs s (suc (suc q)) g) once t) in
           let z : goes s row (suc (suc q)) e ≡ g = goes-proper s row (suc (suc q)) e p' ∙ ap (λ (l : List ℕ). place eq_list l (vertex_sets s (suc (suc q)))) (sym (up e g h)) ∙ set-place s (suc (suc q)) o' g k in

@@ -2,7 +2,7 @@
 -- Assumes nothing.
 use mathlib.Core.Path.{◌≡◌, refl, sym, ◌∙◌, ap}
 use Prim.Native.Nat.{ℕ, zero, suc, ◌+◌, ◌≤◌, ◌<◌}
-use mathlib.Core.Bool.{true, false}
+use mathlib.Core.Bool.{Bool, true, false, false≢true}
 use mathlib.Core.List.{List, [], ◌∷◌}
 use native.Mathlib.Omega.{arith}
 use native.Mathlib.Decide.{ℕ_discrete}
@@ -60,74 +60,63 @@ permutes-vertices s row full e = let p = permuted row e in record { full = full;
 -- ---- the loop
 
 -- The first k entries were met, and they are marked.
-pub record Seen (row seen : List ℕ) (n k : ℕ) : Type 0 where
-  pub n_is : n ≡ length row
-  pub room : n ≤ length seen
-  pub bound : k ≤ n
-  pub back : (v : ℕ) → get_or seen v 0 ≡ 1 → (j : ℕ) × (j < k) × (get_or row j 0 ≡ v)
-  pub there : (j : ℕ) → j < k → (get_or row j 0 < n) × (get_or seen (get_or row j 0) 0 ≡ 1)
+pub record Seen (row : List ℕ) (seen : List Bool) (k : ℕ) : Type 0 where
+  pub room : length row ≤ length seen
+  pub back : (v : ℕ) → get_or seen v false ≡ true → (j : ℕ) × (j < k) × (get_or row j 0 ≡ v)
+  pub there : (j : ℕ) → j < k → (get_or row j 0 < length row) × (get_or seen (get_or row j 0) false ≡ true)
   pub apart : (i j : ℕ) → i < j → j < k → get_or row i 0 ≡ get_or row j 0 → ⊥
 
-zeros : (m v : ℕ) → get_or {A = ℕ} (replicate m 0) v 0 ≡ 0
-zeros zero v = refl
-zeros (suc m) zero = refl
-zeros (suc m) (suc v) = zeros m v
+unmarked : (m v : ℕ) → get_or {A = Bool} (replicate m false) v false ≡ false
+unmarked zero v = refl
+unmarked (suc m) zero = refl
+unmarked (suc m) (suc v) = unmarked m v
 
-pub seen_none : (row : List ℕ) (m : ℕ) → length row ≤ m → Seen row (replicate m 0) (length row) 0
+pub seen_none : (row : List ℕ) (m : ℕ) → length row ≤ m → Seen row (replicate m false) 0
 seen_none row m h = record {
-  n_is = refl;
   room = rw length-replicate h;
-  bound = omega arith;
-  back = λ v e. absurd (omega (arith, zeros m v));
+  back = λ v e. absurd (false≢true (sym (unmarked m v) ∙ e));
   there = λ j h. absurd (omega arith);
   apart = λ i j p q e. omega arith;
 }
 
-module _ {row seen : List ℕ} {n k : ℕ} (a : Seen row seen n k) (v : ℕ) (is : v ≡ get_or row k 0) where
-  pub seen_next : k < n → v < n → (get_or seen v 0 ≡ 1 → ⊥) → Seen row (set seen v 1) n (k + 1)
-  seen_next more low new = record {
-    n_is = a.n_is;
+module _ {row : List ℕ} {seen : List Bool} {k : ℕ} (a : Seen row seen k) (v : ℕ) (is : v ≡ get_or row k 0) (inside : k < length row) where
+  pub seen_next : v < length row → get_or seen v false ≡ false → Seen row (set seen v true) (k + 1)
+  seen_next low new = record {
     room = rw length-set a.room;
-    bound = omega arith;
     back = λ u e. go_back u e (ℕ_discrete v u);
     there = λ j h. go_there j h (ℕ_discrete j k);
     apart = λ i j p q e. go_apart i j p q e (ℕ_discrete j k);
   }
     where
-      here : get_or (set seen v 1) v 0 ≡ 1
-      here = get_or-set_same seen v 1 0 (omega (arith, a.room))
+      here : get_or (set seen v true) v false ≡ true
+      here = get_or-set_same seen v true false (omega (arith, a.room))
 
-      go_back : (u : ℕ) → get_or (set seen v 1) u 0 ≡ 1 → Dec (v ≡ u) → (j : ℕ) × (j < k + 1) × (get_or row j 0 ≡ u)
+      go_back : (u : ℕ) → get_or (set seen v true) u false ≡ true → Dec (v ≡ u) → (j : ℕ) × (j < k + 1) × (get_or row j 0 ≡ u)
       go_back u e (yes q) = (k, omega arith, sym is ∙ q)
-      go_back u e (no q) = let b = a.back u (sym (get_or-set_other seen v u 1 0 (λ z. q (sym z))) ∙ e) in (b.0, omega (arith, b.1), b.2)
+      go_back u e (no q) = let b = a.back u (sym (get_or-set_other seen v u true false (λ z. q (sym z))) ∙ e) in (b.0, omega (arith, b.1), b.2)
 
-      go_there : (j : ℕ) → j < k + 1 → Dec (j ≡ k) → (get_or row j 0 < n) × (get_or (set seen v 1) (get_or row j 0) 0 ≡ 1)
+      go_there : (j : ℕ) → j < k + 1 → Dec (j ≡ k) → (get_or row j 0 < length row) × (get_or (set seen v true) (get_or row j 0) false ≡ true)
       go_there j h (yes q) = let z : get_or row j 0 ≡ v = ap (λ (i : ℕ). get_or row i 0) q ∙ sym is in rw z (low, here)
       go_there j h (no q) =
           let b = a.there j (omega arith) in
-          (b.0, get_or-set_other seen v (get_or row j 0) 1 0 (λ z. new (ap (λ (x : ℕ). get_or seen x 0) (sym z) ∙ b.1)) ∙ b.1)
+          (b.0, get_or-set_other seen v (get_or row j 0) true false (λ z. false≢true (sym new ∙ ap (λ (x : ℕ). get_or seen x false) (sym z) ∙ b.1)) ∙ b.1)
 
       go_apart : (i j : ℕ) → i < j → j < k + 1 → get_or row i 0 ≡ get_or row j 0 → Dec (j ≡ k) → ⊥
       go_apart i j p q e (no z) = a.apart i j p (omega arith) e
       go_apart i j p q e (yes z) =
           let w : get_or row i 0 ≡ v = e ∙ ap (λ (x : ℕ). get_or row x 0) z ∙ sym is in
-          new (ap (λ (x : ℕ). get_or seen x 0) (sym w) ∙ (a.there i (omega arith)).1)
+          false≢true (sym new ∙ ap (λ (x : ℕ). get_or seen x false) (sym w) ∙ (a.there i (omega arith)).1)
 
-  inside : k < n → k < length row
-  inside h = omega (arith, a.n_is)
+  pub seen_high : length row ≤ v → false ≡ permutes row
+  seen_high p = sym (not_passed (permutes row) (λ e. omega (arith, (permuted row e).low (get_or row k 0) (in_get_d 0 row k inside), is)))
 
-  pub seen_high : k < n → n ≤ v → false ≡ permutes row
-  seen_high h p = sym (not_passed (permutes row) (λ e. omega (arith, (permuted row e).low (get_or row k 0) (in_get_d 0 row k (inside h)), a.n_is, is)))
-
-  pub seen_twice : k < n → get_or seen v 0 ≡ 1 → false ≡ permutes row
-  seen_twice h e =
+  pub seen_twice : get_or seen v false ≡ true → false ≡ permutes row
+  seen_twice e =
       sym (not_passed (permutes row) (λ t. let b = a.back v e in
-      omega (arith, b.1, same_place row (permuted row t).once b.0 k (omega (arith, b.1, inside h)) (inside h) (b.2 ∙ is))))
+      omega (arith, b.1, same_place row (permuted row t).once b.0 k (omega (arith, b.1, inside)) inside (b.2 ∙ is))))
 
-pub seen_all : {row seen : List ℕ} {n k : ℕ} → Seen row seen n k → n ≤ k → true ≡ permutes row
+pub seen_all : {row : List ℕ} {seen : List Bool} {k : ℕ} → Seen row seen k → length row ≤ k → true ≡ permutes row
 seen_all {row} a h =
-    let m = a.n_is in
-    let b = a.bound in
     sym (permutes-of row (record {
       low = λ v i. let p = in_place 0 v row i in let t = a.there p.0 (omega (arith, p.1)) in omega (arith, t.0, p.2);
       once = once_of row (λ i j p q e. a.apart i j p (omega arith) e);

@@ -15,14 +15,14 @@ ghost use Rattle.ranked.specs.Reading.{Lies, Each};
 ghost use Rattle.marks.specs.Rises.{onto, rises_to, Reached, Landed};
 ghost use Rattle.marks.specs.Rows.{permutes, classes_on, carries_rank, ClassesIn, ClassesOf, Row, Images, Rank};
 
-use geometry::classes;
-use points::{Found, cell};
-use ranked::{Shape, lists};
+use geometry::classes::same_class;
+use ranked::Shape;
+use ranked::lists::{count_at, entries_at, entry_at, holds_at, list_word};
 use spec::MAX_COUNT;
 
 pub mod products;
 
-// This is the mark of a confirmed row: "The mark (added) is confirmed, 1".
+// This is the mark of a confirmed row: "The mark (added) is confirmed, 1". A mark is a number and no bool, since it is a cell of an output that C lends.
 const CONFIRMED: u8 = 1;
 
 // Tells whether the row holds only numbers of vertices, and none of them twice. A rank has at most 2,048 elements.
@@ -30,19 +30,13 @@ fn is_permutation(row: &[u16]) -> bool
     requires { length row.now ≤ max_count }
     ensures { result ≡ permutes row.now }
 {
-    let mut seen = [0u8; MAX_COUNT];
-    let n = row.len();
-    let mut k: usize = 0;
-    while k < n {
-        let v = cell(row, k);
-        if n <= v {
+    let mut seen = [false; MAX_COUNT];
+    for &v in row {
+        let v = usize::from(v);
+        if row.len() <= v || seen[v] {
             return false;
         }
-        if seen[v] == 1 {
-            return false;
-        }
-        seen[v] = 1;
-        k += 1;
+        seen[v] = true;
     }
     true
 }
@@ -53,15 +47,11 @@ fn lands(lists: &[u32], goes: &[u16], base: usize, i: usize, j: usize) -> bool
     requires by_index { (f : ℕ) → In f (list_at lists.now i) → base + f < length goes.now }
     ensures { result ≡ every (λ f. holds eqb (get_or goes.now (base + f) 0) (list_at lists.now j)) (list_at lists.now i) }
 {
-    let n = lists::count_at(lists, i);
-    let mut k: usize = 0;
-    while k < n {
-        let f = lists::entry_at(lists, i, k);
-        let x = cell(goes, base + f);
-        if !lists::holds_at(lists, j, x) {
+    for &f in entries_at(lists, i) {
+        let x = usize::from(goes[base + f as usize]);
+        if !holds_at(lists, j, x) {
             return false;
         }
-        k += 1;
     }
     true
 }
@@ -72,36 +62,36 @@ fn is_onto(lists: &[u32], goes: &[u16], base: usize, i: usize, j: usize) -> bool
     requires by_index { (f : ℕ) → In f (list_at lists.now i) → base + f < length goes.now }
     ensures { result ≡ onto (λ f. get_or goes.now (base + f) 0) (list_at lists.now i) (list_at lists.now j) }
 {
-    if lists::count_at(lists, i) != lists::count_at(lists, j) {
-        return false;
-    }
-    lands(lists, goes, base, i, j)
+    count_at(lists, i) == count_at(lists, j) && lands(lists, goes, base, i, j)
 }
 
 // Returns the first entry g of the list at word j such that the list at word i goes exactly onto the list of g, which is found by the word `up` of the
 // first element of g's rank.
-fn first_onto(lists: &[u32], goes: &[u16], base: usize, i: usize, j: usize, up: usize) -> Found
+fn first_onto(
+    lists: &[u32],
+    goes: &[u16],
+    base: usize,
+    i: usize,
+    j: usize,
+    up: usize,
+) -> Option<usize>
     requires lies { Lies lists.now i × Lies lists.now j × Each lists.now j up }
     requires by_index { (f : ℕ) → In f (list_at lists.now i) → base + f < length goes.now }
     ensures { result
         ≡ first_of (keep (λ g. onto (λ f. get_or goes.now (base + f) 0) (list_at lists.now i) (list_at lists.now (list_word up g)))
         (list_at lists.now j)) }
 {
-    let n = lists::count_at(lists, j);
-    let mut k: usize = 0;
-    while k < n {
-        let g = lists::entry_at(lists, j, k);
-        let at = lists::list_word(up, g);
-        if is_onto(lists, goes, base, i, at) {
-            return Found::At(g);
+    for &g in entries_at(lists, j) {
+        let g = g as usize;
+        if is_onto(lists, goes, base, i, list_word(up, g)) {
+            return Some(g);
         }
-        k += 1;
     }
-    Found::Nothing
+    None
 }
 
 // Tells where element e of rank r + 1 goes, by where the elements of rank r go.
-fn rise(lists: &[u32], sh: Shape, goes: &[u16], r: usize, e: usize) -> Found
+fn rise(lists: &[u32], sh: Shape, goes: &[u16], r: usize, e: usize) -> Option<usize>
     requires held { Held sh lists.now }
     requires r_bound { (suc r ≤ sh.rank) × (e < size_at sh (suc r)) × (total sh ≤ length goes.now) }
     requires by_index { (f : ℕ) → f < size_at sh r → get_or goes.now (first_at sh r + f) 0 < size_at sh r }
@@ -109,23 +99,24 @@ fn rise(lists: &[u32], sh: Shape, goes: &[u16], r: usize, e: usize) -> Found
 {
     let base = sh.start(r);
     let i = sh.subs(r + 1, e);
-    let f = lists::entry_at(lists, i, 0);
-    let y = cell(goes, base + f);
+    let f = entry_at(lists, i, 0);
+    let y = usize::from(goes[base + f]);
     let j = sh.sups(r, y);
     let up = sh.subs(r + 1, 0);
     first_onto(lists, goes, base, i, j, up)
 }
 
 // Tells where element e of rank r goes. A vertex goes where the row says, and any other element where its subs go.
-fn reach(lists: &[u32], sh: Shape, row: &[u16], goes: &[u16], r: usize, e: usize) -> Found
+fn reach(lists: &[u32], sh: Shape, row: &[u16], goes: &[u16], r: usize, e: usize) -> Option<usize>
     requires row { Row sh lists.now row.now }
     requires rank { Rank sh lists.now row.now goes.now r × (e < size_at sh r) }
     ensures { (cls : Classes) → Reached (abs_in sh lists.now) cls row.now r e result }
 {
     if r == 1 {
-        return Found::At(cell(row, e));
+        Some(usize::from(row[e]))
+    } else {
+        rise(lists, sh, goes, r - 1, e)
     }
-    rise(lists, sh, goes, r - 1, e)
 }
 
 // Tells where element e of rank r goes if it is carried, which is to an element of its class. The cells hold the classes of the rank's elements.
@@ -137,19 +128,18 @@ fn image_of(
     goes: &[u16],
     r: usize,
     e: usize,
-) -> Found
+) -> Option<usize>
     requires row { Row sh lists.now row.now × (size_at sh r ≤ length cells.now) }
     requires rank { Rank sh lists.now row.now goes.now r × (e < size_at sh r) }
     ensures { (cls : Classes) → ClassesOf cls r (size_at sh r) cells.now
         → Landed (abs_in sh lists.now) cls row.now r e result }
 {
-    let Found::At(x) = reach(lists, sh, row, goes, r, e) else {
-        return Found::Nothing;
-    };
-    if classes::same_class(cells[x], cells[e]) {
-        return Found::At(x);
+    let x = reach(lists, sh, row, goes, r, e)?;
+    if same_class(cells[x], cells[e]) {
+        Some(x)
+    } else {
+        None
     }
-    Found::Nothing
 }
 
 // Tells whether every element of rank r is carried. If so, `goes` says where each goes.
@@ -170,13 +160,11 @@ fn carry_rank(
     let n = sh.size(r);
     let from = sh.class(r, 0);
     let cells = &floats[from..];
-    let mut e: usize = 0;
-    while e < n {
-        let Found::At(x) = image_of(lists, sh, cells, row, goes, r, e) else {
+    for e in 0..n {
+        let Some(x) = image_of(lists, sh, cells, row, goes, r, e) else {
             return false;
         };
         goes[base + e] = x as u16;
-        e += 1;
     }
     true
 }
@@ -188,12 +176,10 @@ fn carry_all(lists: &[u32], sh: Shape, floats: &[f64], row: &[u16], goes: &mut [
         ≡ every (carries_rank sh lists.now floats.now row.now) (proper_ranks (abs_in sh lists.now)) }
 {
     let rank = sh.rank;
-    let mut r: usize = 1;
-    while r < rank {
+    for r in 1..rank {
         if !carry_rank(lists, sh, floats, row, goes, r) {
             return false;
         }
-        r += 1;
     }
     true
 }
@@ -213,14 +199,9 @@ pub fn mark(
     requires row_len { (length row.now ≡ size_at sh 1) × (total sh ≤ length goes.old) }
     ensures { result ≡ mark_of (abs_in sh lists.now) (classes_on sh lists.now floats.now) row.now }
 {
-    if !apart {
-        return 0;
+    if apart && is_permutation(row) && carry_all(lists, sh, floats, row, goes) {
+        CONFIRMED
+    } else {
+        0
     }
-    if !is_permutation(row) {
-        return 0;
-    }
-    if !carry_all(lists, sh, floats, row, goes) {
-        return 0;
-    }
-    CONFIRMED
 }

@@ -1,146 +1,101 @@
 // This module gives the marks of a list of rows. A row that is the product of two confirmed rows is confirmed, because the symmetries of a solid are
 // a group. So nearly every row of a search is settled by comparing it with a product, and only the others are followed element by element.
-ghost use Rattle.std.specs.Prelude.{◌≡◌, true, [], ◌∷◌, ◌+◌, ◌*◌, ◌≤◌, ◌<◌, length};
+ghost use Rattle.std.specs.Prelude.{◌≡◌, true, ◌+◌, ◌*◌, ◌≤◌, ◌<◌, length};
 ghost use Rattle.spec.specs.Limits.{max_count, max_elements};
 ghost use Rattle.spec.specs.Mark.{sets_apart};
-ghost use Rattle.spec.specs.Lists.{parts, written};
+ghost use Rattle.spec.specs.Lists.{parts};
 ghost use Rattle.spec.specs.Search.{mark_of};
 ghost use Rattle.spec.specs.Demand3Calls.{row_at};
 ghost use Rattle.ranked.specs.Words.{size_at, abs_in};
 ghost use Rattle.ranked.specs.Layout.{solid_on};
 ghost use Rattle.marks.specs.Rows.{classes_on};
 ghost use Rattle.marks.specs.Products.{composed};
-ghost use Rattle.marks.specs.Table.{table_places, slots, SlotFound};
+ghost use Rattle.marks.specs.Table.{table_places};
 ghost use Rattle.marks.specs.Marking.{marks_in, Markable, Factored};
 
-use crate::mark;
+use crate::{CONFIRMED, mark};
 use points::lookup::{FREE, mixed, store};
-use points::{Found, wide};
 use ranked::{ELEMENTS, Shape};
 
-// The table has this many places.
+// The table has this many places. A free place holds FREE and no None, since that keeps a place at the 16 bits that every table of `points::lookup` has.
 const PLACES: usize = 16384;
 // This many places in a row are looked at, from the first one on.
 const TRIES: usize = 4;
 // This many of a row's first entries decide its place.
 const ENTRIES: usize = 8;
-// There are this many slots. Each but slot 0 has room for one generator; slot 0 holds the places of a row's own first entries.
-const SLOTS: usize = 16;
-// A slot has this many cells, for its generator's number and then the places.
-const WIDTH: usize = ENTRIES + 1;
-// All slots have this many cells.
-const CELLS: usize = SLOTS * WIDTH;
+// These are the places of a row's own first entries.
+const FIRST: [u16; ENTRIES] = [0, 1, 2, 3, 4, 5, 6, 7];
+// There is room for this many generators.
+const GENERATORS: usize = 15;
 
 // For fewer rows than this no table is made, since it would cost more than it saves.
 const FEW: usize = 16;
 
+// A generator is a confirmed row, given by its number, together with the places of the vertices 0 to 7 in it. So the first entries of the other factor
+// are known, and a table finds the rows that have them. A wrong guess costs only time, so nothing is promised of what the table and the generators are.
+#[derive(Clone, Copy)]
+struct Generator {
+    row: usize,
+    places: [u16; ENTRIES],
+}
+
+impl Generator {
+    // Makes a generator of row k. The place of a vertex that the row has not is past every row's end.
+    fn of(row: &[u16], k: usize) -> Generator
+        requires { length row.now ≤ max_count }
+    {
+        let mut places = [u16::MAX; ENTRIES];
+        for (p, &x) in row.iter().enumerate() {
+            let x = usize::from(x);
+            if x < ENTRIES {
+                places[x] = p as u16;
+            }
+        }
+        Generator { row: k, places }
+    }
+}
+
 // Returns row k of rows that have v entries each, as the part of the slice that holds it.
 fn row_at(rows: &[u16], v: usize, k: usize) -> &[u16]
     requires { k * v + v ≤ length rows.now }
-    ensures { result.now ≡ row_at v k rows.now }
+    ensures value { result.now ≡ row_at v k rows.now }
+    ensures len { length result.now ≡ v }
 {
     let start = k * v;
     let end = start + v;
     &rows[start..end]
 }
 
-// The next functions keep what says where to look for the factors of a row. Some confirmed rows are generators. Beside each generator stand the
-// places of the vertices 0 to 7 in it, so that the first entries of the other factor are known, and a table finds the rows that have them. A
-// wrong guess costs only time, so nothing is promised of what the table and the generators are.
-
-// Returns the entry at p, or 0 where p is past the end.
-fn entry(row: &[u16], p: usize) -> u16 {
-    if p < row.len() {
-        return row[p];
-    }
-    0
-}
-
-// Returns the first place for the row whose first entries are those that this row has where slot j says.
-fn place(row: &[u16], cells: &[u16; CELLS], j: usize) -> usize
-    requires { j < slots }
+// Returns the first place for the row whose first entries are those that this row has at these places. An entry past the end counts as 0.
+fn place(row: &[u16], places: &[u16; ENTRIES]) -> usize
     ensures { result < table_places }
 {
     let mut h: u64 = 0;
-    let mut i: usize = 0;
-    while i < ENTRIES {
-        let p = wide(cells[WIDTH * j + 1 + i]);
-        h = mixed(h, entry(row, p) as u64) / 0x10_0000;
-        i += 1;
+    for &p in places {
+        let entry = row.get(usize::from(p)).copied().unwrap_or(0);
+        h = mixed(h, u64::from(entry)) / 0x10_0000;
     }
     (h % PLACES as u64) as usize
 }
 
-// Adds the row, which has number k and mark m, to the table, if the mark confirms it.
-fn keep(row: &[u16], k: usize, m: u8, cells: &[u16; CELLS], guesses: &mut [u16; PLACES]) {
-    if m != 1 {
-        return;
-    }
-    if wide(FREE) <= k {
-        return;
-    }
-    let from = place(row, cells, 0);
-    store(guesses, from, TRIES, k);
-}
-
-// Returns the slots before there is any generator.
-fn none() -> [u16; CELLS] {
-    let mut cells = [FREE; CELLS];
-    let mut i: usize = 0;
-    while i < ENTRIES {
-        cells[1 + i] = i as u16;
-        i += 1;
-    }
-    cells
-}
-
-// Returns the first free slot after slot 0.
-fn free_slot(cells: &[u16; CELLS]) -> Found
-    ensures { SlotFound result }
-{
-    let mut j: usize = 1;
-    while j < SLOTS {
-        if cells[WIDTH * j] == FREE {
-            return Found::At(j);
-        }
-        j += 1;
-    }
-    Found::Nothing
-}
-
-// Writes the places of the first vertices in the row to slot j.
-fn note(row: &[u16], cells: &mut [u16; CELLS], j: usize)
-    requires { (j < slots) × (length row.now ≤ max_count) }
-{
-    let mut p: usize = 0;
-    while p < row.len() {
-        let x = wide(row[p]);
-        if x < ENTRIES {
-            cells[WIDTH * j + 1 + x] = p as u16;
-        }
-        p += 1;
+// Adds a confirmed row, which has number k, to the table.
+fn keep(row: &[u16], k: usize, guesses: &mut [u16; PLACES]) {
+    if k < usize::from(FREE) {
+        store(guesses, place(row, &FIRST), TRIES, k);
     }
 }
 
-// Adds the row, which has number k and mark m, to the generators, if the mark confirms it and there is a free slot. Row 0 is nearly always the
-// identity, which makes no new product, so it is left out.
-fn join(row: &[u16], k: usize, m: u8, cells: &mut [u16; CELLS])
+// Adds a confirmed row, which has number k, to the generators, if there is room. Row 0 is nearly always the identity, which makes no new product, so it
+// is left out.
+fn join(row: &[u16], k: usize, generators: &mut [Option<Generator>; GENERATORS])
     requires { length row.now ≤ max_count }
 {
-    if m != 1 {
-        return;
-    }
     if k == 0 {
         return;
     }
-    if wide(FREE) <= k {
-        return;
+    if let Some(j) = generators.iter().position(|g| g.is_none()) {
+        generators[j] = Some(Generator::of(row, k));
     }
-    let Found::At(j) = free_slot(cells) else {
-        return;
-    };
-    cells[WIDTH * j] = k as u16;
-    note(row, cells, j);
 }
 
 // Tells whether the row is the product of g and then a.
@@ -148,19 +103,9 @@ fn is_product(row: &[u16], a: &[u16], g: &[u16]) -> bool
     requires { (length row.now ≡ length g.now) × (length a.now ≡ length g.now) }
     ensures { result ≡ true → row.now ≡ composed a.now g.now }
 {
-    let v = row.len();
-    let mut p: usize = 0;
-    while p < v {
-        let x = wide(g[p]);
-        if v <= x {
-            return false;
-        }
-        if row[p] != a[x] {
-            return false;
-        }
-        p += 1;
-    }
-    true
+    row.iter()
+        .zip(g)
+        .all(|(x, p)| a.get(usize::from(*p)) == Some(x))
 }
 
 // Tells whether the row after those that have the marks `done` is the product of row g and then row a, both of which are confirmed.
@@ -169,42 +114,30 @@ fn is_factored(rows: &[u16], v: usize, done: &[u8], g: usize, a: usize) -> bool
     ensures { result ≡ true → Factored v rows.now done.now }
 {
     let k = done.len();
-    if k <= g {
-        return false;
-    }
-    if k <= a {
-        return false;
-    }
-    if done[g] != 1 {
-        return false;
-    }
-    if done[a] != 1 {
-        return false;
-    }
-    is_product(row_at(rows, v, k), row_at(rows, v, a), row_at(rows, v, g))
+    g < k
+        && a < k
+        && done[g] == CONFIRMED
+        && done[a] == CONFIRMED
+        && is_product(row_at(rows, v, k), row_at(rows, v, a), row_at(rows, v, g))
 }
 
-// Tells whether that row is found to be the product of the generator of slot j and then a row of the table.
+// Tells whether that row is found to be the product of the generator and then a row of the table.
 fn is_met(
     rows: &[u16],
     v: usize,
     done: &[u8],
     guesses: &[u16; PLACES],
-    cells: &[u16; CELLS],
-    j: usize,
+    generator: &Generator,
 ) -> bool
-    requires { (length done.now * v + v ≤ length rows.now) × (j < slots) }
+    requires { length done.now * v + v ≤ length rows.now }
     ensures { result ≡ true → Factored v rows.now done.now }
 {
-    let g = wide(cells[WIDTH * j]);
-    let from = place(row_at(rows, v, done.len()), cells, j);
-    let mut i: usize = 0;
-    while i < TRIES {
-        let a = wide(guesses[(from + i) % PLACES]);
-        if is_factored(rows, v, done, g, a) {
+    let from = place(row_at(rows, v, done.len()), &generator.places);
+    for i in 0..TRIES {
+        let a = usize::from(guesses[(from + i) % PLACES]);
+        if is_factored(rows, v, done, generator.row, a) {
             return true;
         }
-        i += 1;
     }
     false
 }
@@ -215,22 +148,15 @@ fn is_known(
     v: usize,
     done: &[u8],
     guesses: &[u16; PLACES],
-    cells: &[u16; CELLS],
+    generators: &[Option<Generator>; GENERATORS],
 ) -> bool
     requires { length done.now * v + v ≤ length rows.now }
     ensures { result ≡ true → Factored v rows.now done.now }
 {
-    let mut j: usize = 1;
-    while j < SLOTS {
-        if cells[WIDTH * j] == FREE {
-            return false;
-        }
-        if is_met(rows, v, done, guesses, cells, j) {
-            return true;
-        }
-        j += 1;
-    }
-    false
+    generators
+        .iter()
+        .flatten()
+        .any(|generator| is_met(rows, v, done, guesses, generator))
 }
 
 // Returns the mark of the row after those that have the marks `done`. A row that has to be followed element by element, and is confirmed, becomes a
@@ -243,7 +169,7 @@ fn mark_next(
     goes: &mut [u16],
     done: &[u8],
     guesses: &[u16; PLACES],
-    cells: &mut [u16; CELLS],
+    generators: &mut [Option<Generator>; GENERATORS],
 ) -> u8
     requires markable { Markable sh lists.now floats.now (length goes.old) × (sets_apart (abs_in sh lists.now) ≡ true) }
     requires sh_in_bounds { length done.now * size_at sh 1 + size_at sh 1 ≤ length rows.now }
@@ -252,22 +178,16 @@ fn mark_next(
         (row_at (size_at sh 1) (length done.now) rows.now) }
 {
     let v = sh.vertices();
-    if is_known(rows, v, done, guesses, cells) {
-        return 1;
+    if is_known(rows, v, done, guesses, generators) {
+        return CONFIRMED;
     }
     let k = done.len();
     let row = row_at(rows, v, k);
     let m = mark(lists, sh, floats, true, row, goes);
-    join(row, k, m, cells);
+    if m == CONFIRMED {
+        join(row, k, generators);
+    }
     m
-}
-
-// Writes a mark to the first cell of the part after the finished ones, which stay as they are.
-fn put_mark(out: &mut [u8], m: u8)
-    requires { 0 < length out.old }
-    ensures { out.new ≡ written (m ∷ []) out.old }
-{
-    out[0] = m;
 }
 
 // Marks a few rows, each element by element. `apart` says whether no two elements of a rank have one vertex set.
@@ -286,12 +206,8 @@ fn mark_few(
         ≡ marks_in (solid_on sh lists.now floats.now) (parts (length marks.old) (size_at sh 1) rows.now) }
 {
     let v = sh.vertices();
-    let n = marks.len();
-    let mut k: usize = 0;
-    while k < n {
-        let m = mark(lists, sh, floats, apart, row_at(rows, v, k), goes);
-        put_mark(&mut marks[k..], m);
-        k += 1;
+    for k in 0..marks.len() {
+        marks[k] = mark(lists, sh, floats, apart, row_at(rows, v, k), goes);
     }
 }
 
@@ -310,11 +226,9 @@ fn mark_many(
         ≡ marks_in (solid_on sh lists.now floats.now) (parts (length marks.old) (size_at sh 1) rows.now) }
 {
     let v = sh.vertices();
-    let n = marks.len();
     let mut guesses = [FREE; PLACES];
-    let mut cells = none();
-    let mut k: usize = 0;
-    while k < n {
+    let mut generators = [None; GENERATORS];
+    for k in 0..marks.len() {
         let m = mark_next(
             lists,
             sh,
@@ -323,11 +237,12 @@ fn mark_many(
             goes,
             &marks[..k],
             &guesses,
-            &mut cells,
+            &mut generators,
         );
-        put_mark(&mut marks[k..], m);
-        keep(row_at(rows, v, k), k, m, &cells, &mut guesses);
-        k += 1;
+        marks[k] = m;
+        if m == CONFIRMED {
+            keep(row_at(rows, v, k), k, &mut guesses);
+        }
     }
 }
 
@@ -347,11 +262,9 @@ pub fn mark_rows(
         ≡ marks_in (solid_on sh lists.now floats.now) (parts (length marks.old) (size_at sh 1) rows.now) }
 {
     let mut goes = [0u16; ELEMENTS];
-    if apart {
-        if FEW <= marks.len() {
-            mark_many(lists, sh, floats, rows, &mut goes, marks);
-            return;
-        }
+    if apart && FEW <= marks.len() {
+        mark_many(lists, sh, floats, rows, &mut goes, marks);
+    } else {
+        mark_few(lists, sh, floats, apart, rows, &mut goes, marks);
     }
-    mark_few(lists, sh, floats, apart, rows, &mut goes, marks);
 }

@@ -1,8 +1,8 @@
 -- In the loop over the columns, what is left to eliminate gives what the whole elimination gives.
 -- Assumes nothing.
+use Rattle.std.specs.Prelude.{None, Some}
 use mathlib.Core.Path.{◌≡◌, refl, sym, ap, ap₂, ◌∙◌}
 use mathlib.Core.Bool.{Bool, true, false, not}
-use mathlib.Core.Option.{none, some}
 use mathlib.Core.List.{List, [], ◌∷◌, ◌++◌, map}
 use Prim.Native.Nat.{ℕ, suc, ◌+◌, ◌-◌, ◌%◌, ◌≤◌, ◌<◌}
 use native.Mathlib.Numerals.{add-one}
@@ -25,19 +25,19 @@ abbrev pub next_rows : Matrix → ℕ → Float → ℕ → Matrix
 next_rows a p x c = let s = swap_rows a p c in clear c (divided (row s c) x) s
 
 module _ (c : ℕ) (w : Work) (p : ℕ) (x : Float) (ep : p ≡ pivot_row w.rows c) (ex : x ≡ entry w.rows p c) where
-  column-none : eq x zero_f ≡ true → column c w ≡ none
+  column-none : eq x zero_f ≡ true → column c w ≡ None
   unfolding column
   column-none h = let k = rw (ex, ep) at h in rw (k, column)
 
-  column_some : eq x zero_f ≡ false → column c w ≡ some (record { rows = next_rows w.rows p x c; pivots = w.pivots ++ x ∷ []; swaps = elim (eqb p c) [ true ↦ w.swaps | false ↦ suc w.swaps ] })
+  column_some : eq x zero_f ≡ false → column c w ≡ Some (record { rows = next_rows w.rows p x c; pivots = w.pivots ++ x ∷ []; swaps = elim (eqb p c) [ true ↦ w.swaps | false ↦ suc w.swaps ] })
   unfolding column
   column_some h = let k = rw (ex, ep) at h in rw (ex, ep, k, column)
 
-eliminate-none : (c : ℕ) (cs : List ℕ) (w : Work) → column c w ≡ none → eliminate (c ∷ cs) w ≡ none
+eliminate-none : (c : ℕ) (cs : List ℕ) (w : Work) → column c w ≡ None → eliminate (c ∷ cs) w ≡ None
 unfolding eliminate
 eliminate-none c cs w e = rw (e, eliminate)
 
-eliminate_some : (c : ℕ) (cs : List ℕ) (w v : Work) → column c w ≡ some v → eliminate (c ∷ cs) w ≡ eliminate cs v
+eliminate_some : (c : ℕ) (cs : List ℕ) (w v : Work) → column c w ≡ Some v → eliminate (c ∷ cs) w ≡ eliminate cs v
 unfolding eliminate
 eliminate_some c cs w v e = rw (e, eliminate)
 
@@ -93,7 +93,7 @@ module _ {d : ℕ} {a₀ a : Matrix} {t : Float} {odd : Bool} {c : ℕ} (r : Col
   turn h = let k : d - c ≡ suc (d - suc c) = omega arith in rw (add-one c) (rw k at r.left)
 
   module _ (h : c < d) (p : ℕ) (x : Float) (ep : p ≡ pivot_row a c) (ex : x ≡ entry a p c) where
-    pub stop : eq x zero_f ≡ true → eliminate (range 0 d) (begin a₀) ≡ none
+    pub stop : eq x zero_f ≡ true → eliminate (range 0 d) (begin a₀) ≡ None
     stop e = sym (turn h) ∙ eliminate-none c _ work (column-none c work p x ep ex e)
 
     pub next : (b : Matrix) (u : Float) (o : Bool) → eq x zero_f ≡ false → b ≡ next_rows a p x c →
@@ -107,7 +107,7 @@ module _ {d : ℕ} {a₀ a : Matrix} {t : Float} {odd : Bool} {c : ℕ} (r : Col
       left = rw eb (sym (eliminate_some c _ work _ (column_some c work p x ep ex e)) ∙ turn h);
     }
 
-  pub end : d ≤ c → eliminate (range 0 d) (begin a₀) ≡ some work
+  pub end : d ≤ c → eliminate (range 0 d) (begin a₀) ≡ Some work
   unfolding eliminate range
   end h = let k : d - c ≡ 0 = omega arith in sym (rw k at r.left)
 
@@ -121,16 +121,16 @@ module _ (d : ℕ) (m : List (List Float)) (h : d ≤ length m) (a₀ : Matrix) 
   unfolding gauss_jordan
   begins = rw (length-corner d m h, e₀)
 
-  pub inverse-none : eliminate (range 0 d) (begin a₀) ≡ none → none ≡ inverse (corner d m)
+  pub inverse-none : eliminate (range 0 d) (begin a₀) ≡ None → None ≡ inverse (corner d m)
   unfolding inverse
   inverse-none e = rw (begins ∙ e, inverse)
 
-  pub determinant-none : eliminate (range 0 d) (begin a₀) ≡ none → zero_f ≡ determinant (corner d m)
+  pub determinant-none : eliminate (range 0 d) (begin a₀) ≡ None → zero_f ≡ determinant (corner d m)
   unfolding determinant
   determinant-none e = rw (begins ∙ e, determinant)
 
   module _ {a : Matrix} {t : Float} {odd : Bool} {c : ℕ} (k : d ≤ c) (r : ColumnsDone d a₀ a t odd c) where
-    pub inverse-end : some (map (drop d) a) ≡ inverse (corner d m)
+    pub inverse-end : Some (map (drop d) a) ≡ inverse (corner d m)
     unfolding inverse
     inverse-end = rw (begins ∙ end r k, inverse, length-corner d m h)
 

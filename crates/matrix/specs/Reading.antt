@@ -1,8 +1,7 @@
 -- This file says how arrays of arrays are read as matrices, and what the cells that no entry needs hold. A d by d matrix is the leading part of an
 -- array of arrays.
 -- Assumes nothing.
-use Rattle.std.specs.Prelude.{Bool, true, false, List, [], ◌++◌, map, ℕ, ◌+◌, ◌-◌, take, length, replicate, Float}
-use Rattle.std.proofs.Math.Option.{Option, none, some}
+use Rattle.std.specs.Prelude.{List, ◌++◌, map, ℕ, ◌+◌, ◌-◌, take, length, replicate, Float}
 use Rattle.spec.specs.Limits.{max_dimension}
 use Rattle.spec.specs.Float.{zero_f}
 use Rattle.spec.specs.Matrix.{Matrix}
@@ -23,13 +22,3 @@ corner d m = leading d d m
 -- Puts a matrix into an array of arrays: its rows stand first, each padded, and rows of +0.0 after them.
 unfoldable pub padded_rows : Matrix → List (List Float)
 padded_rows m = map padded m ++ replicate (max_dimension - length m) (replicate max_dimension zero_f)
-
--- Gives the matrix, if the answer beside it says that there is one.
-unfoldable pub if_regular : Bool → Matrix → Option Matrix
-if_regular true m = some m
-if_regular false m = none
-
--- Gives every cell of the array that holds an inverse. Where there is no inverse, each cell is +0.0.
-unfoldable pub inverse_cells : Option Matrix → List (List Float)
-inverse_cells none = padded_rows []
-inverse_cells (some m) = padded_rows m

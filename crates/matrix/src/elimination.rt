@@ -2,10 +2,11 @@
 ghost use Rattle.std.specs.Prelude.{◌≡◌, true, false, not, ◌++◌, map, ◌+◌, ◌≤◌, ◌<◌, take, drop, eqb};
 ghost use Rattle.std.specs.Float.Ieee.{neg};
 ghost use Rattle.spec.specs.Limits.{max_dimension};
-ghost use Rattle.spec.specs.Float.{times, zip};
+ghost use Rattle.spec.specs.Float.{zero_f, times, zip};
 ghost use Rattle.spec.specs.Matrix.{row, entry, unit, identity, pivot_row, swap_rows, divided, cleared, clear, inverse, determinant};
 ghost use Rattle.float.specs.Reading.{padded};
-ghost use Rattle.matrix.specs.Reading.{corner, leading, padded_rows, if_regular, inverse_cells};
+ghost use Rattle.std.specs.Option.{option_map, option_map_or};
+ghost use Rattle.matrix.specs.Reading.{corner, leading, padded_rows};
 
 use float::{DIMENSION, tolerance};
 
@@ -17,10 +18,8 @@ fn beside(v: [f64; DIMENSION], i: usize, d: usize) -> [f64; WIDTH]
     ensures { take (d + d) result ≡ take d v ++ unit d i }
 {
     let mut r = [0.0; WIDTH];
-    let mut j: usize = 0;
-    while j < d {
+    for j in 0..d {
         r[j] = v[j];
-        j += 1;
     }
     r[d + i] = 1.0;
     r
@@ -32,10 +31,8 @@ fn beside_identity(m: [[f64; DIMENSION]; DIMENSION], d: usize) -> [[f64; WIDTH];
     ensures { leading d (d + d) result ≡ zip (λ x e. x ++ e) (corner d m) (identity d) }
 {
     let mut r = [[0.0; WIDTH]; DIMENSION];
-    let mut i: usize = 0;
-    while i < d {
+    for i in 0..d {
         r[i] = beside(m[i], i, d);
-        i += 1;
     }
     r
 }
@@ -54,38 +51,22 @@ fn pivot_row(rows: [[f64; WIDTH]; DIMENSION], c: usize, d: usize) -> usize
     ensures { (result ≡ pivot_row (leading d (d + d) rows) c) × (result < d) }
 {
     let mut p = c;
-    let mut r = c + 1;
-    while r < d {
+    for r in c + 1..d {
         if tolerance::magnitude(entry(rows, p, c)) < tolerance::magnitude(entry(rows, r, c)) {
             p = r;
         }
-        r += 1;
     }
     p
 }
 
-// Returns the working rows with rows p and c in each other's place.
-fn swapped(rows: [[f64; WIDTH]; DIMENSION], p: usize, c: usize) -> [[f64; WIDTH]; DIMENSION]
-    requires { (p < max_dimension) × (c < max_dimension) }
-    ensures { result ≡ swap_rows rows p c }
-{
-    let mut r = rows;
-    r[p] = rows[c];
-    r[c] = rows[p];
-    r
-}
-
 // The rule is "divide the whole pivot row by the pivot", which is x.
-fn row_divided(v: [f64; WIDTH], x: f64) -> [f64; WIDTH]
+fn row_divided(mut v: [f64; WIDTH], x: f64) -> [f64; WIDTH]
     ensures { result ≡ divided v x }
 {
-    let mut r = v;
-    let mut j: usize = 0;
-    while j < WIDTH {
-        r[j] = v[j] / x;
-        j += 1;
+    for y in &mut v {
+        *y /= x;
     }
-    r
+    v
 }
 
 // Returns a row less its entry in column c times the pivot row, "product and difference each rounded".
@@ -94,10 +75,8 @@ fn row_cleared(v: [f64; WIDTH], pivot: [f64; WIDTH], c: usize) -> [f64; WIDTH]
     ensures { result ≡ cleared c pivot v }
 {
     let mut r = v;
-    let mut j: usize = 0;
-    while j < WIDTH {
+    for j in 0..WIDTH {
         r[j] = v[j] - v[c] * pivot[j];
-        j += 1;
     }
     r
 }
@@ -124,17 +103,15 @@ fn rows_cleared(
     ensures { leading d (d + d) result ≡ clear c (take (d + d) pivot) (leading d (d + d) rows) }
 {
     let mut x = rows;
-    let mut r: usize = 0;
-    while r < d {
+    for r in 0..d {
         x[r] = row_next(rows[r], pivot, r, c);
-        r += 1;
     }
     x
 }
 
 // Makes one column of the elimination, whose pivot x stands in row p: rows p and c are swapped, row c is divided, and the others are cleared.
 fn column(
-    rows: [[f64; WIDTH]; DIMENSION],
+    mut rows: [[f64; WIDTH]; DIMENSION],
     p: usize,
     x: f64,
     c: usize,
@@ -143,9 +120,9 @@ fn column(
     requires { (d ≤ max_dimension) × (c < d) × (p < d) }
     ensures { leading d (d + d) result ≡ (let a = swap_rows (leading d (d + d) rows) p c in clear c (divided (row a c) x) a) }
 {
-    let s = swapped(rows, p, c);
-    let pivot = row_divided(s[c], x);
-    rows_cleared(s, pivot, c, d)
+    rows.swap(p, c);
+    let pivot = row_divided(rows[c], x);
+    rows_cleared(rows, pivot, c, d)
 }
 
 // Returns the half of a working row that began as a row of the identity.
@@ -154,10 +131,8 @@ fn right_half(v: [f64; WIDTH], d: usize) -> [f64; DIMENSION]
     ensures { result ≡ padded (drop d (take (d + d) v)) }
 {
     let mut r = [0.0; DIMENSION];
-    let mut j: usize = 0;
-    while j < d {
+    for j in 0..d {
         r[j] = v[d + j];
-        j += 1;
     }
     r
 }
@@ -168,10 +143,8 @@ fn right_halves(rows: [[f64; WIDTH]; DIMENSION], d: usize) -> [[f64; DIMENSION];
     ensures { (result ≡ padded_rows (map (drop d) (leading d (d + d) rows))) × (corner d result ≡ map (drop d) (leading d (d + d) rows)) }
 {
     let mut r = [[0.0; DIMENSION]; DIMENSION];
-    let mut i: usize = 0;
-    while i < d {
+    for i in 0..d {
         r[i] = right_half(rows[i], d);
-        i += 1;
     }
     r
 }
@@ -206,37 +179,36 @@ fn signed(t: f64, odd: bool) -> f64
     t
 }
 
-// Makes the elimination, column after column. Where a pivot is zero the matrix is singular, so that it has no inverse and its determinant is 0. The
-// product that is handed back is that of the pivots, with its sign.
-pub fn eliminate(
-    m: [[f64; DIMENSION]; DIMENSION],
-    d: usize,
-    regular: &mut bool,
-    product: &mut f64,
-) -> [[f64; DIMENSION]; DIMENSION]
+// This is what the elimination makes of a matrix that is not singular: its inverse, and the product of the pivots with its sign.
+#[derive(Clone, Copy, Debug, PartialEq)]
+pub struct Eliminated {
+    pub inverse: [[f64; DIMENSION]; DIMENSION],
+    pub product: f64,
+}
+
+// Makes the elimination, column after column. Where a pivot is zero the matrix is singular, and nothing is made of it.
+pub fn eliminate(m: [[f64; DIMENSION]; DIMENSION], d: usize) -> Option<Eliminated>
     requires { d ≤ max_dimension }
-    ensures { (if_regular regular.new (corner d result) ≡ inverse (corner d m)) × (result ≡ inverse_cells (inverse (corner d m)))
-        × (product.new ≡ determinant (corner d m)) }
+    ensures entries { option_map (λ e. corner d e.inverse) result ≡ inverse (corner d m) }
+    ensures cells { option_map (λ e. e.inverse) result ≡ option_map padded_rows (inverse (corner d m)) }
+    ensures product { option_map_or (λ e. e.product) result zero_f ≡ determinant (corner d m) }
 {
     let mut rows = beside_identity(m, d);
     let mut t = 1.0;
     let mut odd = false;
-    let mut c: usize = 0;
-    while c < d {
+    for c in 0..d {
         let p = pivot_row(rows, c, d);
         let x = entry(rows, p, c);
         if x == 0.0 {
-            *regular = false;
-            *product = 0.0;
-            return [[0.0; DIMENSION]; DIMENSION];
+            return None;
         }
         let next = column(rows, p, x, c, d);
         rows = next;
         t = multiplied(t, x, c);
         odd = parity(odd, p, c);
-        c += 1;
     }
-    *regular = true;
-    *product = signed(t, odd);
-    right_halves(rows, d)
+    Some(Eliminated {
+        inverse: right_halves(rows, d),
+        product: signed(t, odd),
+    })
 }

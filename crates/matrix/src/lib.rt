@@ -7,7 +7,8 @@ ghost use Rattle.spec.specs.Limits.{max_dimension};
 ghost use Rattle.spec.specs.Float.{zero_f};
 ghost use Rattle.spec.specs.Matrix.{columns, mul_vec, mul_mat, inverse, determinant};
 ghost use Rattle.float.specs.Reading.{padded};
-ghost use Rattle.matrix.specs.Reading.{corner, padded_rows, if_regular, inverse_cells};
+ghost use Rattle.std.specs.Option.{option_map};
+ghost use Rattle.matrix.specs.Reading.{corner, padded_rows};
 
 use float::{DIMENSION, vector};
 
@@ -19,10 +20,8 @@ pub fn image(m: [[f64; DIMENSION]; DIMENSION], v: [f64; DIMENSION], d: usize) ->
     ensures { result ≡ padded (mul_vec (corner d m) (take d v)) }
 {
     let mut r = [0.0; DIMENSION];
-    let mut i: usize = 0;
-    while i < d {
+    for i in 0..d {
         r[i] = vector::dot_of(m[i], v, d);
-        i += 1;
     }
     r
 }
@@ -33,10 +32,8 @@ fn column_of(c: [[f64; DIMENSION]; DIMENSION], j: usize, d: usize) -> [f64; DIME
     ensures { result ≡ padded (map (λ row. get_or row j zero_f) (corner d c)) }
 {
     let mut r = [0.0; DIMENSION];
-    let mut i: usize = 0;
-    while i < d {
+    for i in 0..d {
         r[i] = c[i][j];
-        i += 1;
     }
     r
 }
@@ -47,10 +44,8 @@ pub fn from_columns(c: [[f64; DIMENSION]; DIMENSION], d: usize) -> [[f64; DIMENS
     ensures { result ≡ padded_rows (columns (corner d c)) }
 {
     let mut r = [[0.0; DIMENSION]; DIMENSION];
-    let mut i: usize = 0;
-    while i < d {
+    for i in 0..d {
         r[i] = column_of(c, i, d);
-        i += 1;
     }
     r
 }
@@ -66,25 +61,20 @@ pub fn product(
 {
     let t = from_columns(b, d);
     let mut r = [[0.0; DIMENSION]; DIMENSION];
-    let mut i: usize = 0;
-    while i < d {
+    for i in 0..d {
         r[i] = image(t, a[i], d);
-        i += 1;
     }
     r
 }
 
-// Returns the inverse. `regular` says whether there is one. Where there is none, every cell holds 0.0.
-pub fn inverse(
-    m: [[f64; DIMENSION]; DIMENSION],
-    d: usize,
-    regular: &mut bool,
-) -> [[f64; DIMENSION]; DIMENSION]
+// Returns the inverse, if there is one.
+pub fn inverse(m: [[f64; DIMENSION]; DIMENSION], d: usize) -> Option<[[f64; DIMENSION]; DIMENSION]>
     requires { d ≤ max_dimension }
-    ensures { (if_regular regular.new (corner d result) ≡ inverse (corner d m)) × (result ≡ inverse_cells (inverse (corner d m))) }
+    ensures entries { option_map (corner d) result ≡ inverse (corner d m) }
+    ensures cells { result ≡ option_map padded_rows (inverse (corner d m)) }
 {
-    let mut product = 0.0;
-    elimination::eliminate(m, d, regular, &mut product)
+    let e = elimination::eliminate(m, d)?;
+    Some(e.inverse)
 }
 
 // Returns the product of the elimination's pivots, with its sign, or 0 where the matrix is singular.
@@ -92,8 +82,8 @@ pub fn determinant(m: [[f64; DIMENSION]; DIMENSION], d: usize) -> f64
     requires { d ≤ max_dimension }
     ensures { result ≡ determinant (corner d m) }
 {
-    let mut regular = false;
-    let mut product = 0.0;
-    elimination::eliminate(m, d, &mut regular, &mut product);
-    product
+    match elimination::eliminate(m, d) {
+        Some(e) => e.product,
+        None => 0.0,
+    }
 }

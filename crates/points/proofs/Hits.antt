@@ -3,8 +3,7 @@
 use mathlib.Core.Path.{◌≡◌, refl, sym, ap, ◌∙◌}
 use mathlib.Core.Bool.{Bool, true, false, true≢false}
 use mathlib.Core.List.{List, []}
-use Prim.Native.Nat.{ℕ, zero, suc, ◌*◌, ◌≤◌, ◌<◌}
-use native.Mathlib.Numerals.{add-one}
+use Prim.Native.Nat.{ℕ, ◌*◌, ◌≤◌, ◌<◌}
 use native.Mathlib.Omega.{arith}
 use lib.ListN.{length, get_or, take, drop}
 use lib.Ieee.{Float}
@@ -13,12 +12,8 @@ use Rattle.spec.specs.Points.{near, find}
 use Rattle.spec.specs.Lists.{parts}
 use Rattle.points.specs.Guesses.{Lone}
 use Rattle.points.proofs.Parts.{length-parts, part_at, part_long}
-use Rattle.points.proofs.Nearness.{FoundFrom, found_none, found_on, found_here}
+use Rattle.points.proofs.Nearness.{found_from, found_here}
 use Rattle.points.proofs.Triangle.{near-triangle}
-
-found_from : (ps : List Vector) (q : Vector) (k : ℕ) → k ≤ length ps → ((j : ℕ) → j < k → near (get_or ps j []) q ≡ false) → FoundFrom ps q k
-found_from ps q zero h n = found_none
-found_from ps q (suc k) h n = rw add-one at (found_on (omega arith) (found_from ps q k (omega arith) (λ j g. n j (omega arith))) (n k (omega arith)))
 
 module _ (n d : ℕ) (l : List Float) (q : Vector) (k : ℕ) (low : k < n) (long : length q ≡ d) (room : n * d ≤ length l) (a : Lone (parts n d l))
     (near-k : near (take d (drop (k * d) l)) q ≡ true) where
@@ -41,4 +36,4 @@ module _ (n d : ℕ) (l : List Float) (q : Vector) (k : ℕ) (low : k < n) (long
       absurd (true≢false (sym t ∙ a.lone j k i (omega (arith, many))))
 
   pub lone_number : k ≡ find ps q
-  lone_number = found_here (omega (arith, many)) (found_from ps q k (omega (arith, many)) (λ j i. no_lower j i (near (get_or ps j []) q) refl)) close
+  lone_number = found_here (omega (arith, many)) (found_from k (omega (arith, many)) (λ j i. no_lower j i (near (get_or ps j []) q) refl)) close

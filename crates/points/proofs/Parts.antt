@@ -3,7 +3,7 @@
 use mathlib.Core.Path.{◌≡◌, refl, sym, ap, ap₂, ◌∙◌}
 use mathlib.Core.List.{List, [], ◌∷◌, ◌++◌, map}
 use Prim.Native.Nat.{ℕ, zero, suc, ◌+◌, ◌*◌, ◌≤◌, ◌<◌}
-use native.Mathlib.Nat.{zero-mul, suc-mul, add_comm, add-mul, mul_assoc, mul-le-mul_left, mul-le-mul_right, le-mul_of_pos_right}
+use native.Mathlib.Nat.{zero-mul, suc-mul, add_comm, add-mul, mul_assoc, mul-le-mul_right}
 use native.Mathlib.Omega.{arith}
 use lib.ListN.{length, get_or, take, drop, length-drop}
 use lib.Seq.{ext_get_or, take-add, take-take, drop-drop, length-take-le}
@@ -72,9 +72,3 @@ part_long n d l k h f = length-take-le d (drop (k * d) l) (omega (arith, length-
 -- Row i of matrix j starts i rows after the start of the matrix.
 pub row-place : (d j i : ℕ) → (j * d + i) * d ≡ j * (d * d) + i * d
 row-place d j i = add-mul (j * d) i d ∙ ap (λ (k : ℕ). k + i * d) (mul_assoc j d d)
-
-pub row_fits : (d j i : ℕ) → i < d → (j * d + i) * d + d ≤ j * (d * d) + d * d
-row_fits d j i h = omega (arith, row-place d j i, part_end d d i h)
-
-pub first_fits : (d j i : ℕ) → i < d → j * d + i ≤ j * (d * d) + d * d
-first_fits d j i h = omega (arith, mul-le-mul_left j (le-mul_of_pos_right {m = d} d (omega arith)), le-mul_of_pos_right {m = d} d (omega arith))

@@ -20,17 +20,11 @@ use Rattle.spec.specs.Float.{eps, abs_f, minus}
 use Rattle.spec.specs.Matrix.{Vector}
 use Rattle.spec.specs.Points.{near}
 use Rattle.points.specs.Guesses.{wide_f, within}
+use Rattle.points.proofs.Nearness.{near_within}
 
 -- Tells whether the magnitude of the float x - y is at most w.
 unfoldable pub close_to : Float → Float → Float → Bool
 close_to w x y = le (abs_f (minus x y)) w
-
--- Document 01's test is the one with EPS.
-pub near_within : (p q : Vector) → near p q ≡ within eps p q
-unfolding near within
-near_within [] ys = refl
-near_within (x ∷ xs) [] = refl
-near_within (x ∷ xs) (y ∷ ys) = ap (λ (r : Bool). elim (le (abs_f (minus x y)) eps) as (λ _. Bool) [ true ↦ r | false ↦ false ]) (near_within xs ys)
 
 -- ---- how far apart two numbers with signs are
 

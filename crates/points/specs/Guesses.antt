@@ -1,13 +1,11 @@
 -- This file has points that are lone, so that one of them is found at once by being near, and the table of guesses that only such points have.
 -- Assumes nothing.
-use Rattle.std.specs.Prelude.{◌≡◌, ◌⊎◌, Bool, true, false, List, [], ◌∷◌, ℕ, ◌+◌, ◌*◌, ◌%◌, ◌^◌, ◌<◌, length, get_or, set, take, drop, Float}
+use Rattle.std.specs.Prelude.{◌≡◌, ◌⊎◌, Bool, true, false, List, [], ◌∷◌, ℕ, ◌+◌, ◌*◌, ◌%◌, ◌^◌, ◌<◌, length, get_or, set, take, drop, Float, Option, Some, None}
 use Rattle.std.specs.Float.{binary64}
 use Rattle.std.specs.Float.Ieee.{of_bits, le}
 use Rattle.spec.specs.Limits.{max_count}
 use Rattle.spec.specs.Float.{abs_f, minus}
 use Rattle.spec.specs.Matrix.{Vector}
-use Rattle.points.specs.declared.Found.{Found}
-use Rattle.points.specs.declared.Found.TheVariants.{At, Nothing}
 use Rattle.points.specs.Finding.{found_at}
 
 -- This is the number 2 ^ -22, which is more than twice EPS.
@@ -58,6 +56,6 @@ pub record Guesses (ps : List Vector) (table : List ℕ) : Type 0 where
 
 -- A guess is made at what is found, where x is the number sought among n.
 -- One that names a number has to be right, and one that names none says nothing.
-abbrev pub Guessed : ℕ → ℕ → Found → Type 0
-Guessed n x (At k) = At k ≡ found_at n x
-Guessed n x Nothing = Unit
+abbrev pub Guessed : ℕ → ℕ → Option ℕ → Type 0
+Guessed n x (Some k) = Some k ≡ found_at n x
+Guessed n x None = Unit

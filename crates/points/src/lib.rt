@@ -9,24 +9,19 @@ ghost use Rattle.spec.specs.Points.{near, find};
 ghost use Rattle.spec.specs.Lists.{parts, written};
 ghost use Rattle.matrix.specs.Reading.{corner};
 ghost use Rattle.points.specs.Finding.{found_at};
+ghost use Rattle.points.specs.Guesses.{within};
 
-use float::{DIMENSION, tolerance, vector};
+use float::tolerance::{self, Tolerance};
+use float::{DIMENSION, vector};
 use spec::MAX_MAGNITUDE;
 
 pub mod lookup;
-
-// This is what a look for a number finds: that number, or nothing.
-#[derive(Clone, Copy)]
-pub enum Found {
-    At(usize),
-    Nothing,
-}
 
 // Returns a point's number, as rows and lists of points have it.
 pub fn wide(x: u16) -> usize
     ensures { result ≡ x }
 {
-    x as usize
+    usize::from(x)
 }
 
 // Returns the number in cell k of a row or a list.
@@ -34,7 +29,7 @@ pub fn cell(cells: &[u16], k: usize) -> usize
     requires { k < length cells.now }
     ensures { result ≡ get_or cells.now k 0 }
 {
-    wide(cells[k])
+    usize::from(cells[k])
 }
 
 // Tells whether a float is finite and not too large. One comparison is enough, because neither a NaN nor an infinity is at most MAX_MAGNITUDE.
@@ -68,28 +63,20 @@ pub fn matrix_at(matrices: &[f64], d: usize, j: usize) -> [[f64; DIMENSION]; DIM
     ensures { corner d result ≡ parts d d (take (d * d) (drop (j * (d * d)) matrices.now)) }
 {
     let mut m = [[0.0; DIMENSION]; DIMENSION];
-    let mut i: usize = 0;
-    while i < d {
+    for i in 0..d {
         m[i] = loaded(matrices, d, j * d + i);
-        i += 1;
     }
     m
 }
 
-// Tells whether q is within EPS of p on every axis.
-fn near(p: &[f64], q: [f64; DIMENSION]) -> bool
+// Tells whether q is within the limit of p on every axis.
+fn near(p: &[f64], q: [f64; DIMENSION], limit: f64) -> bool
     requires { length p.now ≤ max_dimension }
-    ensures { result ≡ near p.now (take (length p.now) q) }
+    ensures { result ≡ within limit p.now (take (length p.now) q) }
 {
-    let mut i: usize = 0;
-    while i < p.len() {
-        if tolerance::within(p[i] - q[i]) {
-            i += 1;
-        } else {
-            return false;
-        }
-    }
-    true
+    p.iter()
+        .zip(&q)
+        .all(|(x, y)| tolerance::within(*x - *y, limit))
 }
 
 // Tells whether q is within EPS of point v on every axis. Most points differ on their first axis already, so that axis is compared before the point's
@@ -98,31 +85,16 @@ pub fn near_at(points: &[f64], d: usize, v: usize, q: [f64; DIMENSION]) -> bool
     requires { (1 ≤ d) × (d ≤ max_dimension) × (v * d + d ≤ length points.now) }
     ensures { result ≡ near (take d (drop (v * d) points.now)) (take d q) }
 {
-    if tolerance::within(points[v * d] - q[0]) {
-        return near(point(points, d, v), q);
-    }
-    false
+    tolerance::within(points[v * d] - q[0], Tolerance::EPS)
+        && near(point(points, d, v), q, Tolerance::EPS)
 }
 
-// Returns the lowest of the n points that is near q. Points without axes are near everything, so the first of them is found.
-pub fn find(points: &[f64], d: usize, n: usize, q: [f64; DIMENSION]) -> Found
+// Returns the lowest of the n points that is near q. Points without axes are near everything.
+pub fn find(points: &[f64], d: usize, n: usize, q: [f64; DIMENSION]) -> Option<usize>
     requires { (d ≤ max_dimension) × (n * d ≤ length points.now) }
     ensures { result ≡ found_at n (find (parts n d points.now) (take d q)) }
 {
-    if n == 0 {
-        return Found::Nothing;
-    }
-    if d == 0 {
-        return Found::At(0);
-    }
-    let mut k: usize = 0;
-    while k < n {
-        if near_at(points, d, k, q) {
-            return Found::At(k);
-        }
-        k += 1;
-    }
-    Found::Nothing
+    (0..n).find(|&k| d == 0 || near_at(points, d, k, q))
 }
 
 // Writes the first d floats of q to the first d cells.
@@ -130,9 +102,7 @@ pub fn put(out: &mut [f64], q: [f64; DIMENSION], d: usize)
     requires { (d ≤ max_dimension) × (d ≤ length out.old) }
     ensures { out.new ≡ written (take d q) out.old }
 {
-    let mut i: usize = 0;
-    while i < d {
+    for i in 0..d {
         out[i] = q[i];
-        i += 1;
     }
 }

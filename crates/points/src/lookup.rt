@@ -2,17 +2,15 @@
 // table guesses the number. Only points that are lone have one, which means that no two of them are within WIDE on every axis: a point that is near
 // the point sought is then the only one near, and so the lowest. Other points have an empty table and are compared one by one.
 ghost use Rattle.std.specs.Prelude.{◌≡◌, true, false, ◌+◌, ◌*◌, ◌≤◌, ◌<◌, length, take};
-ghost use Rattle.std.specs.Float.Ieee.{le};
 ghost use Rattle.spec.specs.Limits.{max_dimension, max_count};
-ghost use Rattle.spec.specs.Float.{abs_f};
 ghost use Rattle.spec.specs.Points.{find, row_of};
 ghost use Rattle.spec.specs.Lists.{parts};
 ghost use Rattle.matrix.specs.Reading.{corner};
 ghost use Rattle.points.specs.Finding.{found_at};
-ghost use Rattle.points.specs.Guesses.{places, free, mixed, mixed_limit, wide_f, within, Lone, Clear, PlaceFilled, Guesses, Guessed};
+ghost use Rattle.points.specs.Guesses.{places, free, mixed, mixed_limit, Lone, Clear, PlaceFilled, Guesses, Guessed};
 ghost use Rattle.points.specs.Cells.{Tabled};
 
-use crate::{Found, find, loaded, near_at, point, wide};
+use crate::{find, loaded, near, near_at, point};
 use float::{DIMENSION, bits};
 use spec::MAX_COUNT;
 
@@ -45,11 +43,9 @@ fn place(q: [f64; DIMENSION], d: usize) -> usize
     ensures { result < places }
 {
     let mut h: u64 = 0;
-    let mut i: usize = 0;
-    while i < d {
-        let b = (bits::pattern(q[i] + SHIFT) / 2 + 0x2b_c5a7) / 0x80_0000;
+    for x in &q[..d] {
+        let b = (bits::pattern(*x + SHIFT) / 2 + 0x2b_c5a7) / 0x80_0000;
         h = mixed(h, b) / 0x1000_0000;
-        i += 1;
     }
     (h % PLACES as u64) as usize
 }
@@ -61,41 +57,13 @@ pub fn store(table: &mut [u16], from: usize, tries: usize, k: usize)
     ensures { PlaceFilled k table.old table.new }
 {
     let size = table.len();
-    let mut i: usize = 0;
-    while i < tries {
+    for i in 0..tries {
         let p = (from + i) % size;
         if table[p] == FREE {
             table[p] = k as u16;
             return;
         }
-        i += 1;
     }
-}
-
-// Tells whether a difference is at most WIDE.
-fn is_small(x: f64) -> bool
-    ensures { result ≡ le (abs_f x) wide_f }
-{
-    if x <= WIDE {
-        return -WIDE <= x;
-    }
-    false
-}
-
-// Tells whether q is further than WIDE from p on some axis.
-fn is_far(p: &[f64], q: [f64; DIMENSION]) -> bool
-    requires { length p.now ≤ max_dimension }
-    ensures { result ≡ true → within wide_f p.now (take (length p.now) q) ≡ false }
-{
-    let mut i: usize = 0;
-    while i < p.len() {
-        if is_small(p[i] - q[i]) {
-            i += 1;
-        } else {
-            return true;
-        }
-    }
-    false
 }
 
 // Tells whether no point before point k is within WIDE of it on every axis.
@@ -104,11 +72,8 @@ fn is_clear(points: &[f64], d: usize, k: usize) -> bool
     ensures { result ≡ true → Clear d points.now k k }
 {
     let q = loaded(points, d, k);
-    let mut j: usize = 0;
-    while j < k {
-        if is_far(point(points, d, j), q) {
-            j += 1;
-        } else {
+    for j in 0..k {
+        if near(point(points, d, j), q, WIDE) {
             return false;
         }
     }
@@ -120,15 +85,7 @@ pub fn is_lone(points: &[f64], d: usize, n: usize) -> bool
     requires { (d ≤ max_dimension) × (n ≤ max_count) × (n * d ≤ length points.now) }
     ensures { result ≡ true → Lone (parts n d points.now) }
 {
-    let mut k: usize = 0;
-    while k < n {
-        if is_clear(points, d, k) {
-            k += 1;
-        } else {
-            return false;
-        }
-    }
-    true
+    (0..n).all(|k| is_clear(points, d, k))
 }
 
 // Returns the table of guesses of the n points, which is empty where they are not lone. An empty table would always give the same answers and take
@@ -141,38 +98,46 @@ pub fn places(points: &[f64], d: usize, n: usize) -> [u16; PLACES]
     if !is_lone(points, d, n) {
         return table;
     }
-    let mut k: usize = 0;
-    while k < n {
+    for k in 0..n {
         let at = place(loaded(points, d, k), d);
         store(&mut table, at, TRIES, k);
-        k += 1;
     }
     table
 }
 
-// Returns the point near q, if the table tells it. `Nothing` says only that the table does not tell it.
-fn guess(points: &[f64], d: usize, n: usize, places: &[u16; PLACES], q: [f64; DIMENSION]) -> Found
+// Returns the point near q, if the table tells it. `None` says only that the table does not tell it.
+fn guess(
+    points: &[f64],
+    d: usize,
+    n: usize,
+    places: &[u16; PLACES],
+    q: [f64; DIMENSION],
+) -> Option<usize>
     requires le_d { (1 ≤ d) × (d ≤ max_dimension) × (n * d ≤ length points.now) }
     requires guesses { Guesses (parts n d points.now) places.now }
     ensures { Guessed n (find (parts n d points.now) (take d q)) result }
 {
     let at = place(q, d);
-    let mut i: usize = 0;
-    while i < TRIES {
-        let k = wide(places[(at + i) % PLACES]);
+    for i in 0..TRIES {
+        let k = usize::from(places[(at + i) % PLACES]);
         if n <= k {
-            return Found::Nothing;
+            return None;
         }
         if near_at(points, d, k, q) {
-            return Found::At(k);
+            return Some(k);
         }
-        i += 1;
     }
-    Found::Nothing
+    None
 }
 
 // Returns the lowest of the n points that is near q.
-fn found(points: &[f64], d: usize, n: usize, places: &[u16; PLACES], q: [f64; DIMENSION]) -> Found
+fn found(
+    points: &[f64],
+    d: usize,
+    n: usize,
+    places: &[u16; PLACES],
+    q: [f64; DIMENSION],
+) -> Option<usize>
     requires le_d { (1 ≤ d) × (d ≤ max_dimension) × (n * d ≤ length points.now) }
     requires guesses { Guesses (parts n d points.now) places.now }
     ensures { result ≡ found_at n (find (parts n d points.now) (take d q)) }
@@ -180,10 +145,7 @@ fn found(points: &[f64], d: usize, n: usize, places: &[u16; PLACES], q: [f64; DI
     if n < FEW {
         return find(points, d, n, q);
     }
-    let Found::At(k) = guess(points, d, n, places, q) else {
-        return find(points, d, n, q);
-    };
-    Found::At(k)
+    guess(points, d, n, places, q).or_else(|| find(points, d, n, q))
 }
 
 // Writes the number of each point's image under m, which is that of the lowest point that the image is near, and says whether there is one for
@@ -200,15 +162,12 @@ pub fn row_of(
     requires guesses { Guesses (parts n d points.now) places.now }
     ensures { Tabled n (row_of (parts n d points.now) (corner d m)) row.old row.new result }
 {
-    let mut k: usize = 0;
-    while k < n {
+    for k in 0..n {
         let q = matrix::image(m, loaded(points, d, k), d);
-        let at = match found(points, d, n, places, q) {
-            Found::At(at) => at,
-            Found::Nothing => return false,
+        let Some(at) = found(points, d, n, places, q) else {
+            return false;
         };
         row[k] = at as u16;
-        k += 1;
     }
     true
 }

@@ -1,13 +1,12 @@
 -- This file is about storing a sheet: what its bits say, field by field, and how the subs of a solid come to stand in the words.
 -- Assumes nothing.
-use Rattle.std.specs.Prelude.{◌≡◌, ℕ, zero, suc, ◌+◌, ◌-◌, ◌*◌, ◌≤◌, ◌<◌, List, [], ◌∷◌, ◌++◌, map, length, get_or, take, replicate, Float}
+use Rattle.std.specs.Prelude.{◌≡◌, ℕ, zero, suc, ◌+◌, ◌-◌, ◌*◌, ◌≤◌, ◌<◌, List, [], ◌∷◌, ◌++◌, map, length, get_or, take, replicate, Float, Err, Ok}
 use Rattle.std.specs.Float.{binary64}
 use Rattle.std.specs.Float.Ieee.{of_bits}
 use Rattle.spec.specs.Limits.{max_rank, max_elements}
 use Rattle.spec.specs.Lists.{join, range}
 use Rattle.spec.specs.Bits.{field}
 use Rattle.spec.specs.Types.{size}
-use Rattle.spec.specs.Judged.{refused, passed}
 use Rattle.spec.specs.Sheet.{Parsed, read_sheet}
 use Rattle.spec.specs.Solid.{solid_of, entries, Concrete}
 use Rattle.ranked.specs.declared.Shape.{Shape}
@@ -102,7 +101,7 @@ points_bit R = 6 + 12 * (R - 1)
 
 -- Gives what a sheet says, if it was read, and otherwise the record of an empty one.
 unfoldable pub parsed_of : List ℕ → Parsed
-parsed_of b = elim (read_sheet b) [ refused why ↦ record { rank = 0; dimension = 0; counts = []; points = []; lists = [] } | passed p ↦ p ]
+parsed_of b = elim (read_sheet b) [ Err why ↦ record { rank = 0; dimension = 0; counts = []; points = []; lists = [] } | Ok p ↦ p ]
 
 -- Gives the solid that a sheet says.
 abbrev pub said : Parsed → Concrete

@@ -8,22 +8,14 @@ ghost use Rattle.ranked.specs.Reading.{Lies, Each, holding, Fork};
 ghost use Rattle.preflight.specs.Check.{bound_in, two_under, two_at, two_rank, two_from};
 
 use ranked::Shape;
-use ranked::lists::{count_at, entry_at, holds_at, list_word, sups_beside};
+use ranked::lists::{count_at, entries_at, holds_at, list_word, sups_beside};
 
 // Tells whether each element of rank r is in a list.
 fn bound_rank(lists: &[u32], sh: Shape, r: usize) -> bool
     requires { (Held sh lists.now) × (r ≤ sh.rank) }
     ensures { result ≡ bound_in lists.now (first_at sh r) (size_at sh r) }
 {
-    let n = sh.size(r);
-    let mut e: usize = 0;
-    while e < n {
-        if count_at(lists, sh.sups(r, e)) == 0 {
-            return false;
-        }
-        e += 1;
-    }
-    true
+    (0..sh.size(r)).all(|e| !entries_at(lists, sh.sups(r, e)).is_empty())
 }
 
 // Tells whether refusal 5 is not met: every proper element below rank R - 1 is in a list.
@@ -31,15 +23,7 @@ pub fn is_bound(lists: &[u32], sh: Shape) -> bool
     requires { Held sh lists.now }
     ensures { result ≡ bound (abs_in sh lists.now) }
 {
-    let rank = sh.rank;
-    let mut k: usize = 0;
-    while k + 2 < rank {
-        if !bound_rank(lists, sh, k + 1) {
-            return false;
-        }
-        k += 1;
-    }
-    true
+    (1..sh.rank.saturating_sub(1)).all(|r| bound_rank(lists, sh, r))
 }
 
 // Counts the entries y of the list at word i that have x in their list, by the word `base` of the first element of their rank.
@@ -48,24 +32,19 @@ fn counting(lists: &[u32], i: usize, base: usize, x: usize) -> usize
     requires each { Each lists.now i base }
     ensures { result ≡ length (holding lists.now i base x) }
 {
-    let n = count_at(lists, i);
-    let mut m: usize = 0;
-    let mut k: usize = 0;
-    while k < n {
-        let y = entry_at(lists, i, k);
-        k += 1;
-        if holds_at(lists, list_word(base, y), x) {
-            m += 1;
-        }
-    }
-    m
+    entries_at(lists, i)
+        .iter()
+        .filter(|&&y| holds_at(lists, list_word(base, y as usize), x))
+        .count()
 }
 
-// Counts the elements between g, whose subs are at word i, and h, whose sups are at word j. The shorter of the two lists is gone through.
-fn between(lists: &[u32], i: usize, j: usize, base: usize, g: usize, h: usize) -> usize
-    requires { Fork lists.now i j base g h }
+// Counts the elements between g, whose subs are at word i, and h, in the rank whose sups start at word `below`. The shorter of the two lists is gone
+// through.
+fn between(lists: &[u32], i: usize, base: usize, below: usize, g: usize, h: usize) -> usize
+    requires { Fork lists.now i (list_word below h) base g h }
     ensures { result ≡ length (holding lists.now i base h) }
 {
+    let j = list_word(below, h);
     if count_at(lists, i) <= count_at(lists, j) {
         counting(lists, i, base, h)
     } else {
@@ -73,23 +52,16 @@ fn between(lists: &[u32], i: usize, j: usize, base: usize, g: usize, h: usize) -
     }
 }
 
-// Tells whether exactly two elements lie between g, whose subs are at word i, and each entry of the list at word j, of the rank whose sups start at
-// word `below`.
-fn diamond_under(lists: &[u32], i: usize, j: usize, base: usize, below: usize, g: usize) -> bool
-    requires lies { Lies lists.now j }
-    requires by_index { (h : ℕ) → In h (list_at lists.now j) → Fork lists.now i (list_word below h) base g h }
-    ensures { result ≡ two_under lists.now i j base }
+// Tells whether exactly two elements lie between g, whose subs are at word i, and each sub of its sub f. The subs of the rank of f start at word `base`,
+// and the sups of the rank below at word `below`.
+fn diamond_under(lists: &[u32], i: usize, base: usize, below: usize, g: usize, f: usize) -> bool
+    requires lies { Lies lists.now (list_word base f) }
+    requires by_index { (h : ℕ) → In h (list_at lists.now (list_word base f)) → Fork lists.now i (list_word below h) base g h }
+    ensures { result ≡ two_under lists.now i (list_word base f) base }
 {
-    let n = count_at(lists, j);
-    let mut k: usize = 0;
-    while k < n {
-        let h = entry_at(lists, j, k);
-        if between(lists, i, list_word(below, h), base, g, h) != 2 {
-            return false;
-        }
-        k += 1;
-    }
-    true
+    entries_at(lists, list_word(base, f))
+        .iter()
+        .all(|&h| between(lists, i, base, below, g, h as usize) == 2)
 }
 
 // Tells whether exactly two elements lie between element g of rank r + 2 and every sub of its subs.
@@ -100,16 +72,9 @@ fn diamond_at(lists: &[u32], sh: Shape, r: usize, g: usize) -> bool
     let i = sh.subs(r + 2, g);
     let base = sh.subs(r + 1, 0);
     let below = sh.sups(r, 0);
-    let n = count_at(lists, i);
-    let mut k: usize = 0;
-    while k < n {
-        let f = entry_at(lists, i, k);
-        if !diamond_under(lists, i, list_word(base, f), base, below, g) {
-            return false;
-        }
-        k += 1;
-    }
-    true
+    entries_at(lists, i)
+        .iter()
+        .all(|&f| diamond_under(lists, i, base, below, g, f as usize))
 }
 
 // Tells whether the same holds for each element of rank r + 2.
@@ -117,15 +82,7 @@ fn diamond_rank(lists: &[u32], sh: Shape, r: usize) -> bool
     requires { (Held sh lists.now) × (suc r < sh.rank) }
     ensures { result ≡ two_rank lists.now (first_at sh (suc r)) (first_at sh (suc (suc r))) (size_at sh (suc (suc r))) }
 {
-    let n = sh.size(r + 2);
-    let mut g: usize = 0;
-    while g < n {
-        if !diamond_at(lists, sh, r, g) {
-            return false;
-        }
-        g += 1;
-    }
-    true
+    (0..sh.size(r + 2)).all(|g| diamond_at(lists, sh, r, g))
 }
 
 // Tells whether the same holds for the ranks above `from` and the one after it, from the bottom up.
@@ -133,15 +90,7 @@ fn diamond_from(lists: &[u32], sh: Shape, from: usize) -> bool
     requires { (Held sh lists.now) × (from ≤ sh.rank) }
     ensures { result ≡ two_from sh lists.now from }
 {
-    let rank = sh.rank;
-    let mut r = from;
-    while r + 1 < rank {
-        if !diamond_rank(lists, sh, r) {
-            return false;
-        }
-        r += 1;
-    }
-    true
+    (from..sh.rank.saturating_sub(1)).all(|r| diamond_rank(lists, sh, r))
 }
 
 // Tells whether refusal 6 is not met: exactly two elements lie between every element and every sub of its subs, the least and the top included. The
@@ -150,11 +99,8 @@ pub fn is_diamond(lists: &[u32], sh: Shape) -> bool
     requires { Held sh lists.now }
     ensures { result ≡ diamond (abs_in sh lists.now) }
 {
-    let rank = sh.rank;
-    if rank >= 2 {
-        if !diamond_from(lists, sh, rank - 2) {
-            return false;
-        }
+    if sh.rank >= 2 && !diamond_from(lists, sh, sh.rank - 2) {
+        return false;
     }
     diamond_from(lists, sh, 0)
 }

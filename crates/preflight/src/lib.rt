@@ -2,97 +2,72 @@
 // for the end, 7, 5, 6."
 #![tactic(auto)]
 
-ghost use Rattle.std.specs.Prelude.{◌≡◌, true, ◌&&◌, ◌+◌, ◌*◌, ◌^◌, ◌<◌, length, leb};
-ghost use Rattle.spec.specs.Judged.{passed};
+ghost use Rattle.std.specs.Prelude.{◌≡◌, true, ◌&&◌, ◌+◌, ◌*◌, ◌^◌, ◌<◌, length, leb, Ok};
 ghost use Rattle.spec.specs.Sheet.{read_sheet};
 ghost use Rattle.spec.specs.Solid.{solid_of, roomy, words_for, floats_for};
 ghost use Rattle.sheet.specs.Judge.{header_of};
 ghost use Rattle.ranked.specs.Words.{abs_in, Held};
 ghost use Rattle.preflight.specs.Store.{parsed_of};
-ghost use Rattle.preflight.specs.Preflight.{unready_of, checks_of, SheetJudged, Preflighted};
+ghost use Rattle.preflight.specs.Preflight.{checks_of, SheetJudged, Preflighted};
 
 use crate::check::{is_bound, is_diamond};
 use crate::store::store;
 use ranked::Shape;
 use sheet::Header;
-use spec::{Refusal, Verdict};
+use spec::Refusal;
 
 mod check;
 pub mod store;
-
-// This is the verdict, and for an accepted sheet how its solid lies in the workspace.
-#[derive(Clone, Copy)]
-pub struct Ready {
-    pub verdict: Verdict,
-    pub shape: Shape,
-}
-
-// Returns the answer of a refusal. No solid lies in the workspace then, and the shape is of zeros.
-fn unready(why: Refusal) -> Ready
-    ensures { result ≡ unready_of why }
-{
-    Ready {
-        verdict: Verdict::Refused(why),
-        shape: Shape::none(),
-    }
-}
 
 // Tells whether the workspace has room for a solid of so many proper elements and list entries. If it has not, refusal 7 is answered.
 fn is_roomy(elements: usize, entries: usize, words: usize, floats: usize) -> bool
     requires { (elements < 2 ^ 32) × (entries < 2 ^ 32) }
     ensures { result ≡ leb (words_for elements entries) words && leb (floats_for elements) floats }
 {
-    if 16 * (elements + entries + 4) <= words {
-        return 8 * (elements + 8) <= floats;
-    }
-    false
+    16 * (elements + entries + 4) <= words && 8 * (elements + 8) <= floats
 }
 
 // Judges refusal 5, and then refusal 6, of the solid that the words hold.
-fn checked(lists: &[u32], sh: Shape) -> Verdict
+#[tactic(auto, using(crate::proofs::Laws::loose, crate::proofs::Laws::mitred, crate::proofs::Laws::fine))]
+fn checked(lists: &[u32], sh: Shape) -> Result<(), Refusal>
     requires { Held sh lists.now }
     ensures { result ≡ checks_of (abs_in sh lists.now) }
 {
     if !is_bound(lists, sh) {
-        return Verdict::Refused(Refusal::Loose);
+        return Err(Refusal::Loose);
     }
     if !is_diamond(lists, sh) {
-        return Verdict::Refused(Refusal::Mitre);
+        return Err(Refusal::Mitre);
     }
-    Verdict::Accepted
+    Ok(())
 }
 
 // Stores a sheet that passed refusals 1 to 4 and 7, and judges refusals 5 and 6 of its solid.
-fn settle(sheet: &[u8], header: Header, words: &mut [u32], floats: &mut [f64]) -> Ready
-    requires sheet_value { read_sheet sheet.now ≡ passed (parsed_of sheet.now) }
+fn settle(
+    sheet: &[u8],
+    header: Header,
+    words: &mut [u32],
+    floats: &mut [f64],
+) -> Result<Shape, Refusal>
+    requires sheet_value { read_sheet sheet.now ≡ Ok (parsed_of sheet.now) }
     requires header_value { header ≡ header_of (parsed_of sheet.now) }
     requires floats_value { roomy (solid_of (parsed_of sheet.now)) (length words.old) (length floats.old) ≡ true }
     ensures { SheetJudged (parsed_of sheet.now) result words.new floats.new }
 {
     let sh = store(sheet, header, words, floats);
-    let verdict = checked(sh.lists(words), sh);
-    match verdict {
-        Verdict::Refused(why) => unready(why),
-        Verdict::Accepted => Ready { verdict, shape: sh },
-    }
+    checked(sh.lists(words), sh)?;
+    Ok(sh)
 }
 
 // Judges a sheet of any bytes and any length, in a workspace of any size. Of a sheet that passes, the solid lies in the workspace afterwards, and its
-// shape is answered; at a refusal the shape is of zeros. Whatever else the workspace holds afterwards is free.
-pub fn preflight(sheet: &[u8], words: &mut [u32], floats: &mut [f64]) -> Ready
+// shape is returned. Whatever else the workspace holds afterwards is free.
+pub fn preflight(sheet: &[u8], words: &mut [u32], floats: &mut [f64]) -> Result<Shape, Refusal>
     ensures { Preflighted sheet.now (length words.old) (length floats.old) result
         words.new floats.new }
 {
-    let j = sheet::judge(sheet);
-    let verdict = j.verdict;
-    let header = j.header;
-    match verdict {
-        Verdict::Refused(why) => unready(why),
-        Verdict::Accepted => {
-            if !is_roomy(header.elements, header.entries, words.len(), floats.len()) {
-                return unready(Refusal::Bench);
-            }
-            settle(sheet, header, words, floats)
-        }
+    let header = sheet::judge(sheet)?;
+    if !is_roomy(header.elements, header.entries, words.len(), floats.len()) {
+        return Err(Refusal::Bench);
     }
+    settle(sheet, header, words, floats)
 }

@@ -1,6 +1,6 @@
-pub mod Numbered
 pub mod Starts
 pub mod Turns
+pub mod Chains
 pub mod Low
 pub mod Shaping
 pub mod Solids

@@ -35,9 +35,6 @@ module _ (sh : Shape) (I : ℕ) where
     size_few : (r : ℕ) → r ≤ sh.rank → size_at sh r ≤ total sh
     size_few r h = omega (arith, first_rises sh some (suc r) (suc sh.rank) (omega arith) (omega arith))
 
-    pub last_fits : (sh.rank - 1 ≤ max_rank) × (first_at sh (sh.rank - 1) ≤ first_at sh (suc (sh.rank - 1)))
-    last_fits = (omega (arith, small.0), omega (arith, some (sh.rank - 1) (omega arith)))
-
     pub entries_small : sub_entries sh I < 2 ^ 34
     entries_small = go sh.rank refl
       where

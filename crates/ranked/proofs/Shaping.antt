@@ -81,14 +81,13 @@ pub record Firsts (R : ℕ) (counts : List ℕ) (first : List ℕ) (r : ℕ) : T
   pub tall : R ≤ max_rank
   pub fit : CountsFit R counts
   pub len : length first ≡ max_starts
-  pub bound : r ≤ suc R
   pub at : (q : ℕ) → q ≤ r → get_or first q 0 ≡ running 0 (size_in R counts) q
   pub rest : (q : ℕ) → r < q → get_or first q 0 ≡ 0
 
 module _ (R : ℕ) (counts : List ℕ) where
   pub firsts_none : R ≤ max_rank → CountsFit R counts → (first : List ℕ) → length first ≡ max_starts → ((q : ℕ) → get_or first q 0 ≡ 0) → Firsts R counts first 0
   unfolding running
-  firsts_none t f first l e = record { tall = t; fit = f; len = l; bound = omega arith; at = λ q h. let z : q ≡ 0 = omega arith in rw z (e 0); rest = λ q h. e q }
+  firsts_none t f first l e = record { tall = t; fit = f; len = l; at = λ q h. let z : q ≡ 0 = omega arith in rw z (e 0); rest = λ q h. e q }
 
   module _ (first : List ℕ) (r : ℕ) (s : Firsts R counts first r) where
     module _ (more : r ≤ R) (n : ℕ) (en : n ≡ size_in R counts r) where
@@ -103,7 +102,6 @@ module _ (R : ℕ) (counts : List ℕ) where
         tall = s.tall;
         fit = s.fit;
         len = length-set first (r + 1) (get_or first r 0 + n) ∙ s.len;
-        bound = omega arith;
         at = λ q h. go q h (ℕ_discrete q (r + 1));
         rest = λ q h. get_or-set_other first (r + 1) q (get_or first r 0 + n) 0 (λ e. omega arith) ∙ s.rest q (omega arith);
       }
@@ -112,9 +110,6 @@ module _ (R : ℕ) (counts : List ℕ) where
           go q h (yes e) =
               rw e (get_or-set_same first (r + 1) (get_or first r 0 + n) 0 (omega (arith, s.len, s.tall)) ∙ rw (add-one r, s.at r (omega arith), en))
           go q h (no e) = get_or-set_other first (r + 1) q (get_or first r 0 + n) 0 e ∙ s.at q (omega arith)
-
-    pub firsts_all : R < r → StartsCounted R counts first
-    firsts_all h = record { cells = s.len; at = λ q k. s.at q (omega (arith, s.bound)); rest = λ q k. s.rest q (omega (arith, s.bound)) }
 
 -- ---- the shape
 

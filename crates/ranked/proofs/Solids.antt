@@ -1,14 +1,17 @@
 -- This file goes from words to the solid that they hold, with one law each for lists, subs, sups, sizes and the top.
 -- Assumes nothing.
-use mathlib.Core.Path.{◌≡◌, sym, ◌∙◌, ap}
+use mathlib.Core.Path.{◌≡◌, refl, sym, ◌∙◌, ap}
 use mathlib.Core.Logic.{◌⊎◌, inl, inr}
-use mathlib.Core.List.{List, [], map}
-use Prim.Native.Nat.{ℕ, suc, ◌+◌, ◌*◌, ◌≤◌, ◌<◌}
+use mathlib.Core.Bool.{false}
+use mathlib.Core.List.{List, [], ◌∷◌, map}
+use Prim.Native.Nat.{ℕ, suc, ◌+◌, ◌*◌, ◌^◌, ◌≤◌, ◌<◌}
 use native.Mathlib.Omega.{arith}
 use native.Mathlib.Numerals.{add-one}
-use lib.ListN.{length, get_or, length-take, length-drop, get_or-eq_default}
+use lib.ListN.{length, get_or, take, drop, length-take, length-drop, get_or-eq_default}
 use lib.Seq.{get_or-take, get_or-drop}
-use Rattle.spec.specs.Lists.{In, range}
+use lib.Dec.{eqb}
+use borrow.Author.Tests.{ne_eqb}
+use Rattle.spec.specs.Lists.{In, range, holds}
 use Rattle.spec.specs.Types.{top, size, subs, sups}
 use Rattle.laws.proofs.Lists.{get_d_table, length_table}
 use Rattle.ranked.specs.declared.Shape.{Shape}
@@ -28,9 +31,22 @@ module _ (w : List ℕ) (i : ℕ) (a : Lies w i) where
   pub list_in : get_or w i 0 + length (list_at w i) ≤ length w
   list_in = let h : Inside w i = a.inside in rw (count_is, add-one) h
 
-  pub entry_is : (k : ℕ) → k < length (list_at w i) → get_or (list_at w i) k 0 ≡ get_or w (get_or w i 0 + k) 0
-  unfolding list_at
-  entry_is k h = let q : k < get_or w (suc i) 0 = rw (count_is, add-one) at h in rw (get_or-take, get_or-drop)
+-- Each entry fits a word.
+pub words_fit : (w : List ℕ) (i : ℕ) → ((p : ℕ) → get_or w p 0 < 2 ^ 32) → (k : ℕ) → get_or (list_at w i) k 0 < 2 ^ 32
+unfolding list_at
+words_fit w i f k = go (lt_or_le k (get_or w (suc i) 0))
+  where
+    go : (k < get_or w (suc i) 0) ⊎ (get_or w (suc i) 0 ≤ k) → get_or (take (get_or w (suc i) 0) (drop (get_or w i 0) w)) k 0 < 2 ^ 32
+    go (inl h) = rw (get_or-take, get_or-drop) (f (get_or w i 0 + k))
+    go (inr h) =
+        let short : length (take (get_or w (suc i) 0) (drop (get_or w i 0) w)) ≤ k = rw length-take (omega arith) in
+        rw (get_or-eq_default (take (get_or w (suc i) 0) (drop (get_or w i 0) w)) 0 short) (omega arith)
+
+-- A list does not hold what all its entries are below.
+pub none_larger : (n x : ℕ) → n ≤ x → (l : List ℕ) → ((k : ℕ) → get_or l k 0 < n) → holds eqb x l ≡ false
+unfolding holds
+none_larger n x h [] f = refl
+none_larger n x h (y ∷ l) f = rw (ne_eqb y x (λ e. omega (arith, e, f 0)), holds) (none_larger n x h l (λ k. f (suc k)))
 
 -- ---- the solid
 

@@ -2,17 +2,15 @@
 -- Assumes nothing.
 use mathlib.Core.Path.{◌≡◌, sym, ◌∙◌, ap}
 use mathlib.Core.Bool.{Bool, true, false}
-use mathlib.Core.List.{List, [], ◌∷◌}
-use Prim.Native.Nat.compare
+use mathlib.Core.List.{List, ◌∷◌}
 use Prim.Native.Nat.{ℕ, suc, ◌+◌, ◌≤◌, ◌<◌}
 use native.Mathlib.Numerals.{add-one}
 use native.Mathlib.Omega.{arith}
-use native.Mathlib.Decide.{ℕ_discrete}
 use lib.ListN.{length, get_or, drop, drop_of_length-le}
 use lib.Seq.{drop-cons}
 use lib.Dec.{eqb, ltb}
 use borrow.Author.Tests.{eq-eqb, ne_eqb, lt-ltb, le-ltb}
-use Rattle.spec.specs.Lists.{In, range, every, holds, place, keep}
+use Rattle.spec.specs.Lists.{In, range, every, place, keep}
 use Rattle.laws.proofs.Lists.{length-range, get_d_range, in_get_d}
 
 -- ---- what a reader finds
@@ -77,30 +75,6 @@ module _ (x : ℕ) where
   pub place_past : (y : ℕ) (l : List ℕ) → (y ≡ x → ⊥) → place eqb x (y ∷ l) ≡ suc (place eqb x l)
   unfolding place
   place_past y l e = rw (ne_eqb y x e, place)
-
-  -- What was passed, and the place in what is left, are the place in the whole.
-  abbrev pub PlaceFrom : List ℕ → ℕ → Type 0
-  PlaceFrom l k = k + place eqb x (drop k l) ≡ place eqb x l
-
-  pub place_yes : (l : List ℕ) (k : ℕ) → k < length l → PlaceFrom l k → get_or l k 0 ≡ x → k ≡ place eqb x l
-  place_yes l k h inv e = omega (arith, inv, ap (place eqb x) (drop-cons l k 0 h) ∙ place_here _ _ e)
-
-  pub place_no : (l : List ℕ) (k : ℕ) → k < length l → PlaceFrom l k → (get_or l k 0 ≡ x → ⊥) → PlaceFrom l (k + 1)
-  place_no l k h inv e = rw (add-one k) (omega (arith, inv, ap (place eqb x) (drop-cons l k 0 h) ∙ place_past _ _ e))
-
-  pub place_end : (l : List ℕ) (k : ℕ) → length l ≤ k → PlaceFrom l k → k ≡ place eqb x l
-  unfolding place
-  place_end l k h inv = let q : k + 0 ≡ place eqb x l = rw (drop_of_length-le l h) at inv in omega arith
-
-  -- The list holds x exactly if the place of x is below its length.
-  pub place-holds : (l : List ℕ) → ltb (place eqb x l) (length l) ≡ holds eqb x l
-  unfolding place holds
-  place-holds [] = le-ltb 0 0 (omega arith)
-  place-holds (y ∷ l) = go (ℕ_discrete y x) (place-holds l)
-    where
-      go : Dec (y ≡ x) → ltb (place eqb x l) (length l) ≡ holds eqb x l → ltb (place eqb x (y ∷ l)) (suc (length l)) ≡ holds eqb x (y ∷ l)
-      go (yes e) ih = rw (eq-eqb y x e, place, holds) (lt-ltb 0 (suc (length l)) (omega arith))
-      go (no e) ih = rw (ne_eqb y x e, place, holds, compare.suc-suc) ih
 
 -- ---- how many pass
 

@@ -50,10 +50,8 @@ fn starts_of(rank: usize, counts: [usize; PROPER_RANKS]) -> [usize; STARTS]
     ensures { StartsCounted rank counts result }
 {
     let mut first = [0usize; STARTS];
-    let mut r: usize = 0;
-    while r <= rank {
+    for r in 0..rank + 1 {
         first[r + 1] = first[r] + rank_size(rank, counts, r);
-        r += 1;
     }
     first
 }
@@ -131,24 +129,14 @@ impl Shape {
         requires { self.rank ≤ max_rank }
         ensures { result ≡ proper self }
     {
-        let end = self.first[self.rank];
-        let start = self.first[1];
-        if end < start {
-            return 0;
-        }
-        end - start
+        self.first[self.rank].saturating_sub(self.first[1])
     }
 
     // Counts the vertices, of which there are none where R = 0.
     pub fn vertices(self) -> usize
         ensures { result ≡ size_at self 1 }
     {
-        let end = self.first[2];
-        let start = self.first[1];
-        if end < start {
-            return 0;
-        }
-        end - start
+        self.first[2].saturating_sub(self.first[1])
     }
 
     // Returns the part of the words that holds the solid's lists.

@@ -5,7 +5,7 @@
 use crate::numbers_of;
 use copying::axes;
 use spec::Answer;
-use wire::{Run, filling, reading, writing};
+use wire::{End, Run, filling, reading};
 
 // These are the greatest numbers of floats of points, of turns and of copies, and of cells of a table, that a record may ask for.
 const POINTS: usize = 4096;
@@ -16,10 +16,12 @@ const COPIES: usize = 8192;
 
 const CELLS: usize = 32768;
 
-fn write(run: Run, answer: Answer, copies: &[f64], table: &[u16]) -> Run {
+fn write(run: Run, answer: Answer, copies: &[f64], table: &[u16]) -> Result<Run, End> {
     let first = numbers_of(answer);
-    let a = writing::number(writing::number(run, first.refusal), first.count);
-    writing::cells(writing::floats(a, copies), table)
+    run.number(first.refusal)?
+        .number(first.count)?
+        .output(copies)?
+        .output(table)
 }
 
 // Reads points and turns that just fill their slices, and fills the outputs.
@@ -32,8 +34,8 @@ fn prepare(
 ) {
     reading::floats(from, points);
     reading::floats(from, turns);
-    filling::floats(copies);
-    filling::cells(table);
+    filling::fill(copies);
+    filling::fill(table);
 }
 
 fn call(
@@ -43,33 +45,33 @@ fn call(
     turns: &mut [f64],
     copies: &mut [f64],
     table: &mut [u16],
-) -> Run {
+) -> Result<Run, End> {
     prepare(run.from, points, turns, copies, table);
     let answer = copying::copy(dimension, points, turns, copies, table);
     write(run, answer, copies, table)
 }
 
 // Writes the table of 48, row by row.
-fn write_table(run: Run) -> Run {
+fn write_table(run: Run) -> Result<Run, End> {
     let table = axes::axis_orders();
-    let turns = axes::axis_turns(&table);
-    writing::floats(run, &turns)
+    run.output(&axes::axis_turns(&table))
 }
 
-// Reads one record and answers it, or writes the table of 48 where none begins. A dimension can be any number, so the input's end is seen where the
-// number of floats of points would come.
-pub fn replay_one(run: Run) -> Run {
-    let dimension = reading::number(run.from, reading::GREATEST);
-    let p = reading::number(run.from, POINTS);
-    if p > POINTS {
-        return writing::finished(write_table(run));
-    }
-    let t = reading::number(run.from, TURNS);
-    let c = reading::number(run.from, COPIES);
-    let n = reading::number(run.from, CELLS);
-    if t > TURNS || c > COPIES || n > CELLS {
-        return writing::failed(run);
-    }
+// Reads one record and answers it, or writes the table of 48 where none begins. A dimension can be any number.
+pub fn replay_one(run: Run) -> Result<Run, End> {
+    let (Some(dimension), Some(p)) = (
+        reading::number(run.from, usize::MAX),
+        reading::number(run.from, POINTS),
+    ) else {
+        return Err(write_table(run)?.finished());
+    };
+    let (Some(t), Some(c), Some(n)) = (
+        reading::number(run.from, TURNS),
+        reading::number(run.from, COPIES),
+        reading::number(run.from, CELLS),
+    ) else {
+        return Err(run.failed());
+    };
     let mut points = [0.0; POINTS];
     let mut turns = [0.0; TURNS];
     let mut copies = [0.0; COPIES];

@@ -8,24 +8,31 @@ const BASE: u64 = 1_000_003;
 
 const PRIME: u64 = 17_592_186_044_399;
 
-// This is the digest of nothing.
-pub const FIRST: u64 = 1;
-
-// Returns the digest after one more piece, which is the last 16 bits of n.
-pub fn piece(state: u64, n: u64) -> u64
-    requires { state < 2 ^ 44 }
-    ensures { result < 2 ^ 44 }
-{
-    (state * BASE + n % 65536) % PRIME
+// This is the digest of what came so far.
+#[derive(Clone, Copy)]
+pub struct Digest {
+    pub state: u64,
+    ghost small: { state < 2 ^ 44 },
 }
 
-// Returns the digest after the four pieces of a pattern, highest first.
-pub fn pattern(state: u64, n: u64) -> u64
-    requires { state < 2 ^ 44 }
-    ensures { result < 2 ^ 44 }
-{
-    let a = piece(state, n / 0x1_0000_0000_0000);
-    let b = piece(a, n / 0x1_0000_0000);
-    let c = piece(b, n / 0x1_0000);
-    piece(c, n)
+impl Digest {
+    // Returns the digest of nothing.
+    pub fn new() -> Digest {
+        Digest { state: 1 }
+    }
+
+    // Returns the digest after one more piece, which is the last 16 bits of n.
+    pub fn piece(self, n: u64) -> Digest {
+        Digest {
+            state: (self.state * BASE + n % 65536) % PRIME,
+        }
+    }
+
+    // Returns the digest after the four pieces of a pattern, highest first.
+    pub fn pattern(self, n: u64) -> Digest {
+        self.piece(n / 0x1_0000_0000_0000)
+            .piece(n / 0x1_0000_0000)
+            .piece(n / 0x1_0000)
+            .piece(n)
+    }
 }

@@ -6,50 +6,43 @@ ghost use Rattle.std.specs.Prelude.{◌≤◌};
 ghost use Rattle.spec.specs.Limits.{max_dimension};
 
 use float::{DIMENSION, bits};
-use wire::{Run, reading, writing};
+use wire::{End, Run, reading};
 
 fn read_matrix(from: i32, d: usize) -> [[f64; DIMENSION]; DIMENSION]
     requires { d ≤ max_dimension }
 {
     let mut m = [[0.0; DIMENSION]; DIMENSION];
-    let mut i: usize = 0;
-    while i < d {
+    for i in 0..d {
         let mut row = [0.0; DIMENSION];
-        reading::floats(from, &mut row[0..d]);
+        reading::floats(from, &mut row[..d]);
         m[i] = row;
-        i += 1;
     }
     m
 }
 
-fn write_row(run: Run, row: [f64; DIMENSION], d: usize) -> Run
+fn write_row(run: Run, row: [f64; DIMENSION], d: usize) -> Result<Run, End>
     requires { d ≤ max_dimension }
 {
-    writing::floats(run, &row[0..d])
+    run.output(&row[..d])
 }
 
-fn write_matrix(run: Run, m: [[f64; DIMENSION]; DIMENSION], d: usize) -> Run
+fn write_matrix(run: Run, m: [[f64; DIMENSION]; DIMENSION], d: usize) -> Result<Run, End>
     requires { d ≤ max_dimension }
 {
     let mut after = run;
-    let mut i: usize = 0;
-    while i < d {
-        let next = write_row(after, m[i], d);
-        after = next;
-        i += 1;
+    for i in 0..d {
+        after = write_row(after, m[i], d)?;
     }
-    after
+    Ok(after)
 }
 
-fn write_inverse(run: Run, m: [[f64; DIMENSION]; DIMENSION], d: usize) -> Run
+fn write_inverse(run: Run, m: [[f64; DIMENSION]; DIMENSION], d: usize) -> Result<Run, End>
     requires { d ≤ max_dimension }
 {
-    let mut regular = false;
-    let inverse = matrix::inverse(m, d, &mut regular);
-    if regular {
-        return write_matrix(writing::number(run, 1), inverse, d);
+    match matrix::inverse(m, d) {
+        Some(inverse) => write_matrix(run.number(1)?, inverse, d),
+        None => run.number(0),
     }
-    writing::number(run, 0)
 }
 
 // Returns the matrix with its rows in falling order.
@@ -57,38 +50,31 @@ fn turned(m: [[f64; DIMENSION]; DIMENSION], d: usize) -> [[f64; DIMENSION]; DIME
     requires { d ≤ max_dimension }
 {
     let mut t = m;
-    let mut i: usize = 0;
-    while i < d {
-        t[i] = m[d - 1 - i];
-        i += 1;
-    }
+    t[..d].reverse();
     t
 }
 
-fn replay_matrix(run: Run, d: usize) -> Run
+fn replay_matrix(run: Run, d: usize) -> Result<Run, End>
     requires { d ≤ max_dimension }
 {
     let m = read_matrix(run.from, d);
-    let a = write_inverse(run, m, d);
-    let b = writing::number(a, bits::pattern(matrix::determinant(m, d)));
-    let c = write_matrix(b, matrix::product(m, turned(m, d), d), d);
+    let a = write_inverse(run, m, d)?;
+    let b = a.number(bits::pattern(matrix::determinant(m, d)))?;
+    let c = write_matrix(b, matrix::product(m, turned(m, d), d), d)?;
     write_row(c, matrix::image(m, m[0], d), d)
 }
 
-fn replay_root(run: Run) -> Run {
-    let mut x = [0.0; 1];
+fn replay_root(run: Run) -> Result<Run, End> {
+    let mut x = [0.0];
     reading::floats(run.from, &mut x);
-    writing::number(run, bits::pattern(float::root::root(x[0])))
+    run.number(bits::pattern(float::root::root(x[0])))
 }
 
 // Reads one record and answers it.
-pub fn replay_one(run: Run) -> Run {
-    let tag = reading::number(run.from, DIMENSION);
-    if tag > DIMENSION {
-        return writing::finished(run);
+pub fn replay_one(run: Run) -> Result<Run, End> {
+    match reading::number(run.from, DIMENSION) {
+        None => Err(run.finished()),
+        Some(0) => replay_root(run),
+        Some(d) => replay_matrix(run, d),
     }
-    if tag == 0 {
-        return replay_root(run);
-    }
-    replay_matrix(run, tag)
 }

@@ -15,10 +15,10 @@ use spec::Answer;
 use std::fs::File;
 use std::os::fd::AsRawFd;
 use std::rt::{Env, Files};
-use wire::{Run, writing};
+use wire::{End, Run};
 
 // A file has fewer records than this.
-const RECORDS: u64 = 100_000;
+const RECORDS: usize = 100_000;
 
 // Each cell of a lent workspace holds one of these before a call, so that a call that counts on zeros there is found out.
 const USED_WORD: u32 = 0xa5a5_a5a5;
@@ -34,50 +34,39 @@ struct Numbers {
 
 fn numbers_of(answer: Answer) -> Numbers {
     match answer {
-        Answer::Done(n) => Numbers {
+        Ok(n) => Numbers {
             refusal: 0,
             count: n as u64,
         },
-        Answer::Refused(why, n) => Numbers {
-            refusal: why.number() as u64,
-            count: n as u64,
+        Err(refused) => Numbers {
+            refusal: refused.why.number() as u64,
+            count: refused.kept as u64,
         },
     }
 }
 
 // Reads a record of the kind that the word names, and answers it. The run ends where no record begins, and fails where the word names no kind.
-fn replay_one(word: &[u8], run: Run) -> Run {
-    if check::same(word, b"floats") {
-        return floats::replay_one(run);
+fn replay_one(word: &[u8], run: Run) -> Result<Run, End> {
+    match word {
+        b"floats" => floats::replay_one(run),
+        b"sheets" => sheets::replay_one(run),
+        b"types" => types_calls::replay_one(run),
+        b"searches" => searches::replay_one(run),
+        b"copies" => copies::replay_one(run),
+        _ => Err(run.failed()),
     }
-    if check::same(word, b"sheets") {
-        return sheets::replay_one(run);
-    }
-    if check::same(word, b"types") {
-        return types_calls::replay_one(run);
-    }
-    if check::same(word, b"searches") {
-        return searches::replay_one(run);
-    }
-    if check::same(word, b"copies") {
-        return copies::replay_one(run);
-    }
-    writing::failed(run)
 }
 
 // Answers each record in turn. A file that has too many records fails.
-fn replay(word: &[u8], from: i32, to: i32) -> Run {
+fn replay(word: &[u8], from: i32, to: i32) -> End {
     let mut run = wire::start(from, to);
-    let mut left = RECORDS;
-    while left > 0 {
-        let next = replay_one(word, run);
-        if next.ended {
-            return next;
+    for _ in 0..RECORDS {
+        match replay_one(word, run) {
+            Ok(next) => run = next,
+            Err(end) => return end,
         }
-        run = next;
-        left -= 1;
     }
-    writing::failed(run)
+    run.failed()
 }
 
 // Returns the descriptor of the file. Where it could not be opened this is -1, from which nothing is read.
@@ -92,14 +81,19 @@ fn descriptor(file: &std::io::Result<File>) -> i32 {
 fn hold(rt: &impl Files<File = File>, word: &[u8], calls: &str, answers: &str) -> bool {
     let from = File::open(rt, calls);
     let to = File::open(rt, answers);
-    let run = replay(word, descriptor(&from), descriptor(&to));
+    let end = replay(word, descriptor(&from), descriptor(&to));
     io::write_all(1, word);
     io::write_all(1, b" ");
-    io::print_decimal(1, run.count);
-    if run.good {
-        return io::write_all(1, b" bytes as stored\n");
+    match end {
+        End::Finished(count) => {
+            io::print_decimal(1, count);
+            io::write_all(1, b" bytes as stored\n")
+        }
+        End::Failed(count) => {
+            io::print_decimal(1, count);
+            io::write_all(1, b" bytes as stored, and then no longer\n")
+        }
     }
-    io::write_all(1, b" bytes as stored, and then no longer\n")
 }
 
 fn hold_all(rt: &impl Files<File = File>) {
@@ -117,7 +111,7 @@ fn main(rt: HostRuntime) {
         hold_all(&rt);
         return;
     }
-    if !replay(&word[..n], 0, 1).good {
+    if let End::Failed(_) = replay(&word[..n], 0, 1) {
         io::write_all(
             2,
             b"replay: no such kind of records, or a record that is not whole\n",

@@ -3,13 +3,13 @@
 // rows and marks are; then come the sheet's bytes. Its answer is a line with the refusal's number, or 0, the count, and a digest of each output
 // (module `digests`). Where it is to be whole there are the outputs instead: a line for each matrix (the floats' patterns in hexadecimal digits), one
 // for each row, and one with all marks. tools/make_searches.py made searches.in and searches.out.
-ghost use Rattle.std.specs.Prelude.{◌≡◌, ◌<◌, ◌^◌};
-ghost use Rattle.replay.specs.Outputs.{length_of};
+ghost use Rattle.std.specs.Prelude.{◌<◌};
 
-use crate::{USED_FLOAT, USED_WORD, digests, numbers_of};
+use crate::digests::Digest;
+use crate::{USED_FLOAT, USED_WORD, numbers_of};
 use float::bits;
 use spec::Answer;
-use wire::{Run, filling, reading, writing};
+use wire::{End, Run, filling, reading};
 
 // These are the longest sheet, the largest workspace and the longest outputs that a record may ask for.
 const BYTES: usize = 8192;
@@ -27,165 +27,136 @@ const MARKS: usize = 2048;
 // The four calls have the numbers from 0 to this.
 const LAST_CALL: usize = 3;
 
-// These are the outputs of a search: floats, cells and bytes.
+// This is which call a record asks for, and whether its outputs are answered whole or by their digests.
 #[derive(Clone, Copy)]
-enum SearchOutput {
-    Matrices,
-    Rows,
-    Marks,
+struct Kind {
+    rotations: bool,
+    whole: bool,
+}
+
+fn read_kind(from: i32) -> Option<Kind> {
+    let n = reading::number(from, LAST_CALL)?;
+    Some(Kind {
+        rotations: n % 2 == 1,
+        whole: n / 2 == 1,
+    })
+}
+
+// These are the outputs of a search, as a call left them.
+#[derive(Clone, Copy)]
+struct Outputs<'a> {
+    matrices: &'a [f64],
+    rows: &'a [u16],
+    marks: &'a [u8],
+}
+
+// This is a type of an output's entries.
+trait Entry: Copy {
+    fn write(self, run: Run) -> Result<Run, End>;
+
+    // Returns the digest after one more entry.
+    fn digested(self, digest: Digest) -> Digest;
+}
+
+// A float is written as its pattern, in hexadecimal digits, and has four pieces.
+impl Entry for f64 {
+    fn write(self, run: Run) -> Result<Run, End> {
+        run.pattern(bits::pattern(self))
+    }
+
+    fn digested(self, digest: Digest) -> Digest {
+        digest.pattern(bits::pattern(self))
+    }
+}
+
+impl Entry for u16 {
+    fn write(self, run: Run) -> Result<Run, End> {
+        write_number(run, u64::from(self))
+    }
+
+    fn digested(self, digest: Digest) -> Digest {
+        digest.piece(u64::from(self))
+    }
+}
+
+impl Entry for u8 {
+    fn write(self, run: Run) -> Result<Run, End> {
+        write_number(run, u64::from(self))
+    }
+
+    fn digested(self, digest: Digest) -> Digest {
+        digest.piece(u64::from(self))
+    }
 }
 
 // Writes a number below 100,000 as five decimal digits.
-fn write_number(run: Run, n: u64) -> Run {
-    let b = [
-        writing::digit(n / 10000 % 10),
-        writing::digit(n / 1000 % 10),
-        writing::digit(n / 100 % 10),
-        writing::digit(n / 10 % 10),
-        writing::digit(n % 10),
-    ];
-    writing::bytes(run, &b)
+fn write_number(run: Run, n: u64) -> Result<Run, End> {
+    let mut text = [0; 5];
+    let mut rest = n;
+    for digit in text.iter_mut().rev() {
+        *digit = b'0' + (rest % 10) as u8;
+        rest /= 10;
+    }
+    run.bytes(&text)
 }
 
 // Writes what stands after a number: a blank, or a new line.
-fn write_gap(run: Run, last: bool) -> Run {
-    if last {
-        return writing::bytes(run, b"\n");
-    }
-    writing::bytes(run, b" ")
-}
-
-// Returns how many entries the output has.
-fn length_of(output: SearchOutput, matrices: &[f64], rows: &[u16], marks: &[u8]) -> usize
-    ensures { result ≡ length_of output matrices.now rows.now marks.now }
-{
-    match output {
-        SearchOutput::Matrices => matrices.len(),
-        SearchOutput::Rows => rows.len(),
-        SearchOutput::Marks => marks.len(),
-    }
-}
-
-// Returns an entry of the output as a number. That of a float is its bit pattern.
-fn entry(output: SearchOutput, i: usize, matrices: &[f64], rows: &[u16], marks: &[u8]) -> u64
-    requires { i < length_of output matrices.now rows.now marks.now }
-{
-    match output {
-        SearchOutput::Matrices => bits::pattern(matrices[i]),
-        SearchOutput::Rows => wire::cell_number(rows[i]),
-        SearchOutput::Marks => wire::byte_number(marks[i]),
-    }
-}
-
-// Writes the number of an entry: in hexadecimal digits where it is a pattern, and else in decimal ones.
-fn write_entry(run: Run, output: SearchOutput, n: u64) -> Run {
-    match output {
-        SearchOutput::Matrices => writing::pattern(run, n),
-        _ => write_number(run, n),
-    }
+fn write_gap(run: Run, last: bool) -> Result<Run, End> {
+    run.bytes(if last { b"\n" } else { b" " })
 }
 
 // Writes an output, with `line` entries on each line.
-fn write_output(
-    run: Run,
-    output: SearchOutput,
-    line: usize,
-    matrices: &[f64],
-    rows: &[u16],
-    marks: &[u8],
-) -> Run
+fn write_output<T: Entry>(run: Run, line: usize, output: &[T]) -> Result<Run, End>
     requires { 0 < line }
 {
-    let n = length_of(output, matrices, rows, marks);
     let mut after = run;
-    let mut i: usize = 0;
-    while i < n {
-        let one = write_entry(after, output, entry(output, i, matrices, rows, marks));
-        i += 1;
-        let next = write_gap(one, i % line == 0);
-        after = next;
+    for i in 0..output.len() {
+        after = write_gap(output[i].write(after)?, (i + 1) % line == 0)?;
     }
-    after
+    Ok(after)
 }
 
-// Returns the digest after the number of one more entry.
-fn digested(state: u64, output: SearchOutput, n: u64) -> u64
-    requires { state < 2 ^ 44 }
-    ensures { result < 2 ^ 44 }
-{
-    match output {
-        SearchOutput::Matrices => digests::pattern(state, n),
-        _ => digests::piece(state, n),
-    }
-}
-
-fn digest(output: SearchOutput, matrices: &[f64], rows: &[u16], marks: &[u8]) -> u64 {
-    let n = length_of(output, matrices, rows, marks);
-    let mut state = digests::FIRST;
-    let mut i: usize = 0;
-    while i < n {
-        state = digested(state, output, entry(output, i, matrices, rows, marks));
-        i += 1;
-    }
-    state
+fn digest<T: Entry>(output: &[T]) -> Digest {
+    output
+        .iter()
+        .fold(Digest::new(), |digest, entry| entry.digested(digest))
 }
 
 // Returns how many of the cells go on each line.
 fn to_a_line(cells: usize, lines: usize) -> usize
     ensures { 0 < result }
 {
-    if lines == 0 {
-        return 1;
-    }
-    let n = cells / lines;
-    if n == 0 {
-        return 1;
-    }
-    n
+    cells.checked_div(lines).map_or(1, |n| n.max(1))
 }
 
 // Writes the outputs themselves: a line for each member's matrix and row, where there are as many marks as members, and one line for the marks.
-fn write_outputs(run: Run, matrices: &[f64], rows: &[u16], marks: &[u8]) -> Run {
-    let n = marks.len();
-    let m = to_a_line(matrices.len(), n);
-    let r = to_a_line(rows.len(), n);
-    let a = write_output(run, SearchOutput::Matrices, m, matrices, rows, marks);
-    let b = write_output(a, SearchOutput::Rows, r, matrices, rows, marks);
-    write_output(
-        b,
-        SearchOutput::Marks,
-        to_a_line(n, 1),
-        matrices,
-        rows,
-        marks,
-    )
+fn write_outputs(run: Run, outputs: Outputs) -> Result<Run, End> {
+    let n = outputs.marks.len();
+    let m = to_a_line(outputs.matrices.len(), n);
+    let r = to_a_line(outputs.rows.len(), n);
+    let a = write_output(run, m, outputs.matrices)?;
+    let b = write_output(a, r, outputs.rows)?;
+    write_output(b, to_a_line(n, 1), outputs.marks)
 }
 
-fn write_digests(run: Run, matrices: &[f64], rows: &[u16], marks: &[u8]) -> Run {
-    let m = digest(SearchOutput::Matrices, matrices, rows, marks);
-    let r = digest(SearchOutput::Rows, matrices, rows, marks);
-    let k = digest(SearchOutput::Marks, matrices, rows, marks);
-    let a = write_gap(writing::pattern(run, m), false);
-    let b = write_gap(writing::pattern(a, r), false);
-    write_gap(writing::pattern(b, k), true)
+fn write_digests(run: Run, outputs: Outputs) -> Result<Run, End> {
+    let m = digest(outputs.matrices);
+    let r = digest(outputs.rows);
+    let k = digest(outputs.marks);
+    let a = write_gap(run.pattern(m.state)?, false)?;
+    let b = write_gap(a.pattern(r.state)?, false)?;
+    write_gap(b.pattern(k.state)?, true)
 }
 
 // Writes the number of the refusal, or 0, and the count, and then the outputs, whole or by their digests.
-fn write(
-    run: Run,
-    answer: Answer,
-    whole: bool,
-    matrices: &[f64],
-    rows: &[u16],
-    marks: &[u8],
-) -> Run {
+fn write(run: Run, answer: Answer, whole: bool, outputs: Outputs) -> Result<Run, End> {
     let first = numbers_of(answer);
-    let a = write_gap(write_number(run, first.refusal), false);
-    let b = write_gap(write_number(a, first.count), whole);
+    let a = write_gap(write_number(run, first.refusal)?, false)?;
+    let b = write_gap(write_number(a, first.count)?, whole)?;
     if whole {
-        return write_outputs(b, matrices, rows, marks);
+        return write_outputs(b, outputs);
     }
-    write_digests(b, matrices, rows, marks)
+    write_digests(b, outputs)
 }
 
 fn answer(
@@ -206,41 +177,46 @@ fn answer(
 // Reads a sheet that just fills its slice, and fills the outputs.
 fn prepare(from: i32, sheet: &mut [u8], matrices: &mut [f64], rows: &mut [u16], marks: &mut [u8]) {
     io::read_full(from, sheet);
-    filling::floats(matrices);
-    filling::cells(rows);
-    filling::bytes(marks);
+    filling::fill(matrices);
+    filling::fill(rows);
+    filling::fill(marks);
 }
 
 fn call(
     run: Run,
-    kind: usize,
+    kind: Kind,
     sheet: &mut [u8],
     words: &mut [u32],
     floats: &mut [f64],
     matrices: &mut [f64],
     rows: &mut [u16],
     marks: &mut [u8],
-) -> Run {
+) -> Result<Run, End> {
     prepare(run.from, sheet, matrices, rows, marks);
-    let given = answer(kind % 2 == 1, sheet, words, floats, matrices, rows, marks);
-    write(run, given, kind / 2 == 1, matrices, rows, marks)
+    let given = answer(kind.rotations, sheet, words, floats, matrices, rows, marks);
+    let outputs = Outputs {
+        matrices,
+        rows,
+        marks,
+    };
+    write(run, given, kind.whole, outputs)
 }
 
 // Reads one record and answers it.
-pub fn replay_one(run: Run) -> Run {
-    let kind = reading::number(run.from, LAST_CALL);
-    if kind > LAST_CALL {
-        return writing::finished(run);
-    }
-    let s = reading::number(run.from, BYTES);
-    let w = reading::number(run.from, WORDS);
-    let f = reading::number(run.from, FLOATS);
-    let m = reading::number(run.from, MATRICES);
-    let r = reading::number(run.from, ROWS);
-    let k = reading::number(run.from, MARKS);
-    if s > BYTES || w > WORDS || f > FLOATS || m > MATRICES || r > ROWS || k > MARKS {
-        return writing::failed(run);
-    }
+pub fn replay_one(run: Run) -> Result<Run, End> {
+    let Some(kind) = read_kind(run.from) else {
+        return Err(run.finished());
+    };
+    let (Some(s), Some(w), Some(f), Some(m), Some(r), Some(k)) = (
+        reading::number(run.from, BYTES),
+        reading::number(run.from, WORDS),
+        reading::number(run.from, FLOATS),
+        reading::number(run.from, MATRICES),
+        reading::number(run.from, ROWS),
+        reading::number(run.from, MARKS),
+    ) else {
+        return Err(run.failed());
+    };
     let mut sheet = [0u8; BYTES];
     let mut words = [USED_WORD; WORDS];
     let mut floats = [USED_FLOAT; FLOATS];

@@ -3,7 +3,7 @@
 // elements; the table. tools/make_types.py made types.in and types.out.
 use crate::{USED_FLOAT, USED_WORD, numbers_of};
 use spec::Answer;
-use wire::{Run, filling, reading, writing};
+use wire::{End, Run, filling, reading};
 
 // These are the largest lengths that a record may ask for.
 const BYTES: usize = 8192;
@@ -16,32 +16,27 @@ const ELEMENTS: usize = 1024;
 
 const CELLS: usize = 4096;
 
-fn write_number(run: Run, n: u64) -> Run {
-    writing::decimal(writing::bytes(run, b" "), n)
+fn write_number(run: Run, n: u64) -> Result<Run, End> {
+    run.bytes(b" ")?.decimal(n)
 }
 
-fn write_cells(run: Run, s: &[u16]) -> Run {
-    let mut after = run;
-    let mut i: usize = 0;
-    while i < s.len() {
-        let next = write_number(after, wire::cell_number(s[i]));
-        after = next;
-        i += 1;
-    }
-    writing::bytes(after, b"\n")
+fn write_cells(run: Run, s: &[u16]) -> Result<Run, End> {
+    s.iter()
+        .try_fold(run, |after, cell| write_number(after, u64::from(*cell)))?
+        .bytes(b"\n")
 }
 
-fn write(run: Run, answer: Answer, of: &[u16], table: &[u16]) -> Run {
+fn write(run: Run, answer: Answer, of: &[u16], table: &[u16]) -> Result<Run, End> {
     let first = numbers_of(answer);
-    let a = write_number(writing::decimal(run, first.refusal), first.count);
-    write_cells(write_cells(writing::bytes(a, b"\n"), of), table)
+    let a = write_number(run.decimal(first.refusal)?, first.count)?;
+    write_cells(write_cells(a.bytes(b"\n")?, of)?, table)
 }
 
 // Reads a sheet that just fills its slice, and fills the outputs.
 fn prepare(from: i32, sheet: &mut [u8], of: &mut [u16], table: &mut [u16]) {
     io::read_full(from, sheet);
-    filling::cells(of);
-    filling::cells(table);
+    filling::fill(of);
+    filling::fill(table);
 }
 
 fn call(
@@ -51,25 +46,25 @@ fn call(
     floats: &mut [f64],
     of: &mut [u16],
     table: &mut [u16],
-) -> Run {
+) -> Result<Run, End> {
     prepare(run.from, sheet, of, table);
     let answer = types::element_types(sheet, words, floats, of, table);
     write(run, answer, of, table)
 }
 
 // Reads one record and answers it.
-pub fn replay_one(run: Run) -> Run {
-    let b = reading::short_number(run.from, BYTES);
-    if b > BYTES {
-        return writing::finished(run);
-    }
-    let w = reading::short_number(run.from, WORDS);
-    let f = reading::short_number(run.from, FLOATS);
-    let e = reading::short_number(run.from, ELEMENTS);
-    let t = reading::short_number(run.from, CELLS);
-    if w > WORDS || f > FLOATS || e > ELEMENTS || t > CELLS {
-        return writing::failed(run);
-    }
+pub fn replay_one(run: Run) -> Result<Run, End> {
+    let Some(b) = reading::short_number(run.from, BYTES) else {
+        return Err(run.finished());
+    };
+    let (Some(w), Some(f), Some(e), Some(t)) = (
+        reading::short_number(run.from, WORDS),
+        reading::short_number(run.from, FLOATS),
+        reading::short_number(run.from, ELEMENTS),
+        reading::short_number(run.from, CELLS),
+    ) else {
+        return Err(run.failed());
+    };
     let mut sheet = [0u8; BYTES];
     let mut words = [USED_WORD; WORDS];
     let mut floats = [USED_FLOAT; FLOATS];

@@ -5,8 +5,7 @@ use mathlib.Core.Bool.{Bool, true, false}
 use mathlib.Core.List.{List}
 use Prim.Native.Nat.{ℕ, ◌<◌}
 use lib.ListN.{length, get_or}
-use Rattle.spec.specs.declared.Answer.{Answer}
-use Rattle.spec.specs.Refusal.{answer_count}
+use Rattle.spec.specs.Refusal.{answer_count, Answer}
 use Rattle.spec.specs.Types.{size, State}
 use Rattle.spec.specs.Solid.{Concrete}
 use Rattle.spec.specs.Calls.{SearchOut, search_call, rotations_call}

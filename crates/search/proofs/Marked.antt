@@ -1,10 +1,11 @@
 -- The marks of the rows that a search wrote are written one after another.
 -- Assumes nothing.
+use Rattle.std.specs.Prelude.{None, Option, Some}
 use mathlib.Core.Path.{◌≡◌, refl, sym, ap, ap₂, ◌∙◌, subst}
 use mathlib.Core.Logic.{inl, inr}
 use Prim.Native.Nat.{ℕ, suc, ◌+◌, ◌≤◌}
 use mathlib.Core.Bool.{Bool, true, false, ◌&&◌}
-use mathlib.Core.Option.{Option, none, some, none-ne-some, some-injective}
+use Rattle.laws.proofs.Options.{none-ne-some, some-injective}
 use mathlib.Core.List.{List, [], ◌∷◌, ◌++◌, map, append_assoc}
 use native.Mathlib.Omega.{arith}
 use lib.ListN.{length, take, drop, length-map}
@@ -56,18 +57,18 @@ marks_before c d n v rows ks old e h k =
     rw (k, e, length-take-le n old h, many)
 
 -- A member is what some flag's candidate gives.
-member-from : (w : Setting) (l : List Flag) (x : Member) → In x (members_of w l) → (F : Flag) × (tested w (candidate w F) ≡ some x)
+member-from : (w : Setting) (l : List Flag) (x : Member) → In x (members_of w l) → (F : Flag) × (tested w (candidate w F) ≡ Some x)
 unfolding members_of
 member-from w [] x h = elim h [ ]
 member-from w (F ∷ l) x h = go (same_types w F) (tested w (candidate w F)) refl h (λ k. member-from w l x k)
   where
     go : (b : Bool) (o : Option Member) → tested w (candidate w F) ≡ o
-        → In x (elim b as (λ z. List Member) [ true ↦ elim o as (λ z. List Member) [ some m ↦ m ∷ members_of w l | none ↦ members_of w l ] | false ↦ members_of w l ])
-        → (In x (members_of w l) → (F : Flag) × (tested w (candidate w F) ≡ some x)) → (F : Flag) × (tested w (candidate w F) ≡ some x)
+        → In x (elim b as (λ z. List Member) [ true ↦ elim o as (λ z. List Member) [ Some m ↦ m ∷ members_of w l | None ↦ members_of w l ] | false ↦ members_of w l ])
+        → (In x (members_of w l) → (F : Flag) × (tested w (candidate w F) ≡ Some x)) → (F : Flag) × (tested w (candidate w F) ≡ Some x)
     go false o e k f = f k
-    go true none e k f = f k
-    go true (some m) e (inl q) f = (F, rw q e)
-    go true (some m) e (inr k) f = f k
+    go true None e k f = f k
+    go true (Some m) e (inl q) f = (F, rw q e)
+    go true (Some m) e (inr k) f = f k
 
 -- Those that fit have room.
 fitting-room : (m : Room) (d v n : ℕ) (l : List Member) → RoomHolds m d v n → RoomHolds m d v (length (fitting m d v n l) + n)
@@ -83,11 +84,11 @@ fitting-room m d v n (x ∷ l) h = go (have_room m d v (suc n)) refl (λ k. fitt
     go false e f = let q : 0 + n ≡ n = omega arith in rw q h
 
 -- Its row has an entry for each vertex.
-tested-row : (w : Setting) (m : Matrix) (x : Member) → tested w m ≡ some x → length x.row ≡ length w.searched.points
+tested-row : (w : Setting) (m : Matrix) (x : Member) → tested w m ≡ Some x → length x.row ≡ length w.searched.points
 unfolding tested row_of
 tested-row w m x = go (every (λ v. ltb v (length w.searched.points)) (row_of w.searched.points m) && examples_go w.searched.abs w.types (row_of w.searched.points m))
   where
-    go : (b : Bool) → elim b as (λ z. Option Member) [ true ↦ some (record { matrix = m; row = row_of w.searched.points m; mark = mark_of w.read.abs (by_table w.classes) (row_of w.searched.points m) }) | false ↦ none ] ≡ some x
+    go : (b : Bool) → elim b as (λ z. Option Member) [ true ↦ Some (record { matrix = m; row = row_of w.searched.points m; mark = mark_of w.read.abs (by_table w.classes) (row_of w.searched.points m) }) | false ↦ None ] ≡ Some x
         → length x.row ≡ length w.searched.points
     go true e = subst (λ (y : Member). length y.row ≡ length w.searched.points) (some-injective _ x e) (length-map w.searched.points _)
     go false e = absurd (none-ne-some x e)

@@ -1,9 +1,11 @@
 -- The search's judgements are taken as the program comes to them.
 -- Assumes nothing.
+use Rattle.std.specs.Prelude.{Err, None, Ok, Option, Result, Some, ⊤}
+use Rattle.std.specs.Option.{ok_or}
+use Rattle.std.specs.Result.{is_err}
 use mathlib.Core.Path.{◌≡◌, refl, sym, ap, subst, ◌∙◌}
 use Prim.Native.Nat.{ℕ, ◌-◌, ◌≤◌, ◌<◌}
-use mathlib.Core.Bool.{Bool, true, false, ◌&&◌, false≢true}
-use mathlib.Core.Option.{Option, none, some}
+use mathlib.Core.Bool.{Bool, true, false, ◌&&◌}
 use mathlib.Core.List.{List, map}
 use native.Mathlib.Omega.{arith}
 use borrow.Author.Tests.{leb-true, eqb-true}
@@ -12,13 +14,12 @@ use lib.Dec.{leb, eqb}
 use lib.Ieee.{Float}
 use Rattle.spec.specs.declared.Refusal.{Refusal}
 use Rattle.spec.specs.declared.Refusal.TheVariants.{NotFull, DoubleCorner, Centred, Flat, Unsettled}
-use Rattle.spec.specs.declared.Answer.{Answer}
-use Rattle.spec.specs.declared.Answer.TheVariants.{Refused}
+use Rattle.spec.specs.Refusal.{Answer, refused_with}
 use Rattle.spec.specs.Lists.{range, parts, written, no_repeats}
 use Rattle.spec.specs.Types.{top, size, State}
 use Rattle.spec.specs.Matrix.{Matrix, inverse}
 use Rattle.spec.specs.Points.{near}
-use Rattle.spec.specs.Judged.{Judged, refused, passed}
+use Rattle.spec.specs.Judged.{Judged}
 use Rattle.spec.specs.Solid.{Concrete, preflight}
 use Rattle.spec.specs.Flags.{first_flag, flags}
 use Rattle.spec.specs.Classes.{types_of}
@@ -26,41 +27,44 @@ use Rattle.spec.specs.Search.{Member, Setting, first_far, exchanged_in, exchange
 use Rattle.spec.specs.Calls.{SearchOut, room_of}
 use Rattle.laws.proofs.Shapes.{RoomHolds}
 use Rattle.laws.proofs.Marked.{both}
-use Rattle.matrix.specs.Reading.{if_regular}
 use Rattle.points.proofs.Parts.{parts-take}
-use Rattle.spec.specs.declared.Verdict.TheVariants as verdict
 use Rattle.ranked.specs.declared.Shape.{Shape}
-use Rattle.preflight.specs.declared.Ready.{Ready}
 use Rattle.ranked.specs.Words.{size_at, lists_of, abs_in}
 use Rattle.preflight.specs.Bench.{Bench, Laid}
 use Rattle.ranked.specs.Layout.{solid_in}
-use Rattle.preflight.specs.Preflight.{verdict_of, Preflighted}
+use Rattle.preflight.specs.Preflight.{Preflighted}
+use Rattle.preflight.proofs.Laws.{refused_by, passed_by}
 use Rattle.preflight.proofs.Benches.{bench_kept}
 use Rattle.element_types.specs.State.{state_in}
-use Rattle.element_types.specs.declared.settling.settled.Ending.{Ending}
-use Rattle.element_types.specs.declared.settling.settled.Ending.TheVariants.{Settled, Changing}
-use Rattle.element_types.specs.Settle.{end_of}
 use Rattle.element_types.specs.Typed.{Typed}
 use Rattle.marks.specs.Rows.{ClassesIn}
 use Rattle.symmetry.proofs.exchange.Exchanged.{bench_exchanged, solid-exchanged}
-use Rattle.symmetry.specs.declared.listing.Members.{Members}
+use Rattle.symmetry.specs.declared.listing.NoRoom.{NoRoom}
 use Rattle.symmetry.specs.Tails.{setting_of, from9, from10, from15, from11, call_from, out_of}
 use Rattle.symmetry.specs.Searching.{Parted}
-use Rattle.symmetry.specs.Listing.{MembersListed, answer_of, outs_of, kept_in}
+use Rattle.symmetry.specs.Listing.{MembersListed, number_of, answer_of, outs_of, kept_in}
 use Rattle.symmetry.proofs.Tails.{judge_no, judge_yes, wanted_no, wanted_yes, from8, refused-call, after, search-after, rotations-after}
 use Rattle.symmetry.proofs.Running.{listed-call}
-use Rattle.search.specs.declared.judging.Far.{Far}
-use Rattle.search.specs.declared.judging.Far.TheVariants.{Facet, Nothing}
-use Rattle.search.specs.Reading.{far_of, regular, call_of}
+use Rattle.search.specs.Reading.{call_of}
 use Rattle.marks.specs.Marking.{marks_in}
 use Rattle.search.proofs.Tested.{solid-kept, full_is, facets_are, far-low}
 use Rattle.search.proofs.Benched.{exchanged_back, classes_in_lem}
 use Rattle.search.proofs.Marked.{kept-room, kept_marks}
 
+-- ---- what is wanted, and refused where it is missing
+
+pub missing : {A : Type 0} (o : Option A) (why : Refusal) {e : Refusal} → ok_or o why ≡ Err e → (o ≡ None) × (e ≡ why)
+missing None why q = (refl, cc)
+missing (Some x) why q = (cc)
+
+pub given : {A : Type 0} (o : Option A) (why : Refusal) {x : A} → ok_or o why ≡ Ok x → o ≡ Some x
+given None why q = (cc)
+given (Some x) why q = (cc)
+
 -- ---- a tail that stops, and one that goes on
 
 module _ (rot : Bool) (c : Concrete) (old : SearchOut) where
-  pub stops : (why : Refusal) (j : Judged Setting) → j ≡ refused why → (Refused why 0, old) ≡ call_from rot c j old
+  pub stops : (why : Refusal) (j : Judged Setting) → j ≡ Err why → (refused_with why 0, old) ≡ call_from rot c j old
   stops why j e = rw e (sym (refused-call rot c why old))
 
   pub goes_on : (j k : Judged Setting) → j ≡ k → (x : Answer × SearchOut) → x ≡ call_from rot c k old → x ≡ call_from rot c j old
@@ -80,7 +84,7 @@ module _ (sh : Shape) (b : Bool) (e : b ≡ leb 2 sh.rank && eqb sh.dimension (s
     abbrev read : Concrete
     read = solid_in sh ws fs
 
-    pub not_full : b ≡ false → (Refused NotFull 0, old) ≡ call_from rot read (setting read) old
+    pub not_full : b ≡ false → (refused_with NotFull 0, old) ≡ call_from rot read (setting read) old
     not_full t = stops rot read old NotFull (setting read) (from8 read ∙ judge_no NotFull (full read) (from9 read) (full_is sh ws fs ∙ sym e ∙ t))
 
     pub is_full : b ≡ true → (x : Answer × SearchOut) → x ≡ call_from rot read (from9 read) old → x ≡ call_from rot read (setting read) old
@@ -100,7 +104,7 @@ module _ (sh : Shape) (ws : List ℕ) (fs : List Float) (v : ℕ) (m : v ≡ siz
   parted t d = record { axes = d; distinct = corners ∙ t }
 
   module _ (rot : Bool) (old : SearchOut) where
-    pub doubled : b ≡ false → (Refused DoubleCorner 0, old) ≡ call_from rot corner-solid (from9 corner-solid) old
+    pub doubled : b ≡ false → (refused_with DoubleCorner 0, old) ≡ call_from rot corner-solid (from9 corner-solid) old
     unfolding from9 corners
     doubled t =
         stops rot corner-solid old DoubleCorner (from9 corner-solid)
@@ -114,23 +118,22 @@ module _ (sh : Shape) (ws : List ℕ) (fs : List Float) (v : ℕ) (m : v ≡ siz
 
 -- ---- 10, and the exchange
 
-module _ (sh : Shape) (ws : List ℕ) (fs : List Float) (h : 2 ≤ sh.rank) (r : Far) (e : far_of r ≡ first_far (solid_in sh ws fs) (range 0 (size_at sh (sh.rank - 1)))) where
+module _ (sh : Shape) (ws : List ℕ) (fs : List Float) (h : 2 ≤ sh.rank) (r : Option ℕ) (e : r ≡ first_far (solid_in sh ws fs) (range 0 (size_at sh (sh.rank - 1)))) where
   abbrev far-solid : Concrete
   far-solid = solid_in sh ws fs
 
-  facets : first_far far-solid (range 0 (size far-solid.abs (top far-solid.abs - 1))) ≡ far_of r
+  facets : first_far far-solid (range 0 (size far-solid.abs (top far-solid.abs - 1))) ≡ r
   facets = ap (λ (n : ℕ). first_far far-solid (range 0 n)) (facets_are sh (lists_of sh ws) h) ∙ sym e
 
-  pub centred : (rot : Bool) (old : SearchOut) → r ≡ Nothing → (Refused Centred 0, old) ≡ call_from rot far-solid (from10 far-solid) old
-  unfolding from10 far_of facets
+  pub centred : (rot : Bool) (old : SearchOut) → r ≡ None → (refused_with Centred 0, old) ≡ call_from rot far-solid (from10 far-solid) old
+  unfolding from10 facets
   centred rot old q =
       stops rot far-solid old Centred (from10 far-solid)
-      (wanted_no Centred (first_far far-solid (range 0 (size far-solid.abs (top far-solid.abs - 1)))) (λ f. from15 far-solid (exchanged far-solid f)) (facets ∙ ap far_of q))
+      (wanted_no Centred (first_far far-solid (range 0 (size far-solid.abs (top far-solid.abs - 1)))) (λ f. from15 far-solid (exchanged far-solid f)) (facets ∙ q))
 
-  module _ (f : ℕ) (q : r ≡ Facet f) where
+  module _ (f : ℕ) (q : r ≡ Some f) where
     pub facet_in : (2 ≤ sh.rank) × (f < size_at sh (sh.rank - 1))
-    unfolding far_of
-    facet_in = (h, far-low far-solid (size_at sh (sh.rank - 1)) f (sym e ∙ ap far_of q))
+    facet_in = (h, far-low far-solid (size_at sh (sh.rank - 1)) f (sym e ∙ q))
 
     module _ (b : Bench sh ws fs) (vs : List ℕ) (s : abs_in sh (lists_of sh vs) ≡ exchanged_in (abs_in sh (lists_of sh ws)) f) where
       searched : solid_in sh vs fs ≡ exchanged far-solid f
@@ -146,15 +149,15 @@ module _ (sh : Shape) (ws : List ℕ) (fs : List Float) (h : 2 ≤ sh.rank) (r :
       pub far_off : (rot : Bool) (old : SearchOut) (x : Answer × SearchOut)
           → x ≡ call_from rot (exchanged (solid_in sh vs fs) f) (from15 (exchanged (solid_in sh vs fs) f) (solid_in sh vs fs)) old
           → x ≡ call_from rot far-solid (from10 far-solid) old
-      unfolding from10 far_of facets
+      unfolding from10 facets
       far_off rot old x p =
           goes_on rot far-solid old (from10 far-solid) (from15 far-solid (exchanged far-solid f))
-          (wanted_yes Centred (first_far far-solid (range 0 (size far-solid.abs (top far-solid.abs - 1)))) (λ g. from15 far-solid (exchanged far-solid g)) f (facets ∙ ap far_of q))
+          (wanted_yes Centred (first_far far-solid (range 0 (size far-solid.abs (top far-solid.abs - 1)))) (λ g. from15 far-solid (exchanged far-solid g)) f (facets ∙ q))
           x (rw (searched, exchanged_back sh ws fs f h facet_in.1) at p)
 
 -- ---- 15, of the solid as searched
 
-module _ (sh : Shape) (ws vs : List ℕ) (fs gs : List Float) (b : Ending) (t : Typed sh ws vs fs gs b) where
+module _ (sh : Shape) (ws vs : List ℕ) (fs gs : List Float) (b : Judged ⊤) (t : Typed sh ws vs fs gs b) where
   abbrev solid : Concrete
   solid = solid_in sh ws fs
 
@@ -171,18 +174,20 @@ module _ (sh : Shape) (ws vs : List ℕ) (fs gs : List Float) (b : Ending) (t : 
   typed_parted d = subst Parted (sym same_solid) d
 
   module _ (rot : Bool) (old : SearchOut) where
-    pub unsettled : b ≡ Changing → (c : Concrete) → (Refused Unsettled 0, old) ≡ call_from rot c (from15 c solid) old
-    unfolding from15 end_of
-    unsettled e c = stops rot c old Unsettled (from15 c solid) (wanted_no Unsettled (types_of solid) (λ z. from11 c solid z) (rw e at t.result))
+    pub unsettled : {why : Refusal} → b ≡ Err why → (c : Concrete) → (refused_with why 0, old) ≡ call_from rot c (from15 c solid) old
+    unfolding from15
+    unsettled e c =
+        let n = rw e at t.ends in
+        rw n.0 (stops rot c old Unsettled (from15 c solid) (wanted_no Unsettled (types_of solid) (λ z. from11 c solid z) n.1))
 
-    pub settled : b ≡ Settled → (f : ℕ) (x : Answer × SearchOut)
+    pub settled : {u : ⊤} → b ≡ Ok u → (f : ℕ) (x : Answer × SearchOut)
         → x ≡ call_from rot (exchanged (solid_in sh vs gs) f) (from11 (exchanged (solid_in sh vs gs) f) (solid_in sh vs gs) (state_in sh vs)) old
         → x ≡ call_from rot (exchanged solid f) (from15 (exchanged solid f) solid) old
-    unfolding from15 end_of
+    unfolding from15
     settled e f x p =
         let c = exchanged solid f in
         goes_on rot c old (from15 c solid) (from11 c solid (state_in sh vs))
-        (wanted_yes Unsettled (types_of solid) (λ z. from11 c solid z) (state_in sh vs) (rw e at t.result))
+        (wanted_yes Unsettled (types_of solid) (λ z. from11 c solid z) (state_in sh vs) (rw e at t.ends))
         x (rw same_solid at p)
 
 -- ---- 11
@@ -191,37 +196,26 @@ module _ (c d : Concrete) (z : State) where
   abbrev inverted : Option Matrix
   inverted = inverse (flag_columns d (first_flag d.abs))
 
-  flat_is : regular inverted ≡ false → from11 c d z ≡ refused Flat
-  unfolding from11 regular
-  flat_is e = go inverted refl e
-    where
-      go : (o : Option Matrix) → inverted ≡ o → regular o ≡ false → from11 c d z ≡ refused Flat
-      go none q n = wanted_no Flat inverted _ q
-      go (some i) q n = wanted_yes Flat inverted _ i q ∙ judge_no Flat (all_finite i) _ n
-
-  solid_is : (i : Matrix) → inverted ≡ some i → all_finite i ≡ true → from11 c d z ≡ passed (setting_of c d z i)
+  solid_is : (i : Matrix) → inverted ≡ Some i → all_finite i ≡ true → from11 c d z ≡ Ok (setting_of c d z i)
   unfolding from11
   solid_is i q n = wanted_yes Flat inverted _ i q ∙ judge_yes Flat (all_finite i) _ n
 
--- An inverse that passes was found, and is finite.
-regular-found : (f : Bool) (m : Matrix) → regular (if_regular f m) ≡ true → (if_regular f m ≡ some m) × (all_finite m ≡ true)
-unfolding regular if_regular
-regular-found true m e = (refl, e)
-regular-found false m e = absurd (false≢true e)
+  module _ (rot : Bool) (old : SearchOut) where
+    pub singular : inverted ≡ None → (refused_with Flat 0, old) ≡ call_from rot c (from11 c d z) old
+    unfolding from11
+    singular q = stops rot c old Flat (from11 c d z) (wanted_no Flat inverted _ q)
 
-module _ (c d : Concrete) (z : State) (f : Bool) (m : Matrix) (i : if_regular f m ≡ inverse (flag_columns d (first_flag d.abs))) (b : Bool) (e : b ≡ regular (if_regular f m))
-    (rot : Bool) (old : SearchOut) where
-  pub flat : b ≡ false → (Refused Flat 0, old) ≡ call_from rot c (from11 c d z) old
-  flat q = stops rot c old Flat (from11 c d z) (flat_is c d z (ap regular (sym i) ∙ sym e ∙ q))
+    pub not_finite : (i : Matrix) → inverted ≡ Some i → all_finite i ≡ false → (refused_with Flat 0, old) ≡ call_from rot c (from11 c d z) old
+    unfolding from11
+    not_finite i q n = stops rot c old Flat (from11 c d z) (wanted_yes Flat inverted _ i q ∙ judge_no Flat (all_finite i) _ n)
 
-  pub not_flat : b ≡ true → (x : Answer × SearchOut) → x ≡ call_from rot c (passed (setting_of c d z m)) old → x ≡ call_from rot c (from11 c d z) old
-  not_flat q x p =
-      let k = regular-found f m (sym e ∙ q) in
-      goes_on rot c old (from11 c d z) (passed (setting_of c d z m)) (solid_is c d z m (sym i ∙ k.0) k.1) x p
+    pub not_flat : (i : Matrix) → inverted ≡ Some i → all_finite i ≡ true → (x : Answer × SearchOut) → x ≡ call_from rot c (Ok (setting_of c d z i)) old
+        → x ≡ call_from rot c (from11 c d z) old
+    not_flat i q n x p = goes_on rot c old (from11 c d z) (Ok (setting_of c d z i)) (solid_is i q n) x p
 
 -- ---- 12 or 13, and the marks
 
-module _ (d : Concrete) (f : ℕ) (z : State) (i : Matrix) (rot : Bool) (old : SearchOut) (r : Members) (ms : List Float) (rs : List ℕ)
+module _ (d : Concrete) (f : ℕ) (z : State) (i : Matrix) (rot : Bool) (old : SearchOut) (r : Result ℕ NoRoom) (ms : List Float) (rs : List ℕ)
     (l : MembersListed (setting_of (exchanged d f) d z i) rot (room_of old) (flags d.abs) r old.matrices ms old.rows rs) where
   abbrev as_read : Concrete
   as_read = exchanged d f
@@ -235,52 +229,42 @@ module _ (d : Concrete) (f : ℕ) (z : State) (i : Matrix) (rot : Bool) (old : S
   -- The rows have v entries each.
   module _ (v : ℕ) (m : length d.points ≡ v) where
     -- There is room for the rows and the marks.
-    pub marks_in_lem : RoomHolds (room_of old) d.dimension v r.count
+    pub marks_in_lem : RoomHolds (room_of old) d.dimension v (number_of r)
     unfolding setting_of
     marks_in_lem = rw (← m, l.count) (kept-room set rot (room_of old) (flags d.abs))
 
     -- The marks of the rows that are written are the members' marks.
-    row_marks : marks_in as_read (parts r.count v rs) ≡ map (λ x. x.mark) kept
+    row_marks : marks_in as_read (parts (number_of r) v rs) ≡ map (λ x. x.mark) kept
     unfolding setting_of
     row_marks = rw (← m, l.count, l.rows) (kept_marks set rot (room_of old) (flags d.abs) old.rows)
 
-    pub ended : (a : Answer) → a ≡ answer_of r.short r.count → (ks : List ℕ) → ks ≡ written (marks_in as_read (parts r.count v rs)) old.marks
-        → (a, out_of ms rs ks) ≡ call_from rot as_read (passed set) old
+    pub ended : (a : Answer) → a ≡ answer_of (is_err r) (number_of r) → (ks : List ℕ) → ks ≡ written (marks_in as_read (parts (number_of r) v rs)) old.marks
+        → (a, out_of ms rs ks) ≡ call_from rot as_read (Ok set) old
     unfolding setting_of exchanged outs_of
     ended a e ks q =
         let w : ks ≡ written (map (λ x. x.mark) kept) old.marks = q ∙ ap (λ (n : List ℕ). written n old.marks) row_marks in
-        rw (e, l.count, l.matrices, l.rows, w) (sym (listed-call set rot as_read old r.short refl refl l.short))
+        rw (e, l.count, l.matrices, l.rows, w) (sym (listed-call set rot as_read old (is_err r) refl refl l.short))
 
 -- ---- 1 to 7
-
-verdict-refused : (o : Judged Concrete) (why : Refusal) → verdict.Refused why ≡ verdict_of o → o ≡ refused why
-unfolding verdict_of
-verdict-refused (refused other) why e = let z : other ≡ why = cc in ap refused z
-verdict-refused (passed c) why e = absurd (let z : ◌≡◌ {A = ℕ} 0 1 = cc in omega arith)
-
-verdict_accepted : (o : Judged Concrete) → verdict.Accepted ≡ verdict_of o → (c : Concrete) × (o ≡ passed c)
-unfolding verdict_of
-verdict_accepted (refused other) e = absurd (let z : ◌≡◌ {A = ℕ} 0 1 = cc in omega arith)
-verdict_accepted (passed c) e = (c, refl)
 
 -- Either call goes by preflight.
 call-after : (rot : Bool) (b : List ℕ) (n m : ℕ) (old : SearchOut) → call_of rot b n m old ≡ after rot (preflight b n m) old
 call-after false b n m old = search-after b n m old
 call-after true b n m old = rotations-after b n m old
 
-module _ (b : List ℕ) (n m : ℕ) (r : Ready) (ws : List ℕ) (fs : List Float) (p : Preflighted b n m r ws fs) where
-  pub unready-call : (rot : Bool) (old : SearchOut) (why : Refusal) → r.verdict ≡ verdict.Refused why → (Refused why 0, old) ≡ call_of rot b n m old
+module _ {b : List ℕ} {n m : ℕ} {r : Judged Shape} {ws : List ℕ} {fs : List Float} (p : Preflighted b n m r ws fs) where
+  pub unready-call : (rot : Bool) (old : SearchOut) {why : Refusal} → r ≡ Err why → (refused_with why 0, old) ≡ call_of rot b n m old
   unfolding after
-  unready-call rot old why e = sym (call-after rot b n m old ∙ ap (λ (o : Judged Concrete). after rot o old) (verdict-refused (preflight b n m) why (sym e ∙ p.verdict)))
+  unready-call rot old e = sym (call-after rot b n m old ∙ ap (λ (o : Judged Concrete). after rot o old) (refused_by p e))
 
-  module _ (e : r.verdict ≡ verdict.Accepted) where
-    pub benched : Bench r.shape ws fs
-    benched = let c = verdict_accepted (preflight b n m) (sym e ∙ p.verdict) in (p.placed c.0 c.1).bench
+  module _ {sh : Shape} (e : r ≡ Ok sh) where
+    pub benched : Bench sh ws fs
+    benched = (passed_by p e).2.bench
 
-    pub passed_call : (rot : Bool) (old : SearchOut) (x : Answer × SearchOut) → x ≡ call_from rot (solid_in r.shape ws fs) (setting (solid_in r.shape ws fs)) old
+    pub passed_call : (rot : Bool) (old : SearchOut) (x : Answer × SearchOut) → x ≡ call_from rot (solid_in sh ws fs) (setting (solid_in sh ws fs)) old
         → x ≡ call_of rot b n m old
     unfolding after
     passed_call rot old x q =
-        let c = verdict_accepted (preflight b n m) (sym e ∙ p.verdict) in
-        q ∙ ap (λ (d : Concrete). call_from rot d (setting d) old) (p.placed c.0 c.1).is
+        let c = passed_by p e in
+        q ∙ ap (λ (d : Concrete). call_from rot d (setting d) old) c.2.is
         ∙ sym (call-after rot b n m old ∙ ap (λ (o : Judged Concrete). after rot o old) c.1)

@@ -1,10 +1,11 @@
 -- The tests of 8, 10 and 11 stand beside the definitions.
 -- Assumes nothing.
+use Rattle.std.specs.Prelude.{None, Option, Some}
 use mathlib.Core.Path.{◌≡◌, sym, ap, ◌∙◌}
 use mathlib.Core.Logic.{inl, inr}
 use Prim.Native.Nat.{ℕ, suc, ◌+◌, ◌-◌, ◌≤◌, ◌<◌}
 use mathlib.Core.Bool.{Bool, true, false, ◌&&◌}
-use mathlib.Core.Option.{Option, none, some, none-ne-some, some-injective}
+use Rattle.laws.proofs.Options.{none-ne-some, some-injective}
 use mathlib.Core.List.{List, [], ◌∷◌}
 use native.Mathlib.Numerals.{add-one}
 use native.Mathlib.Omega.{arith}
@@ -46,7 +47,7 @@ module _ (c : Concrete) where
   abbrev far : ℕ → Bool
   far f = lt eps (distance_of c (top c.abs - 1) f)
 
-  far_here : (f : ℕ) (fs : List ℕ) → far f ≡ true → first_far c (f ∷ fs) ≡ some f
+  far_here : (f : ℕ) (fs : List ℕ) → far f ≡ true → first_far c (f ∷ fs) ≡ Some f
   unfolding first_far
   far_here f fs e = rw (e, first_far)
 
@@ -64,7 +65,7 @@ module _ (c : Concrete) where
         let at : get_or (range 0 n) k 0 ≡ k = get_d_range 0 n 0 k h ∙ omega arith in
         rw at at (drop-cons (range 0 n) k 0 (rw length-range h))
 
-    pub far-found : far k ≡ true → some k ≡ first_far c (range 0 n)
+    pub far-found : far k ≡ true → Some k ≡ first_far c (range 0 n)
     unfolding next
     far-found e = sym (ap (first_far c) next ∙ far_here k (drop (suc k) (range 0 n)) e) ∙ inv
 
@@ -72,21 +73,21 @@ module _ (c : Concrete) where
     unfolding next
     far-next e = rw add-one (sym (ap (first_far c) next ∙ far_past k (drop (suc k) (range 0 n)) e) ∙ inv)
 
-  pub far-end : (n k : ℕ) → n ≤ k → FarKept n k → none ≡ first_far c (range 0 n)
+  pub far-end : (n k : ℕ) → n ≤ k → FarKept n k → None ≡ first_far c (range 0 n)
   unfolding first_far
   far-end n k h inv = let l : length (range 0 n) ≤ k = omega (arith, length-range 0 n) in rw (drop_of_length-le (range 0 n) {i = k} l) at inv
 
   -- The facet that is found is one of those asked for.
-  far_in : (fs : List ℕ) (f : ℕ) → first_far c fs ≡ some f → In f fs
+  far_in : (fs : List ℕ) (f : ℕ) → first_far c fs ≡ Some f → In f fs
   unfolding first_far
   far_in [] f e = absurd (none-ne-some f e)
   far_in (g ∷ fs) f e = go (far g) e (λ k. far_in fs f k)
     where
-      go : (b : Bool) → elim b as (λ z. Option ℕ) [ true ↦ some g | false ↦ first_far c fs ] ≡ some f → (first_far c fs ≡ some f → In f fs) → In f (g ∷ fs)
+      go : (b : Bool) → elim b as (λ z. Option ℕ) [ true ↦ Some g | false ↦ first_far c fs ] ≡ Some f → (first_far c fs ≡ Some f → In f fs) → In f (g ∷ fs)
       go true q k = inl (sym (some-injective g f q))
       go false q k = inr (k q)
 
-  pub far-low : (n f : ℕ) → first_far c (range 0 n) ≡ some f → f < n
+  pub far-low : (n f : ℕ) → first_far c (range 0 n) ≡ Some f → f < n
   far-low n f e = omega (arith, (of_range 0 n f (far_in (range 0 n) f e)).1)
 
 -- The test is as the program makes it.

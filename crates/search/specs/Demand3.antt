@@ -2,8 +2,7 @@
 -- and for whatever buffers were lent to either call. The claims about types are spec's theorem of the calls (Demand3Calls), and the rows are those
 -- that the call wrote.
 -- Assumes nothing.
-use Rattle.std.specs.Prelude.{◌≡◌, ℕ, ◌<◌, List, length, get_or}
-use Rattle.spec.specs.declared.Answer.TheVariants.{Done}
+use Rattle.std.specs.Prelude.{◌≡◌, ℕ, ◌<◌, List, length, get_or, Ok}
 use Rattle.spec.specs.Types.{size, start, Step, play}
 use Rattle.spec.specs.Demand.{AllProper}
 use Rattle.spec.specs.Classes.{class_table, by_table}
@@ -23,4 +22,4 @@ pub record Demand3Rows (b : List ℕ) (words floats : ℕ) (old : TypesOut) (n m
 -- The same holds, whatever was lent to the types call.
 abbrev pub Demand3Told : List ℕ → ℕ → List ℕ → List ℕ → Type 0
 Demand3Told b m rows marks =
-    (words floats : ℕ) (old : TypesOut) (n : ℕ) → (types_call b words floats old).0 ≡ Done n → Demand3Rows b words floats old n m rows marks
+    (words floats : ℕ) (old : TypesOut) (n : ℕ) → (types_call b words floats old).0 ≡ Ok n → Demand3Rows b words floats old n m rows marks

@@ -1,28 +1,14 @@
 -- This file says how the search's tests are read, and what is left of a call from one of its judgements on.
 -- Assumes nothing.
 use Rattle.std.specs.Prelude.{◌≡◌, ℕ, Bool, true, false, List, Float}
-use Rattle.std.proofs.Math.Option.{Option, none, some}
 use Rattle.std.specs.Borrow.{MutBor}
 use denote.Triple.Both.{Both}
-use Rattle.spec.specs.declared.Answer.{Answer}
+use Rattle.spec.specs.Refusal.{Answer}
 use Rattle.spec.specs.Judged.{Judged}
-use Rattle.spec.specs.Matrix.{Matrix}
 use Rattle.spec.specs.Solid.{Concrete}
-use Rattle.spec.specs.Search.{Setting, exchanged, all_finite}
+use Rattle.spec.specs.Search.{Setting, exchanged}
 use Rattle.spec.specs.Calls.{SearchOut, search_call, rotations_call}
 use Rattle.symmetry.specs.Tails.{call_from, out_of}
-use Rattle.search.specs.declared.judging.Far.{Far}
-use Rattle.search.specs.declared.judging.Far.TheVariants.{Facet, Nothing}
-
--- Gives the facet, if there is one.
-unfoldable pub far_of : Far → Option ℕ
-far_of (Facet f) = some f
-far_of Nothing = none
-
--- Tells whether refusal 11 does not apply, which means that there is an inverse and that all its entries are finite.
-unfoldable pub regular : Option Matrix → Bool
-regular none = false
-regular (some m) = all_finite m
 
 -- Gives the search call, which lists all members, or the rotations call where the first argument is true.
 abbrev pub call_of : Bool → List ℕ → ℕ → ℕ → SearchOut → Answer × SearchOut

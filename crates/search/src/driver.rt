@@ -8,35 +8,35 @@ ghost use Rattle.ranked.specs.Layout.{solid_in};
 ghost use Rattle.element_types.specs.State.{state_in, Countable};
 ghost use Rattle.marks.specs.Rows.{ClassesIn};
 ghost use Rattle.symmetry.specs.Tails.{from9, from10, from15, from11, out_of};
-ghost use Rattle.symmetry.specs.Listing.{answer_of};
+ghost use Rattle.std.specs.Result.{is_err};
+ghost use Rattle.symmetry.specs.Listing.{number_of, answer_of};
 ghost use Rattle.symmetry.specs.Searching.{Parted};
 ghost use Rattle.search.specs.Reading.{call_of, GivesRead, GivesSearched};
 
-use crate::judging::{Far, first_far, first_inverse, is_full, is_regular};
+use crate::judging::{first_far, first_inverse, is_full};
 use crate::marking::mark_members;
-use element_types::settling::settled::Ending;
 use element_types::settling::types_of;
 use preflight::preflight;
 use ranked::Shape;
-use spec::{Answer, Refusal, Verdict};
-use symmetry::candidates::no_double;
+use spec::{Answer, Refusal, Refused};
+use symmetry::candidates::{all_finite, no_double};
 use symmetry::exchange::exchange;
-use symmetry::listing::{Members, list_members};
+use symmetry::listing::{NoRoom, list_members};
 use symmetry::vertex_sets::fingerprints::write_fingerprints;
 
 // Returns the answer once the members are listed: refusal 13 where they are too many for the outputs, 12 where there is none, and otherwise their
 // number.
-fn answer_of(members: Members) -> Answer
-    ensures { result ≡ answer_of members.short members.count }
+fn answer_of(listed: Result<usize, NoRoom>) -> Answer
+    ensures { result ≡ answer_of (is_err listed) (number_of listed) }
 {
-    let n = members.count;
-    if members.short {
-        return Answer::Refused(Refusal::ShortSheet, n);
+    match listed {
+        Err(NoRoom(n)) => Err(Refused {
+            why: Refusal::ShortSheet,
+            kept: n,
+        }),
+        Ok(0) => Err(Refusal::Blank.into()),
+        Ok(n) => Ok(n),
     }
-    if n == 0 {
-        return Answer::Refused(Refusal::Blank, 0);
-    }
-    Answer::Done(n)
 }
 
 // Goes on from the judgement behind refusal 11: the first columns need an inverse whose entries are finite. Then the members are listed, each with
@@ -59,16 +59,16 @@ fn from11(
     ensures { GivesSearched rotations (λ c d. from11 c d (state_in sh words.old)) f
         (solid_in sh words.old floats.old) result matrices rows marks }
 {
-    let mut found = false;
-    let inverse = first_inverse(sh.lists(words), sh, floats, &mut found);
-    if !is_regular(found, inverse, sh.dimension) {
-        return Answer::Refused(Refusal::Flat, 0);
+    let inverse = first_inverse(sh.lists(words), sh, floats).ok_or(Refusal::Flat)?;
+    if !all_finite(inverse, sh.dimension) {
+        return Err(Refusal::Flat.into());
     }
     write_fingerprints(words, sh);
     let room = marks.len();
-    let members = list_members(words, sh, floats, inverse, rotations, room, matrices, rows);
-    mark_members(words, sh, f, floats, rows, members.count, marks);
-    answer_of(members)
+    let listed = list_members(words, sh, floats, inverse, rotations, room, matrices, rows);
+    let n = listed.unwrap_or_else(|NoRoom(n)| n);
+    mark_members(words, sh, f, floats, rows, n, marks);
+    answer_of(listed)
 }
 
 // Goes on from the judgement behind refusal 15: the types have to settle. The words hold the solid in which facet f and facet 0 have changed places.
@@ -87,10 +87,8 @@ fn from15(
     requires parted { Parted (solid_in sh words.old floats.old) }
     ensures { GivesSearched rotations from15 f (solid_in sh words.old floats.old) result matrices rows marks }
 {
-    match types_of(words, sh, floats) {
-        Ending::Settled => from11(words, sh, f, floats, rotations, matrices, rows, marks),
-        Ending::Changing => Answer::Refused(Refusal::Unsettled, 0),
-    }
+    types_of(words, sh, floats)?;
+    from11(words, sh, f, floats, rotations, matrices, rows, marks)
 }
 
 // Goes on from the judgement behind refusal 10: some facet has to be far from the origin, and the first such facet changes places with facet 0.
@@ -108,14 +106,9 @@ fn from10(
     requires parted { Parted (solid_in sh words.old floats.old) }
     ensures { GivesRead rotations from10 (solid_in sh words.old floats.old) result matrices rows marks }
 {
-    let far = first_far(sh.lists(words), sh, floats);
-    match far {
-        Far::Nothing => Answer::Refused(Refusal::Centred, 0),
-        Far::Facet(f) => {
-            exchange(words, sh, f);
-            from15(words, sh, f, floats, rotations, matrices, rows, marks)
-        }
-    }
+    let f = first_far(sh.lists(words), sh, floats).ok_or(Refusal::Centred)?;
+    exchange(words, sh, f);
+    from15(words, sh, f, floats, rotations, matrices, rows, marks)
 }
 
 // Goes on from the judgement behind refusal 9: no two vertices may be within EPS of each other on every axis.
@@ -133,10 +126,10 @@ fn from9(
     requires le_dimension { 1 ≤ sh.dimension }
     ensures { GivesRead rotations from9 (solid_in sh words.old floats.old) result matrices rows marks }
 {
-    if no_double(floats, sh.dimension, sh.vertices()) {
-        return from10(words, sh, floats, rotations, matrices, rows, marks);
+    if !no_double(floats, sh.dimension, sh.vertices()) {
+        return Err(Refusal::DoubleCorner.into());
     }
-    Answer::Refused(Refusal::DoubleCorner, 0)
+    from10(words, sh, floats, rotations, matrices, rows, marks)
 }
 
 // Goes on from the judgement behind refusal 8: the solid that preflight left in the workspace needs R at least 2 and D = R−1.
@@ -152,10 +145,10 @@ fn from8(
     requires { Bench sh words.old floats.old }
     ensures { GivesRead rotations setting (solid_in sh words.old floats.old) result matrices rows marks }
 {
-    if is_full(sh) {
-        return from9(words, sh, floats, rotations, matrices, rows, marks);
+    if !is_full(sh) {
+        return Err(Refusal::NotFull.into());
     }
-    Answer::Refused(Refusal::NotFull, 0)
+    from9(words, sh, floats, rotations, matrices, rows, marks)
 }
 
 // Searches a sheet, for all members or for the rotations alone.
@@ -172,11 +165,6 @@ pub fn run(
         ≡ call_of rotations sheet.now (length words.old) (length floats.old)
         (out_of matrices.old rows.old marks.old) }
 {
-    let ready = preflight(sheet, words, floats);
-    let verdict = ready.verdict;
-    let sh = ready.shape;
-    match verdict {
-        Verdict::Refused(why) => Answer::Refused(why, 0),
-        Verdict::Accepted => from8(words, sh, floats, rotations, matrices, rows, marks),
-    }
+    let sh = preflight(sheet, words, floats)?;
+    from8(words, sh, floats, rotations, matrices, rows, marks)
 }

@@ -29,10 +29,10 @@ pub fn search(
     rows: &mut [u16],
     marks: &mut [u8],
 ) -> Answer
-    ensures marks_after { (result, out_of matrices.new rows.new marks.new)
+    ensures as_defined { (result, out_of matrices.new rows.new marks.new)
         ≡ search_call sheet.now (length words.old) (length floats.old)
         (out_of matrices.old rows.old marks.old) }
-    ensures demand3told { Demand3Told sheet.now (answer_count result) rows.new marks.new }
+    ensures types_kept { Demand3Told sheet.now (answer_count result) rows.new marks.new }
     ensures free { Free words.old words.new floats.old floats.new }
 {
     run(sheet, words, floats, false, matrices, rows, marks)
@@ -47,10 +47,10 @@ pub fn rotations(
     rows: &mut [u16],
     marks: &mut [u8],
 ) -> Answer
-    ensures marks_after { (result, out_of matrices.new rows.new marks.new)
+    ensures as_defined { (result, out_of matrices.new rows.new marks.new)
         ≡ rotations_call sheet.now (length words.old) (length floats.old)
         (out_of matrices.old rows.old marks.old) }
-    ensures demand3told { Demand3Told sheet.now (answer_count result) rows.new marks.new }
+    ensures types_kept { Demand3Told sheet.now (answer_count result) rows.new marks.new }
     ensures free { Free words.old words.new floats.old floats.new }
 {
     run(sheet, words, floats, true, matrices, rows, marks)

@@ -19,7 +19,7 @@ use symmetry::vertex_sets::fingerprints::write_fingerprints;
 fn restore(words: &mut [u32], sh: Shape, f: usize, floats: &mut [f64])
     requires marks_ready { MarksReady sh words.old floats.old }
     requires le_rank { (2 ≤ sh.rank) × (f < size_at sh (sh.rank - 1)) }
-    ensures marks_ready_2 { MarksReady sh words.new floats.new }
+    ensures ready_after { MarksReady sh words.new floats.new }
     ensures floats_after { solid_in sh words.new floats.new ≡ exchanged (solid_in sh words.old floats.old) f }
 {
     if f == 0 || sh.rank == 2 {

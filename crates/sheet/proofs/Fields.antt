@@ -1,5 +1,6 @@
--- A field of w bits is below 2 ^ w, and wholeness by bytes is wholeness by bits.
+-- A field of w bits is below 2 ^ w, and the end of the sheet is told by bytes.
 -- Assumes nothing.
+use Rattle.std.specs.Prelude.{is_ok}
 use mathlib.Core.Path.{◌≡◌, refl, sym}
 use Prim.Native.Nat.{ℕ, zero, suc, ◌+◌, ◌-◌, ◌*◌, ◌/◌, ◌^◌, ◌≤◌, ◌<◌}
 use native.Mathlib.Nat.{mod-lt, pow-zero, pow-suc, lt_of_lt_of_le}
@@ -7,13 +8,12 @@ use native.Mathlib.Omega.{arith}
 use mathlib.Core.Bool.{Bool, true, false, ◌&&◌}
 use mathlib.Core.List.{List}
 use lib.ListN.{length}
-use lib.Dec.{leb, ltb, eqb, lit<}
+use lib.Dec.{ltb, eqb, lit<}
 use lib.Pow.{pow_mono}
-use borrow.Author.Tests.{le-leb, lt-leb, leb-true, leb-false, lt-ltb, le-ltb}
+use borrow.Author.Tests.{lt-ltb, le-ltb}
 use Rattle.spec.specs.declared.Refusal.TheVariants.{CutSheet}
 use Rattle.spec.specs.Bits.{bit, field}
 use Rattle.spec.specs.Sheet.{judge, end}
-use Rattle.sheet.specs.Reading.{passes}
 
 pub bit-lt : (b : List ℕ) (i : ℕ) → bit b i < 2
 unfolding bit
@@ -33,39 +33,31 @@ module _ (b : List ℕ) (i : ℕ) where
   unfolding field
   next_fits w h = field_fits (suc w) h
 
--- A position is whole by as many bytes as the bits up to n need.
-pub by_bytes : (n l : ℕ) → leb ((n + 7) / 8) l ≡ leb n (8 * l)
-by_bytes n l = go (leb n (8 * l)) refl
-  where
-    go : (t : Bool) → leb n (8 * l) ≡ t → leb ((n + 7) / 8) l ≡ t
-    go true e = let h = leb-true n (8 * l) e in le-leb ((n + 7) / 8) l (omega arith)
-    go false e = let h = leb-false n (8 * l) e in lt-leb ((n + 7) / 8) l (omega arith)
-
 -- ---- the end of the sheet: the test of the filling bits, by bytes
 
 module _ (b : List ℕ) (i : ℕ) where
   filling : Bool
   filling = ltb (8 * length b - i) 8 && eqb (field b i (8 * length b - i)) 0
 
-  end_is : passes (end b i) ≡ filling
-  unfolding end judge passes filling
+  end_is : is_ok (end b i) ≡ filling
+  unfolding end judge filling
   end_is = go (ltb (8 * length b - i) 8 && eqb (field b i (8 * length b - i)) 0)
     where
-      go : (t : Bool) → passes (judge CutSheet t i) ≡ t
+      go : (t : Bool) → is_ok (judge CutSheet t i) ≡ t
       go true = refl
       go false = refl
 
   -- A byte follows, so the end does not pass.
-  pub end_follows : (i + 7) / 8 < length b → false ≡ passes (end b i)
+  pub end_follows : (i + 7) / 8 < length b → false ≡ is_ok (end b i)
   unfolding filling
   end_follows h = rw (le-ltb (8 * length b - i) 8 (omega arith)) at (sym end_is)
 
   -- Nothing is left, so the end passes.
-  pub end_here : 8 * length b ≤ i → true ≡ passes (end b i)
+  pub end_here : 8 * length b ≤ i → true ≡ is_ok (end b i)
   unfolding filling field
   end_here h = let e : 8 * length b - i ≡ 0 = omega arith in rw e at (sym end_is)
 
   -- Some bits of the last byte are left.
-  pub end_filled : length b ≤ (i + 7) / 8 → eqb (field b i (8 * length b - i)) 0 ≡ passes (end b i)
+  pub end_filled : length b ≤ (i + 7) / 8 → eqb (field b i (8 * length b - i)) 0 ≡ is_ok (end b i)
   unfolding filling
   end_filled h = rw (lt-ltb (8 * length b - i) 8 (omega arith)) at (sym end_is)

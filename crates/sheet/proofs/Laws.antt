@@ -1,5 +1,7 @@
 -- Callers use this of a judgement: of a sheet that passes, the header's E and I are those of its solid, and they are small.
 -- Assumes nothing.
+use Rattle.std.specs.Prelude.{Err, Ok, IsOk, IfOk}
+use mathlib.Core.Bool.{false≢true}
 use mathlib.Core.Path.{◌≡◌, refl, sym, ◌∙◌, ap, subst}
 use mathlib.Core.Logic.{inl, inr}
 use Prim.Native.Nat.{ℕ, zero, suc, ◌+◌, ◌-◌, ◌*◌, ◌≤◌, ◌<◌}
@@ -12,17 +14,15 @@ use Rattle.spec.specs.declared.Refusal.{Refusal}
 use Rattle.spec.specs.Limits.{max_rank, max_dimension, max_count, max_entries, max_proper, max_stored}
 use Rattle.spec.specs.Bits.{field}
 use Rattle.spec.specs.Lists.{In, range, sum}
-use Rattle.spec.specs.Judged.{Judged, refused, passed}
+use Rattle.spec.specs.Judged.{Judged}
 use Rattle.laws.proofs.Accepted.{same, bound_by, times-read, times-each, rank-read, dimension-read, count-read}
 use Rattle.laws.proofs.Accepted as accepted
 use Rattle.spec.specs.Sheet.{Parsed, done, count, list, lists_at, lists, read_sheet}
 use Rattle.spec.specs.Types.{Solid, top, size, proper_ranks, elements}
 use Rattle.spec.specs.Solid.{proper_lists, with_top, solid_of, entries}
 use Rattle.sheet.specs.declared.Header.{Header}
-use Rattle.spec.specs.declared.Verdict.TheVariants as verdict
-use Rattle.sheet.specs.declared.Judgement.{Judgement}
-use Rattle.sheet.specs.Judge.{proper, padded, rank_entries, all_entries, header_of, judgement_of}
-use Rattle.sheet.proofs.Readers.{rank-size}
+use Rattle.sheet.specs.Judge.{proper, padded, rank_entries, all_entries, map_ok, header_of}
+use Rattle.sheet.proofs.Readers.{refused_of, passed_of, rank-size}
 use Rattle.sheet.proofs.Made.{padded_small}
 
 -- ---- sums over ranks
@@ -65,7 +65,7 @@ entries-of x q t e =
 
 -- ---- what was read
 
-rank-count : (b : List ℕ) (c n used i : ℕ) (y : List (List ℕ) × ℕ) → lists_at b c n used i ≡ passed y → length y.0 ≡ n
+rank-count : (b : List ℕ) (c n used i : ℕ) (y : List (List ℕ) × ℕ) → lists_at b c n used i ≡ Ok y → length y.0 ≡ n
 unfolding lists_at done
 rank-count b c zero used i y e = ap (λ z. length z.0) (sym (same ([], i) y e))
 rank-count b c (suc n) used i y e =
@@ -78,7 +78,7 @@ record RanksCounted (l : List ℕ) (ls : List (List (List ℕ))) : Type 0 where
   sizes : map length ls ≡ drop 1 l
   small : all_entries ls ≤ max_entries * (length l - 1)
 
-ranks-read : (b l : List ℕ) (i : ℕ) (y : List (List (List ℕ)) × ℕ) → lists b l i ≡ passed y → RanksCounted l y.0
+ranks-read : (b l : List ℕ) (i : ℕ) (y : List (List (List ℕ)) × ℕ) → lists b l i ≡ Ok y → RanksCounted l y.0
 unfolding lists done all_entries sum
 ranks-read b [] i y e = subst (λ (z : List (List (List ℕ)) × ℕ). RanksCounted [] z.0) (same ([], i) y e) (record { sizes = refl; small = omega arith })
 ranks-read b (c ∷ []) i y e = subst (λ (z : List (List (List ℕ)) × ℕ). RanksCounted (c ∷ []) z.0) (same ([], i) y e) (record { sizes = refl; small = omega arith })
@@ -103,7 +103,7 @@ record Said (p : Parsed) : Type 0 where
   each : (n : ℕ) → In n p.counts → n ≤ max_count
   ranks : RanksCounted p.counts p.lists
 
-said : (b : List ℕ) (p : Parsed) → read_sheet b ≡ passed p → Said p
+said : (b : List ℕ) (p : Parsed) → read_sheet b ≡ Ok p → Said p
 said b p e =
     let h = accepted.parts-read b p e in
     record {
@@ -160,7 +160,7 @@ pub record Small (h : Header) : Type 0 where
   pub elements : h.elements ≤ max_proper
   pub entries : h.entries ≤ max_stored
 
-module _ (b : List ℕ) (p : Parsed) (e : read_sheet b ≡ passed p) where
+module _ (b : List ℕ) (p : Parsed) (e : read_sheet b ≡ Ok p) where
   -- The header's E and I are the solid's.
   pub elements_is : elements (solid_of p) ≡ (header_of p).elements
   unfolding solid_of header_of solid_by
@@ -184,32 +184,21 @@ module _ (b : List ℕ) (p : Parsed) (e : read_sheet b ≡ passed p) where
         entries = le_trans s.ranks.small (mul-le-mul_left max_entries ranks);
       }
 
--- ---- what a judgement says of the sheet
+-- ---- what an answer says of the sheet
 
-module _ (b : List ℕ) (r : Judgement) (is : r ≡ judgement_of (read_sheet b)) where
-  pub accepted_is : r.verdict ≡ verdict.Accepted → (p : Parsed) × (read_sheet b ≡ passed p) × (r.header ≡ header_of p)
-  unfolding judgement_of
-  accepted_is = go (read_sheet b) refl is
-    where
-      go : (o : Judged Parsed) → read_sheet b ≡ o → r ≡ judgement_of o → r.verdict ≡ verdict.Accepted → (p : Parsed) × (read_sheet b ≡ passed p) × (r.header ≡ header_of p)
-      go (refused why) q e v = absurd (let f : r.verdict ≡ verdict.Refused why = ap (λ (z : Judgement). z.verdict) e in let z : ◌≡◌ {A = ℕ} 0 1 = cc in omega arith)
-      go (passed p) q e v = (p, q, ap (λ (z : Judgement). z.header) e)
+module _ (b : List ℕ) where
+  pub accepted_is : {h : Header} → Ok h ≡ map_ok header_of (read_sheet b) → (p : Parsed) × (read_sheet b ≡ Ok p) × (h ≡ header_of p)
+  accepted_is e = passed_of header_of (read_sheet b) e
 
-  pub refused_is : {why : Refusal} → r.verdict ≡ verdict.Refused why → read_sheet b ≡ refused why
-  unfolding judgement_of
-  refused_is {why} = go (read_sheet b) refl is
-    where
-      go : (o : Judged Parsed) → read_sheet b ≡ o → r ≡ judgement_of o → r.verdict ≡ verdict.Refused why → read_sheet b ≡ refused why
-      go (refused y) q e v = let f : r.verdict ≡ verdict.Refused y = ap (λ (z : Judgement). z.verdict) e in let g : y ≡ why = cc in q ∙ ap refused g
-      go (passed p) q e v = absurd (let f : r.verdict ≡ verdict.Accepted = ap (λ (z : Judgement). z.verdict) e in let z : ◌≡◌ {A = ℕ} 0 1 = cc in omega arith)
+  pub refused_is : {why : Refusal} → Err why ≡ map_ok header_of (read_sheet b) → read_sheet b ≡ Err why
+  refused_is e = refused_of header_of (read_sheet b) e
 
 -- ---- the dimension
 
 -- The three bits behind R of an accepted sheet stand for its D.
-pub dimension-field : (b : List ℕ) → (judgement_of (read_sheet b)).verdict ≡ verdict.Accepted
-    → (6 ≤ 8 * length b) × (field b 3 3 ≡ (judgement_of (read_sheet b)).header.dimension)
-unfolding header_of
-dimension-field b a =
-    let x = accepted_is b (judgement_of (read_sheet b)) refl a in
-    let r = accepted.read-dimension b x.0 x.1 in
-    (r.0, sym r.1 ∙ ap (λ (h : Header). h.dimension) (sym x.2))
+pub dimension-field : (b : List ℕ) → IsOk (read_sheet b) → (6 ≤ 8 * length b) × IfOk (read_sheet b) (λ p. field b 3 3 ≡ p.dimension)
+dimension-field b = go (read_sheet b) refl
+  where
+    go : (o : Judged Parsed) → read_sheet b ≡ o → IsOk o → (6 ≤ 8 * length b) × IfOk o (λ p. field b 3 3 ≡ p.dimension)
+    go (Err why) q a = absurd (false≢true a)
+    go (Ok p) q a = let r = accepted.read-dimension b p q in (r.0, sym r.1)

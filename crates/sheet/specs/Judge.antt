@@ -1,14 +1,17 @@
--- Judging a sheet answers with the verdict of the preflight answers 1 to 4 and, for a sheet that passes, with what it says apart from its coordinates
--- and lists.
+-- Judging a sheet answers with a refusal of the preflight answers 1 to 4 or, for a sheet that passes, with what it says apart from its coordinates and
+-- lists.
 -- Assumes nothing.
-use Rattle.std.specs.Prelude.{ℕ, ◌-◌, List, map, ◌++◌, length, replicate}
+use Rattle.std.specs.Prelude.{ℕ, ◌-◌, List, map, ◌++◌, length, replicate, Err, Ok}
 use Rattle.spec.specs.Limits.{max_rank}
 use Rattle.spec.specs.Lists.{sum}
-use Rattle.spec.specs.Judged.{Judged, refused, passed}
+use Rattle.spec.specs.Judged.{Judged}
 use Rattle.spec.specs.Sheet.{Parsed}
 use Rattle.sheet.specs.declared.Header.{Header}
-use Rattle.spec.specs.declared.Verdict.TheVariants as verdict
-use Rattle.sheet.specs.declared.Judgement.{Judgement}
+
+-- Gives f of the value that is passed, and the same refusal where there is none.
+abbrev pub map_ok : {A B : Type 0} → (A → B) → Judged A → Judged B
+map_ok f (Err why) = Err why
+map_ok f (Ok x) = Ok (f x)
 
 -- Counts the proper ranks of a sheet of the greatest R.
 abbrev pub proper : ℕ
@@ -34,10 +37,3 @@ header_of p = record {
   elements = sum p.counts;
   entries = all_entries p.lists;
 }
-
-unfoldable pub no_header : Header
-no_header = record { rank = 0; dimension = 0; counts = replicate proper 0; elements = 0; entries = 0 }
-
-unfoldable pub judgement_of : Judged Parsed → Judgement
-judgement_of (refused why) = record { verdict = verdict.Refused why; header = no_header }
-judgement_of (passed p) = record { verdict = verdict.Accepted; header = header_of p }

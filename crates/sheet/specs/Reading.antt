@@ -1,36 +1,37 @@
 -- This file says what the pass over a sheet keeps of each reading of section 2: the bit where it ends, the counts, and the number of list entries.
 -- Assumes nothing.
-use Rattle.std.specs.Prelude.{ℕ, ◌+◌, ◌-◌, Bool, true, false, List, []}
+use Rattle.std.specs.Prelude.{◌≡◌, ℕ, ◌-◌, List}
 use Rattle.spec.specs.Lists.{sum}
-use Rattle.spec.specs.Judged.{Judged, refused, passed}
+use Rattle.spec.specs.Judged.{Judged}
 use Rattle.spec.specs.Sheet.{Parsed, Reader, ◌>>=◌, ◌>>◌, done, times, count, coordinate, lists, end, vertex_count}
-use Rattle.sheet.specs.declared.Place.{Place}
-use Rattle.sheet.specs.declared.Place.TheVariants as place
 use Rattle.sheet.specs.declared.CountsRead.{CountsRead}
-use Rattle.sheet.specs.declared.ListsRead.{ListsRead}
-use Rattle.sheet.specs.declared.ListsRead.TheVariants as listed
-use Rattle.sheet.specs.declared.Judgement.{Judgement}
-use Rattle.sheet.specs.Judge.{padded, judgement_of}
+use Rattle.sheet.specs.declared.Cursor.{Cursor}
+use Rattle.sheet.specs.Judge.{padded, map_ok}
 
--- Of any reading, the bit after it is kept.
-unfoldable pub place_of : {A : Type 0} → Judged (A × ℕ) → Place
-place_of (refused why) = place.Refused why
-place_of (passed x) = place.At x.1
+-- Gives the reading of a judged value that ends at the bit j.
+abbrev pub ends_at : {A : Type 0} → ℕ → Judged A → Judged (A × ℕ)
+ends_at j o = map_ok (λ x. (x, j)) o
 
--- Of the counts, the bit after them, the counts and their sum are kept.
-unfoldable pub counted_of : Judged (List ℕ × ℕ) → CountsRead
-counted_of (refused why) = record { place = place.Refused why; counts = padded []; elements = 0 }
-counted_of (passed x) = record { place = place.At x.1; counts = padded x.0; elements = sum x.0 }
+-- Reads as m does, and keeps f of the value.
+abbrev pub with_bit : {A B : Type 0} → (A → B) → A × ℕ → B × ℕ
+with_bit f x = (f x.0, x.1)
 
--- Of one list, of the lists of a rank, or of all lists, the bit after them is kept, and the number of entries together with the `used` ones before.
-unfoldable pub listed_of : {A : Type 0} → (A → ℕ) → ℕ → Judged (A × ℕ) → ListsRead
-listed_of n used (refused why) = listed.Refused why
-listed_of n used (passed x) = listed.At x.1 (used + n x.0)
+abbrev pub kept : {A B : Type 0} → (A → B) → Reader A → Reader B
+kept f m i = map_ok (with_bit f) (m i)
 
--- Of the end, it is kept whether it passes.
-unfoldable pub passes : {A : Type 0} → Judged A → Bool
-passes (refused why) = false
-passes (passed x) = true
+-- Nothing of the value is kept.
+abbrev pub forgotten : {A : Type 0} → A → Unit {0}
+forgotten x = tt
+
+-- Of the counts, they and their sum are kept.
+abbrev pub counts_read : List ℕ → CountsRead
+counts_read l = record { counts = padded l; elements = sum l }
+
+-- The judged value is what m reads from where the cursor stood, and the cursor stands after it now, in the same sheet. Where m refuses, the cursor may
+-- stand anywhere.
+pub record Reads {A : Type 0} (m : Reader A) (before after : Cursor) (o : Judged A) : Type 0 where
+  pub value : ends_at after.at o ≡ m before.at
+  pub sheet : after.sheet.now ≡ before.sheet.now
 
 -- ---- parts of the sheet's own reader
 
@@ -51,8 +52,3 @@ module _ (b : List ℕ) where
     ls ← lists b counts
     end b
     done (record { rank = R; dimension = D; counts = counts; points = points; lists = ls })
-
--- Gives what is kept of a whole sheet.
-unfoldable pub judgement_at : Judged (Parsed × ℕ) → Judgement
-judgement_at (refused why) = judgement_of (refused why)
-judgement_at (passed x) = judgement_of (passed x.0)

@@ -1,26 +1,23 @@
 // This crate reads the bits of section 2's sheet and judges refusals 1 to 4 in one pass, which uses no workspace.
 #![tactic(auto)]
 
-ghost use Rattle.std.specs.Prelude.{◌≡◌, ℕ, ◌+◌, ◌-◌, ◌*◌, ◌/◌, ◌^◌, ◌≤◌, ◌<◌, length, get_or, take, leb};
+ghost use Rattle.std.specs.Prelude.{◌≡◌, ℕ, ◌+◌, ◌-◌, ◌*◌, ◌/◌, ◌^◌, ◌≤◌, ◌<◌, length, get_or, take, leb, is_ok, IsOk, IfOk};
 ghost use Rattle.std.specs.Float.{binary64};
 ghost use Rattle.std.specs.Float.Ieee.{of_bits};
-ghost use Rattle.spec.specs.declared.Verdict.TheVariants.{Accepted};
 ghost use Rattle.spec.specs.Limits.{max_rank, max_dimension, max_count, max_entries};
 ghost use Rattle.spec.specs.Float.{in_range};
 ghost use Rattle.spec.specs.Bits as bits;
-ghost use Rattle.spec.specs.Judged as judged;
 ghost use Rattle.spec.specs.Sheet as form;
-ghost use Rattle.sheet.specs.Judge.{proper, rank_entries, all_entries, judgement_of};
-ghost use Rattle.sheet.specs.Reading.{place_of, counted_of, listed_of, passes, body_at, rest_at, judgement_at};
+ghost use Rattle.sheet.specs.Judge.{proper, rank_entries, all_entries, map_ok, header_of};
+ghost use Rattle.sheet.specs.Reading.{kept, forgotten, counts_read, Reads, body_at, rest_at};
 
 use spec::{
     MAX_COUNT, MAX_DIMENSION, MAX_ENTRIES, MAX_MAGNITUDE_PATTERN, MAX_RANK, PROPER_RANKS, Refusal,
-    Verdict,
 };
 
 // This is what a sheet says beside its coordinates and lists: R, D, the counts of ranks 1 to R - 1 and zeros after them, the sum of the counts (E)
 // and the number of list entries (I).
-#[derive(Clone, Copy)]
+#[derive(Clone, Copy, Debug, PartialEq, Eq)]
 pub struct Header {
     pub rank: usize,
     pub dimension: usize,
@@ -29,361 +26,229 @@ pub struct Header {
     pub entries: usize,
 }
 
-// The header is all zeros where the sheet is refused.
-#[derive(Clone, Copy)]
-pub struct Judgement {
-    pub verdict: Verdict,
-    pub header: Header,
-}
-
-// This says where a reading ends: the bit at which the next field starts, or a refusal.
-#[derive(Clone, Copy)]
-enum Place {
-    At(usize),
-    Refused(Refusal),
-}
-
-// This says where the reading of the counts ends, with the counts read and their sum; these are zeros where the sheet is refused.
+// This has the counts that were read, and their sum.
 #[derive(Clone, Copy)]
 struct CountsRead {
-    place: Place,
     counts: [usize; PROPER_RANKS],
     elements: usize,
 }
 
-// This says where the reading of lists ends, with the number of their entries.
-#[derive(Clone, Copy)]
-enum ListsRead {
-    At(usize, usize),
-    Refused(Refusal),
+// This reads a sheet, and says at which bit the next field starts.
+#[derive(Drop)]
+struct Cursor<'a> {
+    sheet: &'a [u8],
+    at: usize,
 }
 
 // Returns one bit of the sheet, by its index.
+#[tactic(auto, unfolding(spec::specs::Bits::bit))]
 fn bit(sheet: &[u8], index: usize) -> u64
     requires { index / 8 < length sheet.now }
     ensures { result ≡ bits.bit sheet.now index }
 {
-    ((sheet[index / 8] >> (7 - index % 8)) % 2) as u64
-}
-
-// Tells whether the `width` bits from bit `start` on are all there. A sheet's length in bits may not fit 64 bits, so bytes are compared.
-fn whole(sheet: &[u8], start: usize, width: usize) -> bool
-    requires { start + width + 7 < 2 ^ 64 }
-    ensures { result ≡ leb (start + width) (8 * length sheet.now) }
-{
-    (start + width + 7) / 8 <= sheet.len()
+    u64::from((sheet[index / 8] >> (7 - index % 8)) % 2)
 }
 
 // Returns the number that the `width` bits from bit `start` on stand for.
+#[tactic(auto, using(crate::proofs::Fields::next_fits), unfolding(spec::specs::Bits::field))]
 pub fn field(sheet: &[u8], start: usize, width: usize) -> u64
     requires { (width ≤ 64) × (start + width < 2 ^ 64) × (start + width ≤ 8 * length sheet.now) }
     ensures { result ≡ bits.field sheet.now start width }
 {
-    let mut v: u64 = 0;
-    let mut k = 0;
-    while k < width {
+    let mut v = 0;
+    for k in 0..width {
         v = 2 * v + bit(sheet, start + k);
-        k += 1;
     }
     v
 }
 
 // Tells whether a pattern's value is finite and of magnitude at most 1,048,576. A NaN's pattern may not become a float, so the pattern itself is
 // judged: without its sign bit it is at most the pattern of the greatest magnitude.
+#[tactic(auto, using(crate::proofs::Board::on_board))]
 fn on_board(pattern: u64) -> bool
     ensures { result ≡ in_range (of_bits binary64 pattern) }
 {
     pattern % 0x8000_0000_0000_0000 <= MAX_MAGNITUDE_PATTERN
 }
 
-// Returns the result of reading counts where the sheet is refused.
-fn uncounted(why: Refusal) -> CountsRead
-    ensures { result ≡ counted_of (judged.refused why) }
-{
-    CountsRead {
-        place: Place::Refused(why),
-        counts: [0usize; PROPER_RANKS],
-        elements: 0,
+impl Cursor<'_> {
+    // Reads the next `width` bits, which have to be all there. A sheet's length in bits may not fit 64 bits, so bytes are compared.
+    fn bits(&mut self, width: usize) -> Result<u64, Refusal>
+        requires { (width ≤ 64) × (self.old.at + width + 7 < 2 ^ 64) }
+        ensures { Reads (form.bits self.old.sheet.now width) self.old self.new result }
+    {
+        if (self.at + width + 7) / 8 > self.sheet.len() {
+            return Err(Refusal::CutSheet);
+        }
+        let n = field(self.sheet, self.at, width);
+        self.at += width;
+        Ok(n)
     }
-}
 
-// Reads the counts of `n` proper ranks, 12 bits each.
-fn counts(sheet: &[u8], start: usize, n: usize) -> CountsRead
-    requires { (start + 12 * n + 7 < 2 ^ 64) × (n ≤ proper) }
-    ensures { result ≡ counted_of (form.times n (form.count sheet.now) start) }
-{
-    let mut counts = [0usize; PROPER_RANKS];
-    let mut elements: usize = 0;
-    let mut at = start;
-    let mut k = 0;
-    while k < n {
-        if !whole(sheet, at, 12) {
-            return uncounted(Refusal::CutSheet);
-        }
-        let x = field(sheet, at, 12) as usize;
-        if x == 0 {
-            return uncounted(Refusal::Format);
-        }
-        if x > MAX_COUNT {
-            return uncounted(Refusal::Format);
-        }
-        counts[k] = x;
-        elements += x;
-        at += 12;
-        k += 1;
-    }
-    CountsRead {
-        place: Place::At(at),
-        counts,
-        elements,
-    }
-}
-
-// Reads `n` coordinates, 64 bits each.
-fn coordinates(sheet: &[u8], start: usize, n: usize) -> Place
-    requires { start + 64 * n + 7 < 2 ^ 64 }
-    ensures { result ≡ place_of (form.times n (form.coordinate sheet.now) start) }
-{
-    let mut at = start;
-    let mut k = 0;
-    while k < n {
-        if !whole(sheet, at, 64) {
-            return Place::Refused(Refusal::CutSheet);
-        }
-        if !on_board(field(sheet, at, 64)) {
-            return Place::Refused(Refusal::OffTheBoard);
-        }
-        at += 64;
-        k += 1;
-    }
-    Place::At(at)
-}
-
-// Reads `n` subs, 11 bits each, which have to be below `below` and to rise strictly.
-fn subs(sheet: &[u8], start: usize, below: usize, n: usize) -> Place
-    requires { start + 11 * n + 7 < 2 ^ 64 }
-    ensures { result ≡ place_of (form.sub_list sheet.now below n 0 start) }
-{
-    let mut low: usize = 0;
-    let mut at = start;
-    let mut k = 0;
-    while k < n {
-        if !whole(sheet, at, 11) {
-            return Place::Refused(Refusal::CutSheet);
-        }
-        let x = field(sheet, at, 11) as usize;
-        if x >= below {
-            return Place::Refused(Refusal::BadList);
-        }
-        if x < low {
-            return Place::Refused(Refusal::BadList);
-        }
-        low = x + 1;
-        at += 11;
-        k += 1;
-    }
-    Place::At(at)
-}
-
-// Reads one list, its length in 12 bits and then its subs, where its rank has `used` entries before it.
-fn list(sheet: &[u8], start: usize, below: usize, used: usize) -> ListsRead
-    requires { (start < 2 ^ 32) × (used ≤ max_entries) }
-    ensures { result ≡ listed_of length used (form.list sheet.now below used start) }
-{
-    if !whole(sheet, start, 12) {
-        return ListsRead::Refused(Refusal::CutSheet);
-    }
-    let n = field(sheet, start, 12) as usize;
-    if used + n > MAX_ENTRIES {
-        return ListsRead::Refused(Refusal::Format);
-    }
-    if n == 0 {
-        return ListsRead::Refused(Refusal::BadList);
-    }
-    match subs(sheet, start + 12, below, n) {
-        Place::Refused(why) => ListsRead::Refused(why),
-        Place::At(p) => ListsRead::At(p, used + n),
-    }
-}
-
-// Reads the lists of a rank's `n` elements.
-fn rank_lists(sheet: &[u8], start: usize, below: usize, n: usize) -> ListsRead
-    requires { (start < 2 ^ 31) × (n ≤ max_count) }
-    ensures { result ≡ listed_of rank_entries 0 (form.lists_at sheet.now below n 0 start) }
-{
-    let mut used: usize = 0;
-    let mut at = start;
-    let mut k = 0;
-    while k < n {
-        match list(sheet, at, below, used) {
-            ListsRead::Refused(why) => {
-                return ListsRead::Refused(why);
+    // Reads the counts of `n` proper ranks, 12 bits each.
+    fn counts(&mut self, n: usize) -> Result<CountsRead, Refusal>
+        requires { (self.old.at + 12 * n + 7 < 2 ^ 64) × (n ≤ proper) }
+        ensures { Reads (kept counts_read (form.times n (form.count self.old.sheet.now))) self.old self.new result }
+    {
+        let mut counts = [0usize; PROPER_RANKS];
+        let mut elements: usize = 0;
+        for k in 0..n {
+            let x = self.bits(12)? as usize;
+            if x == 0 || x > MAX_COUNT {
+                return Err(Refusal::Format);
             }
-            ListsRead::At(p, u) => {
-                at = p;
-                used = u;
+            counts[k] = x;
+            elements += x;
+        }
+        Ok(CountsRead { counts, elements })
+    }
+
+    // Reads `n` coordinates, 64 bits each.
+    fn coordinates(&mut self, n: usize) -> Result<(), Refusal>
+        requires { self.old.at + 64 * n + 7 < 2 ^ 64 }
+        ensures { Reads (kept forgotten (form.times n (form.coordinate self.old.sheet.now))) self.old self.new result }
+    {
+        for _ in 0..n {
+            let pattern = self.bits(64)?;
+            if !on_board(pattern) {
+                return Err(Refusal::OffTheBoard);
             }
         }
-        k += 1;
+        Ok(())
     }
-    ListsRead::At(at, used)
-}
 
-// Reads the lists of ranks 2 to n, by the counts of ranks 1 to n.
-fn lists(sheet: &[u8], start: usize, counts: [usize; PROPER_RANKS], n: usize) -> ListsRead
-    requires { (start < 2 ^ 30) × (n ≤ proper) × ((k : ℕ) → get_or counts k 0 ≤ max_count) }
-    ensures { result ≡ listed_of all_entries 0 (form.lists sheet.now (take n counts) start) }
-{
-    let mut entries: usize = 0;
-    let mut below = counts[0];
-    let mut at = start;
-    let mut k = 1;
-    while k < n {
-        match rank_lists(sheet, at, below, counts[k]) {
-            ListsRead::Refused(why) => {
-                return ListsRead::Refused(why);
+    // Reads `n` subs, 11 bits each, which have to be below `below` and to rise strictly.
+    fn subs(&mut self, below: usize, n: usize) -> Result<(), Refusal>
+        requires { self.old.at + 11 * n + 7 < 2 ^ 64 }
+        ensures { Reads (kept forgotten (form.sub_list self.old.sheet.now below n 0)) self.old self.new result }
+    {
+        let mut low: usize = 0;
+        for _ in 0..n {
+            let x = self.bits(11)? as usize;
+            if x >= below || x < low {
+                return Err(Refusal::BadList);
             }
-            ListsRead::At(p, u) => {
-                at = p;
-                entries += u;
-            }
+            low = x + 1;
         }
-        below = counts[k];
-        k += 1;
+        Ok(())
     }
-    ListsRead::At(at, entries)
-}
 
-// Tells whether the sheet ends here: no byte follows, and the filling bits are 0.
-fn ends(sheet: &[u8], start: usize) -> bool
-    requires { start < 2 ^ 63 }
-    ensures { result ≡ passes (form.end sheet.now start) }
-{
-    if sheet.len() > (start + 7) / 8 {
-        return false;
-    }
-    let end = 8 * sheet.len();
-    if end <= start {
-        return true;
-    }
-    field(sheet, start, end - start) == 0
-}
-
-// Returns the number of proper ranks.
-fn proper_ranks(rank: usize) -> usize
-    ensures { result ≡ rank - 1 }
-{
-    if rank == 0 { 0 } else { rank - 1 }
-}
-
-// Returns V, the number of vertices: rank 1's count, but 1 where R = 1 and 0 where R = 0.
-fn vertices(rank: usize, counts: [usize; PROPER_RANKS]) -> usize
-    ensures { result ≡ form.vertex_count rank (take (rank - 1) counts) }
-{
-    if rank < 2 {
-        return rank;
-    }
-    counts[0]
-}
-
-// Reads the coordinates and the lists of `n` proper ranks, and judges the end.
-fn body(
-    sheet: &[u8],
-    start: usize,
-    vertices: usize,
-    dimension: usize,
-    counts: [usize; PROPER_RANKS],
-    n: usize,
-) -> ListsRead
-    requires { (start < 2 ^ 16) × (vertices ≤ max_count) × (dimension ≤ max_dimension) × (n ≤ proper) × ((k : ℕ) → get_or counts k 0 ≤ max_count) }
-    ensures { result ≡ listed_of all_entries 0 (body_at sheet.now vertices dimension (take n counts) start) }
-{
-    match coordinates(sheet, start, vertices * dimension) {
-        Place::Refused(why) => ListsRead::Refused(why),
-        Place::At(at) => match lists(sheet, at, counts, n) {
-            ListsRead::Refused(why) => ListsRead::Refused(why),
-            ListsRead::At(end, entries) => {
-                if ends(sheet, end) {
-                    ListsRead::At(end, entries)
-                } else {
-                    ListsRead::Refused(Refusal::CutSheet)
-                }
-            }
-        },
-    }
-}
-
-// Returns the judgement where a sheet is refused.
-fn refused(why: Refusal) -> Judgement
-    ensures { result ≡ judgement_of (judged.refused why) }
-{
-    Judgement {
-        verdict: Verdict::Refused(why),
-        header: Header {
-            rank: 0,
-            dimension: 0,
-            counts: [0usize; PROPER_RANKS],
-            elements: 0,
-            entries: 0,
-        },
-    }
-}
-
-// Judges all that comes after R and D.
-fn rest(sheet: &[u8], rank: usize, dimension: usize) -> Judgement
-    requires { (rank ≤ max_rank) × (dimension ≤ max_dimension) }
-    ensures { result ≡ judgement_at (rest_at sheet.now rank dimension 6) }
-{
-    let n = proper_ranks(rank);
-    let c = counts(sheet, 6, n);
-    let counts = c.counts;
-    let elements = c.elements;
-    let place = c.place;
-    match place {
-        Place::Refused(why) => refused(why),
-        Place::At(at) => {
-            match body(sheet, at, vertices(rank, counts), dimension, counts, n) {
-                ListsRead::Refused(why) => refused(why),
-                ListsRead::At(_, entries) => Judgement {
-                    verdict: Verdict::Accepted,
-                    header: Header {
-                        rank,
-                        dimension,
-                        counts,
-                        elements,
-                        entries,
-                    },
-                },
-            }
+    // Reads one list, its length in 12 bits and then its subs, where its rank has `used` entries before it. Returns its length.
+    fn list(&mut self, below: usize, used: usize) -> Result<usize, Refusal>
+        requires { (self.old.at < 2 ^ 32) × (used ≤ max_entries) }
+        ensures { Reads (kept length (form.list self.old.sheet.now below used)) self.old self.new result }
+    {
+        let n = self.bits(12)? as usize;
+        if used + n > MAX_ENTRIES {
+            return Err(Refusal::Format);
         }
+        if n == 0 {
+            return Err(Refusal::BadList);
+        }
+        self.subs(below, n)?;
+        Ok(n)
+    }
+
+    // Reads the lists of a rank's `n` elements, and returns the number of their entries.
+    fn rank_lists(&mut self, below: usize, n: usize) -> Result<usize, Refusal>
+        requires { (self.old.at < 2 ^ 31) × (n ≤ max_count) }
+        ensures { Reads (kept rank_entries (form.lists_at self.old.sheet.now below n 0)) self.old self.new result }
+    {
+        let mut used: usize = 0;
+        for _ in 0..n {
+            used += self.list(below, used)?;
+        }
+        Ok(used)
+    }
+
+    // Reads the lists of the ranks from 2 on, by the counts of the proper ranks, and returns the number of their entries.
+    fn lists(&mut self, counts: &[usize]) -> Result<usize, Refusal>
+        requires { (self.old.at < 2 ^ 30) × (length counts.now ≤ proper) × ((k : ℕ) → get_or counts.now k 0 ≤ max_count) }
+        ensures { Reads (kept all_entries (form.lists self.old.sheet.now counts.now)) self.old self.new result }
+    {
+        let mut entries: usize = 0;
+        for k in 1..counts.len() {
+            entries += self.rank_lists(counts[k - 1], counts[k])?;
+        }
+        Ok(entries)
+    }
+
+    // Tells whether the sheet ends here: no byte follows, and the filling bits are 0.
+    #[tactic(auto, using(crate::proofs::Fields::end_follows, crate::proofs::Fields::end_here, crate::proofs::Fields::end_filled))]
+    fn is_at_end(&self) -> bool
+        requires { self.now.at < 2 ^ 63 }
+        ensures { result ≡ is_ok (form.end self.now.sheet.now self.now.at) }
+    {
+        if self.sheet.len() > (self.at + 7) / 8 {
+            return false;
+        }
+        let end = 8 * self.sheet.len();
+        if end <= self.at {
+            return true;
+        }
+        field(self.sheet, self.at, end - self.at) == 0
+    }
+
+    // Reads the coordinates of the vertices and the lists, judges the end, and returns the number of the lists' entries.
+    fn body(
+        &mut self,
+        vertices: usize,
+        dimension: usize,
+        counts: &[usize],
+    ) -> Result<usize, Refusal>
+        requires at { self.old.at < 2 ^ 16 }
+        requires limits { (vertices ≤ max_count) × (dimension ≤ max_dimension) }
+        requires counts { (length counts.now ≤ proper) × ((k : ℕ) → get_or counts.now k 0 ≤ max_count) }
+        ensures { Reads (kept all_entries (body_at self.old.sheet.now vertices dimension counts.now)) self.old self.new result }
+    {
+        self.coordinates(vertices * dimension)?;
+        let entries = self.lists(counts)?;
+        if !self.is_at_end() {
+            return Err(Refusal::CutSheet);
+        }
+        Ok(entries)
+    }
+
+    // Judges all that comes after R and D. V is rank 1's count, but R where there are no proper ranks.
+    fn rest(&mut self, rank: usize, dimension: usize) -> Result<Header, Refusal>
+        requires { (self.old.at ≤ 6) × (rank ≤ max_rank) × (dimension ≤ max_dimension) }
+        ensures { Reads (kept header_of (rest_at self.old.sheet.now rank dimension)) self.old self.new result }
+    {
+        let n = rank.saturating_sub(1);
+        let read = self.counts(n)?;
+        let counts = read.counts;
+        let vertices = counts[..n].first().copied().unwrap_or(rank);
+        let entries = self.body(vertices, dimension, &counts[..n])?;
+        Ok(Header {
+            rank,
+            dimension,
+            counts,
+            elements: read.elements,
+            entries,
+        })
     }
 }
 
-// Judges a sheet of any bytes and any length, and returns its verdict and what it says. R and D come first, 3 bits each.
-pub fn judge(sheet: &[u8]) -> Judgement
-    ensures { result ≡ judgement_of (form.read_sheet sheet.now) }
+// Judges a sheet of any bytes and any length, and returns what it says. R and D come first, 3 bits each.
+pub fn judge(sheet: &[u8]) -> Result<Header, Refusal>
+    ensures { result ≡ map_ok header_of (form.read_sheet sheet.now) }
 {
-    if !whole(sheet, 0, 3) {
-        return refused(Refusal::CutSheet);
-    }
-    let rank = field(sheet, 0, 3) as usize;
+    let mut cursor = Cursor { sheet, at: 0 };
+    let rank = cursor.bits(3)? as usize;
     if rank > MAX_RANK {
-        return refused(Refusal::Format);
+        return Err(Refusal::Format);
     }
-    if !whole(sheet, 3, 3) {
-        return refused(Refusal::CutSheet);
-    }
-    let dimension = field(sheet, 3, 3) as usize;
+    let dimension = cursor.bits(3)? as usize;
     if dimension > MAX_DIMENSION {
-        return refused(Refusal::Format);
+        return Err(Refusal::Format);
     }
-    rest(sheet, rank, dimension)
+    cursor.rest(rank, dimension)
 }
 
 // Returns the dimension D of a sheet that `judge` accepts. It stands behind R, so that no more of the sheet is read.
 pub fn dimension(sheet: &[u8]) -> usize
-    requires { (judgement_of (form.read_sheet sheet.now)).verdict ≡ Accepted }
-    ensures { result ≡ (judgement_of (form.read_sheet sheet.now)).header.dimension }
+    requires { IsOk (form.read_sheet sheet.now) }
+    ensures { IfOk (form.read_sheet sheet.now) (λ p. result ≡ p.dimension) }
 {
     field(sheet, 3, 3) as usize
 }

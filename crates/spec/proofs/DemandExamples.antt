@@ -1,9 +1,8 @@
 -- This file tries demand 3's terms on a square, one corner of which lies at a distance of its own: what a step parts, which state is not steady, and
 -- what the result is there.
 -- Assumes nothing.
-use Rattle.std.specs.Prelude.{◌≡◌, refl, ◌≢◌, ℕ, zero, suc, [], ◌∷◌, get_or}
+use Rattle.std.specs.Prelude.{◌≡◌, refl, ◌≢◌, ℕ, zero, suc, [], ◌∷◌, get_or, Some}
 use Rattle.std.proofs.Common.{sym, subst, arith, lit<}
-use Rattle.std.proofs.Math.Option.{some}
 use Rattle.spec.specs.Lists.{distinct, renumber, count, holds, eq_list, range, keep, sum, without, place}
 use Rattle.spec.specs.Types.{Classes, State, Step, up, down, at, subs, sups, proper_ranks, elements, type_of, type_count, start_at, start, key, keys, step, play, sweep_steps, sweep, settle, result}
 use Rattle.spec.specs.Demand.{Proper, Parts, Steady, Final, Agree}
@@ -23,7 +22,7 @@ pub begins : start square one_corner ≡ begun
 unfolding start start_at distinct renumber range without place
 begins = refl
 
-pub ends : result square one_corner ≡ some ended
+pub ends : result square one_corner ≡ Some ended
 unfolding result settle sweep sweep_steps play step keys key start start_at type_count elements proper_ranks sups subs distinct renumber count holds eq_list range keep sum without place
 ends = refl
 

@@ -1,19 +1,16 @@
 -- These are small closed examples of the calls, of clean, of the mark and of single rules. They tell the definitions from the wrong ones that the
 -- must-fail edits make.
 -- Assumes nothing.
-use Rattle.std.specs.Prelude.{◌≡◌, refl, ℕ, Bool, true, false, List, [], ◌∷◌, map, length, get_or, replicate}
-use Rattle.std.proofs.Math.Option.{some}
+use Rattle.std.specs.Prelude.{◌≡◌, refl, ℕ, Bool, true, false, List, [], ◌∷◌, map, length, get_or, replicate, Err, Ok, Some}
 use Rattle.std.specs.Float.{nan, binary64}
 use Rattle.std.specs.Float.Ieee.{of_bits, to_bits}
 use Rattle.spec.specs.declared.Refusal.TheVariants.{CutSheet, Format, OffTheBoard, BadList, Loose, Mitre, Bench, NotFull, DoubleCorner, Centred, Flat, Blank, ShortSheet, Open, Unsettled}
-use Rattle.spec.specs.declared.Answer.{Answer}
-use Rattle.spec.specs.declared.Answer.TheVariants.{Done, Refused}
-use Rattle.spec.specs.Refusal.{number}
+use Rattle.spec.specs.Refusal.{number, Answer, refused_with}
 use Rattle.spec.specs.Ascii.{ascii}
 use Rattle.spec.specs.Lists.{range}
 use Rattle.spec.specs.Types.{Solid, Classes, result, element_types}
 use Rattle.spec.specs.Mark.{marked}
-use Rattle.spec.specs.Judged.{Judged, refused, passed, ◌>>=◌}
+use Rattle.spec.specs.Judged.{Judged, ◌>>=◌}
 use Rattle.spec.specs.Sheet.{list}
 use Rattle.spec.specs.Solid.{Concrete, preflight}
 use Rattle.spec.specs.Search.{examples_go, is_rotation}
@@ -68,43 +65,43 @@ abbrev pub shown : Answer × SearchOut → Answer × List ℕ × List ℕ × Lis
 shown x = (x.0, map (to_bits binary64) x.1.matrices, x.1.rows, x.1.marks)
 
 -- These are the dyad's types, its members (the identity and the mirror) and its rotation, each in buffers that the answer just fills.
-pub dyad-types : types_call dyad 96 80 (types_old 2 4) ≡ (Done 1, record { elements = 0 ∷ 0 ∷ []; types = 1 ∷ 0 ∷ 0 ∷ 2 ∷ [] })
+pub dyad-types : types_call dyad 96 80 (types_old 2 4) ≡ (Ok 1, record { elements = 0 ∷ 0 ∷ []; types = 1 ∷ 0 ∷ 0 ∷ 2 ∷ [] })
 unfolding evaluate
 dyad-types = refl
 
-pub dyad-members : shown (search_call dyad 96 80 (search_old 2 4 2)) ≡ (Done 2, 0x3ff0000000000000 ∷ 0xbff0000000000000 ∷ [], 0 ∷ 1 ∷ 1 ∷ 0 ∷ [], 1 ∷ 1 ∷ [])
+pub dyad-members : shown (search_call dyad 96 80 (search_old 2 4 2)) ≡ (Ok 2, 0x3ff0000000000000 ∷ 0xbff0000000000000 ∷ [], 0 ∷ 1 ∷ 1 ∷ 0 ∷ [], 1 ∷ 1 ∷ [])
 unfolding evaluate
 dyad-members = refl
 
-pub dyad-rotations : shown (rotations_call dyad 96 80 (search_old 1 2 1)) ≡ (Done 1, 0x3ff0000000000000 ∷ [], 0 ∷ 1 ∷ [], 1 ∷ [])
+pub dyad-rotations : shown (rotations_call dyad 96 80 (search_old 1 2 1)) ≡ (Ok 1, 0x3ff0000000000000 ∷ [], 0 ∷ 1 ∷ [], 1 ∷ [])
 unfolding evaluate
 dyad-rotations = refl
 
 -- With one row entry too few, one whole member is kept and the cells past it stay as they were.
-pub dyad_short : shown (search_call dyad 96 80 (search_old 2 3 2)) ≡ (Refused ShortSheet 1, 0x3ff0000000000000 ∷ 0x4000000000000000 ∷ [], 0 ∷ 1 ∷ 7 ∷ [], 1 ∷ 7 ∷ [])
+pub dyad_short : shown (search_call dyad 96 80 (search_old 2 3 2)) ≡ (refused_with ShortSheet 1, 0x3ff0000000000000 ∷ 0x4000000000000000 ∷ [], 0 ∷ 1 ∷ 7 ∷ [], 1 ∷ 7 ∷ [])
 unfolding evaluate
 dyad_short = refl
 
 -- Vertex 0 lies at the origin and does not change places with vertex 1: "For R = 2 coordinates don't move".
-pub lopsided-members : (search_call lopsided 96 80 (search_old 2 4 2)).0 ≡ Refused Flat 0
+pub lopsided-members : (search_call lopsided 96 80 (search_old 2 4 2)).0 ≡ refused_with Flat 0
 unfolding evaluate
 lopsided-members = refl
 
 -- A distance of EPS is not further than EPS, and a difference of EPS is within EPS but not nearer than EPS.
-pub tiny-members : (search_call tiny 96 80 (search_old 2 4 2)).0 ≡ Refused Centred 0
+pub tiny-members : (search_call tiny 96 80 (search_old 2 4 2)).0 ≡ refused_with Centred 0
 unfolding evaluate
 tiny-members = refl
 
-pub close-members : (search_call close 96 80 (search_old 2 4 2)).0 ≡ Refused DoubleCorner 0
+pub close-members : (search_call close 96 80 (search_old 2 4 2)).0 ≡ refused_with DoubleCorner 0
 unfolding evaluate
 close-members = refl
 
-pub close-types : (types_call close 96 80 (types_old 2 8)).0 ≡ Done 2
+pub close-types : (types_call close 96 80 (types_old 2 8)).0 ≡ Ok 2
 unfolding evaluate
 close-types = refl
 
 -- Under the mirror one vertex's image is found nowhere, so the mirror is no member, and no row is written with an entry left unfilled.
-pub unequal-members : shown (search_call unequal 96 80 (search_old 2 4 2)) ≡ (Done 1, 0x3ff0000000000000 ∷ 0x4000000000000000 ∷ [], 0 ∷ 1 ∷ 7 ∷ 7 ∷ [], 1 ∷ 7 ∷ [])
+pub unequal-members : shown (search_call unequal 96 80 (search_old 2 4 2)) ≡ (Ok 1, 0x3ff0000000000000 ∷ 0x4000000000000000 ∷ [], 0 ∷ 1 ∷ 7 ∷ 7 ∷ [], 1 ∷ 7 ∷ [])
 unfolding evaluate
 unequal-members = refl
 
@@ -114,7 +111,7 @@ unequal_text = refl
 
 -- The question "whose hull is further than EPS from the origin" is asked of the hull's own distance. By its listed value neither facet would be
 -- further, and the search would be refused 10.
-pub listed-nearer-members : (search_call listed_nearer 96 80 (search_old 2 4 2)).0 ≡ Done 1
+pub listed-nearer-members : (search_call listed_nearer 96 80 (search_old 2 4 2)).0 ≡ Ok 1
 unfolding evaluate
 listed-nearer-members = refl
 
@@ -122,7 +119,7 @@ listed-nearer-members = refl
 
 -- Tells whether the solid of a sheet is clean, or the sheet's own refusal where it has one.
 abbrev pub clean_sheet : List ℕ → Judged Bool
-clean_sheet b = preflight b 4096 2048 >>= λ c. passed (clean c)
+clean_sheet b = preflight b 4096 2048 >>= λ c. Ok (clean c)
 
 -- Gives the polygon with the given edges and, as bit patterns, the given coordinates.
 abbrev pub polygon : List (List ℕ) → (d : ℕ) → List (List ℕ) → Concrete
@@ -138,12 +135,12 @@ triangle_of = polygon ((0 ∷ 1 ∷ []) ∷ (1 ∷ 2 ∷ []) ∷ (0 ∷ 2 ∷ []
 -- These are clean solids of rank 2: one with two members; two whose search is refused 11 and 10 before it makes a candidate; two with a candidate
 -- that is no member.
 pub clean_dyads : map clean_sheet (dyad ∷ lopsided ∷ tiny ∷ unequal ∷ listed_nearer ∷ [])
-    ≡ passed true ∷ passed true ∷ passed true ∷ passed true ∷ passed true ∷ []
+    ≡ Ok true ∷ Ok true ∷ Ok true ∷ Ok true ∷ Ok true ∷ []
 unfolding evaluate
 clean_dyads = refl
 
 -- The distances 0 and 1e-7 are both listed, and each is nearer than EPS to itself alone. The search is refused 9.
-pub clean_close : clean_sheet close ≡ passed true
+pub clean_close : clean_sheet close ≡ Ok true
 unfolding evaluate
 clean_close = refl
 
@@ -199,7 +196,7 @@ abbrev one_apart : Classes
 one_apart r e = get_or (get_or ([] ∷ (1 ∷ []) ∷ []) r []) e 0
 
 pub octagon-types : result octagon one_apart
-    ≡ some ((0 ∷ []) ∷ (0 ∷ 1 ∷ 2 ∷ 3 ∷ 4 ∷ 3 ∷ 2 ∷ 1 ∷ []) ∷ (0 ∷ 1 ∷ 2 ∷ 3 ∷ 3 ∷ 2 ∷ 1 ∷ 0 ∷ []) ∷ (0 ∷ []) ∷ [])
+    ≡ Some ((0 ∷ []) ∷ (0 ∷ 1 ∷ 2 ∷ 3 ∷ 4 ∷ 3 ∷ 2 ∷ 1 ∷ []) ∷ (0 ∷ 1 ∷ 2 ∷ 3 ∷ 3 ∷ 2 ∷ 1 ∷ 0 ∷ []) ∷ (0 ∷ []) ∷ [])
 unfolding evaluate
 octagon-types = refl
 
@@ -261,15 +258,15 @@ table_numbers = refl
 
 -- "a list's length counts as entries when it is read": entry 8,192 passes, and entry 8,193 is refused 2 before the sheet's end, which comes next, is
 -- seen. A length of 0 adds no entry, and is refused 4.
-pub entries-full : list (0 ∷ 16 ∷ 0 ∷ []) 1 8191 0 ≡ passed (0 ∷ [], 23)
+pub entries-full : list (0 ∷ 16 ∷ 0 ∷ []) 1 8191 0 ≡ Ok (0 ∷ [], 23)
 unfolding evaluate
 entries-full = refl
 
-pub entries_over : list (0 ∷ 16 ∷ []) 1 8192 0 ≡ refused Format
+pub entries_over : list (0 ∷ 16 ∷ []) 1 8192 0 ≡ Err Format
 unfolding evaluate
 entries_over = refl
 
-pub entries_none : list (0 ∷ 0 ∷ 0 ∷ []) 1 8192 0 ≡ refused BadList
+pub entries_none : list (0 ∷ 0 ∷ 0 ∷ []) 1 8192 0 ≡ Err BadList
 unfolding evaluate
 entries_none = refl
 

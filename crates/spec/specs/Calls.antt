@@ -1,12 +1,11 @@
 -- This file has the public calls: what each answers, and what stands in its lent outputs afterwards.
 -- Assumes nothing.
-use Rattle.std.specs.Prelude.{ℕ, suc, ◌*◌, Bool, true, false, ◌&&◌, List, [], ◌∷◌, map, length, leb, ltb, Float}
+use Rattle.std.specs.Prelude.{ℕ, suc, ◌*◌, Bool, true, false, ◌&&◌, List, [], ◌∷◌, map, length, leb, ltb, Float, Err, Ok}
 use Rattle.spec.specs.declared.Refusal.TheVariants.{Blank, ShortSheet, Unsettled}
-use Rattle.spec.specs.declared.Answer.{Answer}
-use Rattle.spec.specs.declared.Answer.TheVariants.{Done, Refused}
+use Rattle.spec.specs.Refusal.{Answer, refused_with}
 use Rattle.spec.specs.Lists.{join, written}
 use Rattle.spec.specs.Types.{ElementType, given, element_types}
-use Rattle.spec.specs.Judged.{Judged, refused, passed, ◌>>=◌, ◌>>◌, judge, wanted}
+use Rattle.spec.specs.Judged.{Judged, ◌>>=◌, ◌>>◌, judge, wanted}
 use Rattle.spec.specs.Solid.{Concrete, preflight}
 use Rattle.spec.specs.Classes.{types_of}
 use Rattle.spec.specs.Search.{Member, rotations_of, search}
@@ -27,9 +26,9 @@ unfoldable pub types_given : List ℕ → ℕ → ℕ → ℕ → ℕ → Judged
 types_given b words floats n m = do
   c ← preflight b words floats
   z ← wanted Unsettled (types_of c)
-  g ← passed (record { elements = given c.abs z; types = element_types c.abs z })
+  g ← Ok (record { elements = given c.abs z; types = element_types c.abs z })
   judge ShortSheet (leb (length g.elements) n && leb (4 * length g.types) m)
-  passed g
+  Ok g
 
 -- These are the cells of the types call's outputs: there is one cell for each proper element, and there are four for each type.
 pub record TypesOut : Type 0 where
@@ -37,9 +36,9 @@ pub record TypesOut : Type 0 where
   pub types : List ℕ
 
 unfoldable pub types_written : Judged Given → TypesOut → Answer × TypesOut
-types_written (refused why) old = (Refused why 0, old)
-types_written (passed g) old =
-    (Done (length g.types), record { elements = written g.elements old.elements; types = written (join (map type_cells g.types)) old.types })
+types_written (Err why) old = (refused_with why 0, old)
+types_written (Ok g) old =
+    (Ok (length g.types), record { elements = written g.elements old.elements; types = written (join (map type_cells g.types)) old.types })
 
 -- The types call gives its answer and the outputs afterwards, from the sheet's bytes, the lengths of the workspace's words and floats, and the
 -- outputs as they were. "Outputs are untouched, except ..": a refusal changes nothing here. "Workspace afterwards is free": no definition speaks of
@@ -71,28 +70,28 @@ pub record Outcome : Type 0 where
 
 -- A search goes on with "then 12 or 13": an empty list is refused 12, and a list of which not all was kept is refused 13.
 unfoldable pub kept_of : List Member → List Member → Outcome
-kept_of [] kept = record { answer = Refused Blank 0; members = [] }
+kept_of [] kept = record { answer = refused_with Blank 0; members = [] }
 kept_of (x ∷ xs) kept = elim (ltb (length kept) (length (x ∷ xs))) [
-  | true ↦ record { answer = Refused ShortSheet (length kept); members = kept }
-  | false ↦ record { answer = Done (length kept); members = kept }
+  | true ↦ record { answer = refused_with ShortSheet (length kept); members = kept }
+  | false ↦ record { answer = Ok (length kept); members = kept }
 ]
 
 -- "13 keeps what fitted in search (whole members only)", and at any other refusal nothing is written.
 unfoldable pub outcome : Judged (Concrete × List Member) → Room → Outcome
-outcome (refused why) m = record { answer = Refused why 0; members = [] }
-outcome (passed x) m = kept_of x.1 (fitting m x.0.dimension (length x.0.points) 0 x.1)
+outcome (Err why) m = record { answer = refused_with why 0; members = [] }
+outcome (Ok x) m = kept_of x.1 (fitting m x.0.dimension (length x.0.points) 0 x.1)
 
 -- These are all members of the sheet's solid, whether they fit or not.
 unfoldable pub members_in : List ℕ → ℕ → ℕ → Judged (Concrete × List Member)
 members_in b words floats = do
   c ← preflight b words floats
   ms ← search c
-  passed (c, ms)
+  Ok (c, ms)
 
 unfoldable pub rotations_in : List ℕ → ℕ → ℕ → Judged (Concrete × List Member)
 rotations_in b words floats = do
   x ← members_in b words floats
-  passed (x.0, rotations_of x.1)
+  Ok (x.0, rotations_of x.1)
 
 -- These are the outputs of a search: the matrices, row by row, the rows and the marks. In each, a member comes after the one before.
 pub record SearchOut : Type 0 where

@@ -1,7 +1,6 @@
 -- This file has section 3's distance classes for the elements of a solid, and section 4's types that start from them.
 -- Assumes nothing.
-use Rattle.std.specs.Prelude.{ℕ, List, [], ◌∷◌, map, get_or, take, drop, Float}
-use Rattle.std.proofs.Math.Option.{Option}
+use Rattle.std.specs.Prelude.{ℕ, List, [], ◌∷◌, map, get_or, take, drop, Float, Option}
 use Rattle.spec.specs.Lists.{range, join}
 use Rattle.spec.specs.Types.{size, proper_ranks, Classes, State, result, vertices}
 use Rattle.spec.specs.Matrix.{Vector}

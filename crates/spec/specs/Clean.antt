@@ -2,7 +2,7 @@
 -- The comparison with the Rust (compare/clean.rs, tools/search_model.py) tests this definition, under the same names, and leaves out what is not
 -- clean.
 -- Assumes nothing.
-use Rattle.std.specs.Prelude.{ℕ, Bool, true, false, ◌&&◌, List, [], ◌∷◌, ◌++◌, map, get_or, leb, eqb, ℤ, pos, negsuc, Float}
+use Rattle.std.specs.Prelude.{ℕ, Bool, true, false, ◌&&◌, List, [], ◌∷◌, ◌++◌, map, get_or, leb, eqb, ℤ, pos, negsuc, Float, Err, Ok}
 use Rattle.std.specs.Bool.{beq}
 use Rattle.std.specs.Float.{nan, inf, fin}
 use Rattle.spec.specs.Lists.{distinct, count, range, join, every}
@@ -11,7 +11,6 @@ use Rattle.spec.specs.Matrix.{Vector, Matrix, mul_vec}
 use Rattle.spec.specs.Hull.{nearer, listing}
 use Rattle.spec.specs.Copying.{spread, copies}
 use Rattle.spec.specs.Points.{near, found}
-use Rattle.spec.specs.Judged.{refused, passed}
 use Rattle.spec.specs.Solid.{Concrete}
 use Rattle.spec.specs.Flags.{Flag, flags}
 use Rattle.spec.specs.Classes.{distances}
@@ -83,8 +82,8 @@ candidates w (F ∷ Fs) = elim (same_types w F) [ true ↦ candidate w F ∷ can
 -- images and no answer turns on the second list, so only the coordinates and the first list are asked.
 unfoldable pub clean : Concrete → Bool
 clean c = clean_distances (distances c) && elim (setting c) [
-  | refused why ↦ clean_points c.dimension c.points []
-  | passed w ↦ clean_distances (distances w.searched) && clean_points c.dimension c.points (images (candidates w (flags w.searched.abs)) c.points)
+  | Err why ↦ clean_points c.dimension c.points []
+  | Ok w ↦ clean_distances (distances w.searched) && clean_points c.dimension c.points (images (candidates w (flags w.searched.abs)) c.points)
 ]
 
 -- ---- copying

@@ -1,12 +1,11 @@
 -- This file has section 7: copying, with its answers and outputs.
 -- Assumes nothing.
-use Rattle.std.specs.Prelude.{ℕ, ◌-◌, ◌*◌, ◌/◌, ◌%◌, ◌^◌, min, true, false, ◌&&◌, List, [], ◌∷◌, ◌++◌, map, length, take, replicate, eqb, leb, ltb, Float}
+use Rattle.std.specs.Prelude.{ℕ, ◌-◌, ◌*◌, ◌/◌, ◌%◌, ◌^◌, min, true, false, ◌&&◌, List, [], ◌∷◌, ◌++◌, map, length, take, replicate, eqb, leb, ltb, Float, Err, Ok}
 use Rattle.std.specs.Float.Ieee.{neg}
 use Rattle.spec.specs.declared.Refusal.TheVariants.{CutSheet, Format, OffTheBoard, Blank, ShortSheet, Open}
-use Rattle.spec.specs.declared.Answer.{Answer}
-use Rattle.spec.specs.declared.Answer.TheVariants.{Done, Refused}
+use Rattle.spec.specs.Refusal.{Answer, refused_with}
 use Rattle.spec.specs.Limits.{max_dimension, max_count}
-use Rattle.spec.specs.Judged.{Judged, refused, passed, ◌>>◌, judge}
+use Rattle.spec.specs.Judged.{Judged, ◌>>◌, judge}
 use Rattle.spec.specs.Lists.{holds, range, join, every, parts, written}
 use Rattle.spec.specs.Float.{zero_f, one_f, in_range, zip}
 use Rattle.spec.specs.Matrix.{Vector, Matrix, mul_vec}
@@ -81,10 +80,10 @@ copy_out n ms cs out_points out_table =
     let cells = length ms * length cs in
     let table = copy_table ms cs in
     elim (leb (length cs) n && leb cells (length out_table)) [
-      | false ↦ (Refused ShortSheet (length kept), written (join kept) out_points, out_table)
+      | false ↦ (refused_with ShortSheet (length kept), written (join kept) out_points, out_table)
       | true ↦ elim (holds eqb (length cs) table) [
-        | true ↦ (Refused Open (length kept), written (join kept) out_points, written (replicate cells no_image) out_table)
-        | false ↦ (Done (length cs), written (join kept) out_points, written table out_table)
+        | true ↦ (refused_with Open (length kept), written (join kept) out_points, written (replicate cells no_image) out_table)
+        | false ↦ (Ok (length cs), written (join kept) out_points, written table out_table)
       ]
     ]
 
@@ -92,6 +91,6 @@ copy_out n ms cs out_points out_table =
 -- refused 13 too.
 unfoldable pub copy_call : (d : ℕ) (ps ts out_points : List Float) (out_table : List ℕ) → Answer × List Float × List ℕ
 copy_call d ps ts out_points out_table = elim (judge_copy d ps ts) [
-  | refused why ↦ (Refused why 0, out_points, out_table)
-  | passed u ↦ copy_out (min max_count (length out_points / d)) (matrices d ts) (copies (matrices d ts) (points d ps)) out_points out_table
+  | Err why ↦ (refused_with why 0, out_points, out_table)
+  | Ok u ↦ copy_out (min max_count (length out_points / d)) (matrices d ts) (copies (matrices d ts) (points d ps)) out_points out_table
 ]

@@ -1,14 +1,11 @@
 -- What demand 3 says of the calls, from a sheet's bytes: of what the types call gives out, of any list of steps, and of the members that a search lists.
 -- Assumes nothing.
-use Rattle.std.specs.Prelude.{◌≡◌, ℕ, ◌*◌, ◌<◌, List, map, length, get_or, take, drop}
-use Rattle.std.proofs.Math.Option.{some}
-use Rattle.spec.specs.declared.Answer.{Answer}
-use Rattle.spec.specs.Refusal.{answer_count}
+use Rattle.std.specs.Prelude.{◌≡◌, ℕ, ◌*◌, ◌<◌, List, map, length, get_or, take, drop, Ok, Some}
+use Rattle.spec.specs.Refusal.{answer_count, Answer}
 use Rattle.spec.specs.Lists.{join, written}
 use Rattle.spec.specs.Types.{Solid, size, State, type_of, start, Step, play, given, element_types}
 use Rattle.spec.specs.Mark.{goes}
 use Rattle.spec.specs.Demand.{AllProper, Agree}
-use Rattle.spec.specs.Judged.{passed}
 use Rattle.spec.specs.Solid.{Concrete, preflight}
 use Rattle.spec.specs.Classes.{class_table, by_table, types_of}
 use Rattle.spec.specs.Calls.{type_cells, TypesOut, types_call, SearchOut, search_call, rotations_call}
@@ -43,8 +40,8 @@ pub record Demand3Call (b : List ℕ) (words floats : ℕ) (old : TypesOut) (n :
   -- The solid is the sheet's, and "our result is what the types call gives out, the state when the sweeps end".
   pub solid : Concrete
   pub result : State
-  pub read : preflight b words floats ≡ passed solid
-  pub ended : types_of solid ≡ some result
+  pub read : preflight b words floats ≡ Ok solid
+  pub ended : types_of solid ≡ Some result
   pub elements : (types_call b words floats old).1.elements ≡ written (given solid.abs result) old.elements
   pub types : (types_call b words floats old).1.types ≡ written (join (map type_cells (element_types solid.abs result))) old.types
   pub count : n ≡ length (element_types solid.abs result)

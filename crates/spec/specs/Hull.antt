@@ -1,7 +1,6 @@
 -- This file has section 3: hulls, distances and distance classes.
 -- Assumes nothing.
-use Rattle.std.specs.Prelude.{ℕ, Bool, true, false, List, [], ◌∷◌, ◌++◌, map, length, replicate, eqb, Float}
-use Rattle.std.proofs.Math.Option.{Option, none, some}
+use Rattle.std.specs.Prelude.{ℕ, Bool, true, false, List, [], ◌∷◌, ◌++◌, map, length, replicate, eqb, Float, None, Option, Some}
 use Rattle.std.specs.Float.Ieee.{lt, eq}
 use Rattle.spec.specs.Lists.{renumber}
 use Rattle.spec.specs.Float.{eps, zero_f, plus, minus, times, over, abs_f, zip, dot, norm}
@@ -21,23 +20,19 @@ along d q (b ∷ bs) = let s = dot d b in along d (zip (λ x y. plus x (times y 
 unfoldable pub project : Hull → Vector → Vector
 project h p = along (zip minus p h.offset) h.offset h.basis
 
--- This is what adding a point answers: a vector has joined, which had this length, or nothing has.
-pub data Joined : Type 0 where
-  joined : Float → Joined
-  nothing : Joined
-
 -- This is the part of p that the hull does not hold yet: "v = p − projection".
 unfoldable pub rest : Hull → Vector → Vector
 rest h p = zip minus p (project h p)
 
--- This is what adding p answers: "length = norm of v; above EPS, v divided by length joins the basis; otherwise nothing joins".
-unfoldable pub joins : Hull → Vector → Joined
-joins h p = let l = norm (rest h p) in elim (lt eps l) [ true ↦ joined l | false ↦ nothing ]
+-- This is the length of the vector that joins as p is added, if one joins: "length = norm of v; above EPS, v divided by length joins the basis;
+-- otherwise nothing joins".
+unfoldable pub joins : Hull → Vector → Option Float
+joins h p = let l = norm (rest h p) in elim (lt eps l) [ true ↦ Some l | false ↦ None ]
 
 unfoldable pub add : Hull → Vector → Hull
 add h p = elim (joins h p) [
-  | joined l ↦ record { offset = h.offset; basis = h.basis ++ map (λ x. over x l) (rest h p) ∷ [] }
-  | nothing ↦ h
+  | Some l ↦ record { offset = h.offset; basis = h.basis ++ map (λ x. over x l) (rest h p) ∷ [] }
+  | None ↦ h
 ]
 
 -- Adds points until the basis is complete: "Stop at D vectors".
@@ -65,17 +60,17 @@ nearer x y = lt (abs_f (minus x y)) eps
 
 -- This is the smaller of the value y and what was found before, if anything was.
 unfoldable pub smaller : Float → Option Float → Option Float
-smaller y none = some y
-smaller y (some z) = elim (lt z y) [ true ↦ some z | false ↦ some y ]
+smaller y None = Some y
+smaller y (Some z) = elim (lt z y) [ true ↦ Some z | false ↦ Some y ]
 
 -- This is the smallest listed value that is strictly nearer to x than EPS.
 unfoldable pub listed_for : Float → List Float → Option Float
-listed_for x [] = none
+listed_for x [] = None
 listed_for x (y ∷ ys) = elim (nearer x y) [ true ↦ smaller y (listed_for x ys) | false ↦ listed_for x ys ]
 
 -- "A distance takes the smallest listed value strictly nearer than EPS, else joins the list." This is the value, and the list afterwards.
 unfoldable pub listing : List Float → Float → Float × List Float
-listing l x = elim (listed_for x l) [ none ↦ (x, l ++ x ∷ []) | some y ↦ (y, l) ]
+listing l x = elim (listed_for x l) [ None ↦ (x, l ++ x ∷ []) | Some y ↦ (y, l) ]
 
 -- These are the values that the distances take in order, when the list l is there already.
 unfoldable pub classes_from : List Float → List Float → List Float

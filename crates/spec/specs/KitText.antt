@@ -1,13 +1,12 @@
 -- This file says what the program `kit` prints for its standard input.
 -- Assumes nothing.
-use Rattle.std.specs.Prelude.{ℕ, zero, suc, ◌+◌, ◌*◌, ◌/◌, ◌%◌, true, false, List, [], ◌∷◌, ◌++◌, map, length, ltb}
+use Rattle.std.specs.Prelude.{ℕ, zero, suc, ◌+◌, ◌*◌, ◌/◌, ◌%◌, true, false, List, [], ◌∷◌, ◌++◌, map, length, ltb, Err, Ok}
 use Rattle.spec.specs.declared.Refusal.{Refusal}
 use Rattle.spec.specs.declared.Refusal.TheVariants.{CutSheet}
 use Rattle.spec.specs.Refusal.{number}
-use Rattle.spec.specs.declared.Answer.TheVariants.{Done, Refused}
 use Rattle.spec.specs.Lists.{sum, join}
 use Rattle.spec.specs.Types.{ElementType}
-use Rattle.spec.specs.Judged.{Judged, refused, passed}
+use Rattle.spec.specs.Judged.{Judged}
 use Rattle.spec.specs.Search.{Member, rotations_of}
 use Rattle.spec.specs.Calls.{Given, types_given, Room, Outcome, outcome, members_in}
 use Rattle.spec.specs.Ascii.{ascii}
@@ -40,7 +39,7 @@ members_line ms =
     ++ ascii " rotations " ++ decimal (length (rotations_of ms)) ++ ascii "\n"
 
 unfoldable pub last_line : Outcome → List ℕ
-last_line f = elim f.answer [ Done n ↦ members_line f.members | Refused why k ↦ refused_line why ]
+last_line f = elim f.answer [ Ok n ↦ members_line f.members | Err r ↦ refused_line r.why ]
 
 -- ---- what `kit` lends, each number once
 
@@ -70,8 +69,8 @@ longest = 8192
 
 -- "A refusal prints `refused` and its number, after the types if they stood."
 unfoldable pub after_types : Judged Given → List ℕ → List ℕ
-after_types (refused why) b = refused_line why
-after_types (passed g) b = types_lines g.types ++ last_line (outcome (members_in b work_words work_floats) lent)
+after_types (Err why) b = refused_line why
+after_types (Ok g) b = types_lines g.types ++ last_line (outcome (members_in b work_words work_floats) lent)
 
 -- "The program `kit` reads a sheet from standard input and prints" these bytes.
 unfoldable pub kit_text : List ℕ → List ℕ

@@ -1,7 +1,6 @@
 -- This file has section 1's matrices, "held as rows of rows", with the inverse and the determinant by Gauss-Jordan.
 -- Assumes nothing.
-use Rattle.std.specs.Prelude.{ℕ, suc, ◌-◌, ◌%◌, true, false, List, [], ◌∷◌, ◌++◌, map, length, get_or, set, drop, eqb, Float}
-use Rattle.std.proofs.Math.Option.{Option, none, some}
+use Rattle.std.specs.Prelude.{ℕ, suc, ◌-◌, ◌%◌, true, false, List, [], ◌∷◌, ◌++◌, map, length, get_or, set, drop, eqb, Float, None, Option, Some}
 use Rattle.std.specs.Float.Ieee.{neg, lt, eq}
 use Rattle.spec.specs.Lists.{range}
 use Rattle.spec.specs.Float.{zero_f, one_f, minus, times, over, abs_f, zip, dot}
@@ -78,14 +77,14 @@ column c w =
     let x = entry w.rows p c in
     let a = swap_rows w.rows p c in
     elim (eq x zero_f) [
-      | true ↦ none
-      | false ↦ some (record { rows = clear c (divided (row a c) x) a; pivots = w.pivots ++ x ∷ []; swaps = elim (eqb p c) [ true ↦ w.swaps | false ↦ suc w.swaps ] })
+      | true ↦ None
+      | false ↦ Some (record { rows = clear c (divided (row a c) x) a; pivots = w.pivots ++ x ∷ []; swaps = elim (eqb p c) [ true ↦ w.swaps | false ↦ suc w.swaps ] })
     ]
 
 -- This is the elimination in one column after another.
 unfoldable pub eliminate : List ℕ → Work → Option Work
-eliminate [] w = some w
-eliminate (c ∷ cs) w = elim (column c w) [ none ↦ none | some v ↦ eliminate cs v ]
+eliminate [] w = Some w
+eliminate (c ∷ cs) w = elim (column c w) [ None ↦ None | Some v ↦ eliminate cs v ]
 
 -- This is the elimination of all columns: "Gauss-Jordan beside an identity".
 unfoldable pub gauss_jordan : Matrix → Option Work
@@ -95,7 +94,7 @@ gauss_jordan a =
 
 -- This is the half of the rows that was the identity, or `none` where the matrix is singular.
 unfoldable pub inverse : Matrix → Option Matrix
-inverse a = elim (gauss_jordan a) [ none ↦ none | some w ↦ some (map (drop (length a)) w.rows) ]
+inverse a = elim (gauss_jordan a) [ None ↦ None | Some w ↦ Some (map (drop (length a)) w.rows) ]
 
 -- This is the product of x and the others, in order.
 unfoldable pub times_on : Float → List Float → Float
@@ -109,6 +108,6 @@ product (x ∷ xs) = times_on x xs
 -- The determinant is "the product of those pivots in order, negated if swaps were odd; singular gives 0".
 unfoldable pub determinant : Matrix → Float
 determinant a = elim (gauss_jordan a) [
-  | none ↦ zero_f
-  | some w ↦ elim (eqb (w.swaps % 2) 1) [ true ↦ neg (product w.pivots) | false ↦ product w.pivots ]
+  | None ↦ zero_f
+  | Some w ↦ elim (eqb (w.swaps % 2) 1) [ true ↦ neg (product w.pivots) | false ↦ product w.pivots ]
 ]

@@ -1,16 +1,15 @@
 -- The definitions of sections 1, 3 and 7 are evaluated on bit patterns.
 -- Assumes nothing.
-use Rattle.std.specs.Prelude.{◌≡◌, refl, ℕ, List, [], ◌∷◌, map, replicate, Float}
-use Rattle.std.proofs.Math.Option.{none, some}
+use Rattle.std.specs.Prelude.{◌≡◌, refl, ℕ, List, [], ◌∷◌, map, replicate, Float, None, Some, Ok}
 use Rattle.std.specs.Float.{binary64}
 use Rattle.std.specs.Float.Ieee.{size, units, neg, add, sub, mul, div, lt, le, eq, of_bits, to_bits}
 use Rattle.spec.specs.declared.Refusal.TheVariants.{CutSheet, Format, OffTheBoard, Blank, ShortSheet, Open}
-use Rattle.spec.specs.declared.Answer.TheVariants.{Done, Refused}
+use Rattle.spec.specs.Refusal.{refused_with}
 use Rattle.spec.specs.Lists.{place, holds, range, join, every, distinct, without, renumber, parts, written}
 use Rattle.spec.specs.Limits.{max_magnitude}
 use Rattle.spec.specs.Float.{eps, zero_f, one_f, abs_f, finite, in_range, zip, add_on, total, dot, root_down, root_units, root, norm}
 use Rattle.spec.specs.Matrix.{Matrix, columns, mul_vec, mul_mat, unit, identity, scan, pivot_row, swap_rows, divided, cleared, clear, column, eliminate, gauss_jordan, inverse, times_on, product, determinant}
-use Rattle.spec.specs.Hull.{joined, nothing, along, project, rest, joins, add_all, hull_of, origin, distance, nearer, smaller, listed_for, listing, classes_from, classes, class_numbers}
+use Rattle.spec.specs.Hull.{along, project, rest, joins, add_all, hull_of, origin, distance, nearer, smaller, listed_for, listing, classes_from, classes, class_numbers}
 use Rattle.spec.specs.Hull.{add as add_point}
 use Rattle.spec.specs.Copying.{spread, copies_from, copies, copy_table, orders, signed, axis_order, axis_orders, points, matrices, judge_copy, copy_out, copy_call}
 use Rattle.spec.specs.Points.{near, found, find, row_of}
@@ -108,16 +107,16 @@ unfolding all
 image_3 = refl
 
 -- The inverse of a quarter turn takes one swap, and a minus zero comes up on the way.
-pub inverse_2 : inverse quarter ≡ some (mat ((0 ∷ 0x3ff0_0000_0000_0000 ∷ []) ∷ (0xbff0_0000_0000_0000 ∷ 0x8000_0000_0000_0000 ∷ []) ∷ []))
+pub inverse_2 : inverse quarter ≡ Some (mat ((0 ∷ 0x3ff0_0000_0000_0000 ∷ []) ∷ (0xbff0_0000_0000_0000 ∷ 0x8000_0000_0000_0000 ∷ []) ∷ []))
 unfolding all
 inverse_2 = refl
 
 -- The first column has a tie, and the lowest row is taken.
-pub inverse_3 : inverse m3 ≡ some (mat ((0x4010_efa4_8eae_9bb1 ∷ 0xbff1_bc99_b7de_e436 ∷ 0xbfd2_3aba_6ec1_86ff ∷ []) ∷ (0xbfe8_2443_0161_2866 ∷ 0x3fda_9ae6_93ce_5651 ∷ 0x3fe0_c058_4a19_9ea5 ∷ []) ∷ (0x4003_6648_211b_c99b ∷ 0x3fb7_a622_4a7e_85a1 ∷ 0xbfd0_4237_9336_fbdc ∷ []) ∷ []))
+pub inverse_3 : inverse m3 ≡ Some (mat ((0x4010_efa4_8eae_9bb1 ∷ 0xbff1_bc99_b7de_e436 ∷ 0xbfd2_3aba_6ec1_86ff ∷ []) ∷ (0xbfe8_2443_0161_2866 ∷ 0x3fda_9ae6_93ce_5651 ∷ 0x3fe0_c058_4a19_9ea5 ∷ []) ∷ (0x4003_6648_211b_c99b ∷ 0x3fb7_a622_4a7e_85a1 ∷ 0xbfd0_4237_9336_fbdc ∷ []) ∷ []))
 unfolding all
 inverse_3 = refl
 
-pub inverse_4 : inverse m4 ≡ some (mat ((0x3fbd_948a_4109_c65f ∷ 0x3fc0_f6ef_df6f_6e1e ∷ 0xbfd1_f7f3_38ec_a453 ∷ 0x3fb8_b02f_75b5_9da6 ∷ []) ∷ (0x3fac_5dc9_b1ed_ba5a ∷ 0x3fe2_d188_f798_197c ∷ 0x3fe1_cf0f_c7c7_446c ∷ 0xbfc9_480e_87ae_266c ∷ []) ∷ (0xbfac_1c5d_c9b1_edb9 ∷ 0x3fd1_e381_8059_f460 ∷ 0x3fd6_5c61_e070_7177 ∷ 0x3fd4_c37f_74fa_b280 ∷ []) ∷ (0x3fd1_fc09_f770_611c ∷ 0xbfbe_702b_5ef7_19ed ∷ 0x3f9e_aa94_dc07_ec10 ∷ 0x3f9c_79d3_5e99_a458 ∷ []) ∷ []))
+pub inverse_4 : inverse m4 ≡ Some (mat ((0x3fbd_948a_4109_c65f ∷ 0x3fc0_f6ef_df6f_6e1e ∷ 0xbfd1_f7f3_38ec_a453 ∷ 0x3fb8_b02f_75b5_9da6 ∷ []) ∷ (0x3fac_5dc9_b1ed_ba5a ∷ 0x3fe2_d188_f798_197c ∷ 0x3fe1_cf0f_c7c7_446c ∷ 0xbfc9_480e_87ae_266c ∷ []) ∷ (0xbfac_1c5d_c9b1_edb9 ∷ 0x3fd1_e381_8059_f460 ∷ 0x3fd6_5c61_e070_7177 ∷ 0x3fd4_c37f_74fa_b280 ∷ []) ∷ (0x3fd1_fc09_f770_611c ∷ 0xbfbe_702b_5ef7_19ed ∷ 0x3f9e_aa94_dc07_ec10 ∷ 0x3f9c_79d3_5e99_a458 ∷ []) ∷ []))
 unfolding all
 inverse_4 = refl
 
@@ -127,11 +126,11 @@ unfolding all
 pivot_no_nan = refl
 
 -- A singular matrix has no inverse.
-pub inverse_flat : inverse flat3 ≡ none
+pub inverse_flat : inverse flat3 ≡ None
 unfolding all
 inverse_flat = refl
 
-pub inverse-empty : inverse [] ≡ some []
+pub inverse-empty : inverse [] ≡ Some []
 unfolding all
 inverse-empty = refl
 
@@ -172,7 +171,7 @@ unfolding all
 hull_0 = refl
 
 -- A length has to be "above EPS" to join: EPS itself does not, and the next value does.
-pub joins-at-eps : map (λ p. joins (record { offset = vec (0 ∷ []); basis = [] }) (vec (p ∷ []))) (0x3e7a_d7f2_9abc_af48 ∷ 0x3e7a_d7f2_9abc_af49 ∷ []) ≡ nothing ∷ joined (of_bits binary64 0x3e7a_d7f2_9abc_af49) ∷ []
+pub joins-at-eps : map (λ p. joins (record { offset = vec (0 ∷ []); basis = [] }) (vec (p ∷ []))) (0x3e7a_d7f2_9abc_af48 ∷ 0x3e7a_d7f2_9abc_af49 ∷ []) ≡ None ∷ Some (of_bits binary64 0x3e7a_d7f2_9abc_af49) ∷ []
 unfolding all
 joins-at-eps = refl
 
@@ -196,13 +195,13 @@ classes-at-eps = refl
 
 -- This is proved, as the trial solids ask: "A quarter turn alone on (1,0): 14".
 pub quarter_alone : copy_call 2 (vec (0x3ff0_0000_0000_0000 ∷ 0 ∷ [])) (vec (0 ∷ 0xbff0_0000_0000_0000 ∷ 0x3ff0_0000_0000_0000 ∷ 0 ∷ [])) (vec (0x401c_0000_0000_0000 ∷ 0x401c_0000_0000_0000 ∷ 0x401c_0000_0000_0000 ∷ 0x401c_0000_0000_0000 ∷ [])) (7 ∷ 7 ∷ 7 ∷ [])
-    ≡ (Refused Open 1, vec (0 ∷ 0x3ff0_0000_0000_0000 ∷ 0x401c_0000_0000_0000 ∷ 0x401c_0000_0000_0000 ∷ []), 65535 ∷ 7 ∷ 7 ∷ [])
+    ≡ (refused_with Open 1, vec (0 ∷ 0x3ff0_0000_0000_0000 ∷ 0x401c_0000_0000_0000 ∷ 0x401c_0000_0000_0000 ∷ []), 65535 ∷ 7 ∷ 7 ∷ [])
 unfolding all
 quarter_alone = refl
 
 -- Under the identity and a half turn, the second point is found among the copies and is passed over. The cells past the answer stay as they were.
 pub half_turn : copy_call 2 (vec (0x3ff0_0000_0000_0000 ∷ 0x4000_0000_0000_0000 ∷ 0xbff0_0000_0000_0000 ∷ 0xc000_0000_0000_0000 ∷ [])) (vec (0x3ff0_0000_0000_0000 ∷ 0 ∷ 0 ∷ 0x3ff0_0000_0000_0000 ∷ 0xbff0_0000_0000_0000 ∷ 0 ∷ 0 ∷ 0xbff0_0000_0000_0000 ∷ [])) (vec (0x401c_0000_0000_0000 ∷ 0x401c_0000_0000_0000 ∷ 0x401c_0000_0000_0000 ∷ 0x401c_0000_0000_0000 ∷ 0x401c_0000_0000_0000 ∷ [])) (7 ∷ 7 ∷ 7 ∷ 7 ∷ 7 ∷ [])
-    ≡ (Done 2, vec (0x3ff0_0000_0000_0000 ∷ 0x4000_0000_0000_0000 ∷ 0xbff0_0000_0000_0000 ∷ 0xc000_0000_0000_0000 ∷ 0x401c_0000_0000_0000 ∷ []), 0 ∷ 1 ∷ 1 ∷ 0 ∷ 7 ∷ [])
+    ≡ (Ok 2, vec (0x3ff0_0000_0000_0000 ∷ 0x4000_0000_0000_0000 ∷ 0xbff0_0000_0000_0000 ∷ 0xc000_0000_0000_0000 ∷ 0x401c_0000_0000_0000 ∷ []), 0 ∷ 1 ∷ 1 ∷ 0 ∷ 7 ∷ [])
 unfolding all
 half_turn = refl
 
@@ -219,85 +218,85 @@ lowest_found = refl
 
 -- A point that is EPS away from a copy, and as rounded beyond EPS, is not found and joins.
 pub near-copies : copy_call 2 (vec (0x3ff0_0000_0000_0000 ∷ 0 ∷ 0x3ff0_0000_1ad7_f29b ∷ 0 ∷ [])) (vec (0x3ff0_0000_0000_0000 ∷ 0 ∷ 0 ∷ 0x3ff0_0000_0000_0000 ∷ [])) (vec (0x401c_0000_0000_0000 ∷ 0x401c_0000_0000_0000 ∷ 0x401c_0000_0000_0000 ∷ 0x401c_0000_0000_0000 ∷ [])) (7 ∷ 7 ∷ [])
-    ≡ (Done 2, vec (0x3ff0_0000_0000_0000 ∷ 0 ∷ 0x3ff0_0000_1ad7_f29b ∷ 0 ∷ []), 0 ∷ 1 ∷ [])
+    ≡ (Ok 2, vec (0x3ff0_0000_0000_0000 ∷ 0 ∷ 0x3ff0_0000_1ad7_f29b ∷ 0 ∷ []), 0 ∷ 1 ∷ [])
 unfolding all
 near-copies = refl
 
 -- Half of the first point is within EPS of both copies. The lower number is found, and not the lower coordinate.
 pub lowest_number : copy_call 1 (vec (0x3e85_798e_e230_8c3a ∷ 0 ∷ [])) (vec (0x3ff0_0000_0000_0000 ∷ 0x3fe0_0000_0000_0000 ∷ [])) (vec (0x401c_0000_0000_0000 ∷ 0x401c_0000_0000_0000 ∷ [])) (7 ∷ 7 ∷ 7 ∷ 7 ∷ [])
-    ≡ (Done 2, vec (0x3e85_798e_e230_8c3a ∷ 0 ∷ []), 0 ∷ 1 ∷ 0 ∷ 1 ∷ [])
+    ≡ (Ok 2, vec (0x3e85_798e_e230_8c3a ∷ 0 ∷ []), 0 ∷ 1 ∷ 0 ∷ 1 ∷ [])
 unfolding all
 lowest_number = refl
 
 -- 2 comes first: D is 5, and a length is broken too.
 pub refused_2 : copy_call 5 (vec (0x3ff0_0000_0000_0000 ∷ [])) (vec (0x3ff0_0000_0000_0000 ∷ [])) (vec (0x401c_0000_0000_0000 ∷ [])) (7 ∷ [])
-    ≡ (Refused Format 0, vec (0x401c_0000_0000_0000 ∷ []), 7 ∷ [])
+    ≡ (refused_with Format 0, vec (0x401c_0000_0000_0000 ∷ []), 7 ∷ [])
 unfolding all
 refused_2 = refl
 
 -- 2 comes where D is 0.
 pub refused_2_0 : copy_call 0 (vec ([])) (vec ([])) (vec (0x401c_0000_0000_0000 ∷ [])) (7 ∷ [])
-    ≡ (Refused Format 0, vec (0x401c_0000_0000_0000 ∷ []), 7 ∷ [])
+    ≡ (refused_with Format 0, vec (0x401c_0000_0000_0000 ∷ []), 7 ∷ [])
 unfolding all
 refused_2_0 = refl
 
 -- 1 comes for a point and a half.
 pub refused_1 : copy_call 2 (vec (0x3ff0_0000_0000_0000 ∷ 0 ∷ 0x3ff0_0000_0000_0000 ∷ [])) (vec (0 ∷ 0xbff0_0000_0000_0000 ∷ 0x3ff0_0000_0000_0000 ∷ 0 ∷ [])) (vec (0x401c_0000_0000_0000 ∷ 0x401c_0000_0000_0000 ∷ 0x401c_0000_0000_0000 ∷ 0x401c_0000_0000_0000 ∷ [])) (7 ∷ [])
-    ≡ (Refused CutSheet 0, vec (0x401c_0000_0000_0000 ∷ 0x401c_0000_0000_0000 ∷ 0x401c_0000_0000_0000 ∷ 0x401c_0000_0000_0000 ∷ []), 7 ∷ [])
+    ≡ (refused_with CutSheet 0, vec (0x401c_0000_0000_0000 ∷ 0x401c_0000_0000_0000 ∷ 0x401c_0000_0000_0000 ∷ 0x401c_0000_0000_0000 ∷ []), 7 ∷ [])
 unfolding all
 refused_1 = refl
 
 -- 1 comes for a matrix and one more entry, and before 3, although that entry is not finite.
 pub refused_1_matrix : copy_call 2 (vec (0x3ff0_0000_0000_0000 ∷ 0 ∷ [])) (vec (0 ∷ 0xbff0_0000_0000_0000 ∷ 0x3ff0_0000_0000_0000 ∷ 0 ∷ 0x7ff0_0000_0000_0000 ∷ [])) (vec (0x401c_0000_0000_0000 ∷ 0x401c_0000_0000_0000 ∷ 0x401c_0000_0000_0000 ∷ 0x401c_0000_0000_0000 ∷ [])) (7 ∷ [])
-    ≡ (Refused CutSheet 0, vec (0x401c_0000_0000_0000 ∷ 0x401c_0000_0000_0000 ∷ 0x401c_0000_0000_0000 ∷ 0x401c_0000_0000_0000 ∷ []), 7 ∷ [])
+    ≡ (refused_with CutSheet 0, vec (0x401c_0000_0000_0000 ∷ 0x401c_0000_0000_0000 ∷ 0x401c_0000_0000_0000 ∷ 0x401c_0000_0000_0000 ∷ []), 7 ∷ [])
 unfolding all
 refused_1_matrix = refl
 
 -- 3 comes for a coordinate that is too large.
 pub refused_3 : copy_call 2 (vec (0x3ff0_0000_0000_0000 ∷ 0x4130_0001_0000_0000 ∷ [])) (vec (0 ∷ 0xbff0_0000_0000_0000 ∷ 0x3ff0_0000_0000_0000 ∷ 0 ∷ [])) (vec (0x401c_0000_0000_0000 ∷ 0x401c_0000_0000_0000 ∷ 0x401c_0000_0000_0000 ∷ 0x401c_0000_0000_0000 ∷ [])) (7 ∷ [])
-    ≡ (Refused OffTheBoard 0, vec (0x401c_0000_0000_0000 ∷ 0x401c_0000_0000_0000 ∷ 0x401c_0000_0000_0000 ∷ 0x401c_0000_0000_0000 ∷ []), 7 ∷ [])
+    ≡ (refused_with OffTheBoard 0, vec (0x401c_0000_0000_0000 ∷ 0x401c_0000_0000_0000 ∷ 0x401c_0000_0000_0000 ∷ 0x401c_0000_0000_0000 ∷ []), 7 ∷ [])
 unfolding all
 refused_3 = refl
 
 -- 3 comes for a matrix entry that is not a number, and before 12, although there are no points.
 pub refused_3_nan : copy_call 2 (vec ([])) (vec (0 ∷ 0x3ff0_0000_0000_0000 ∷ 0x7ff8_0000_0000_0000 ∷ 0 ∷ [])) (vec (0x401c_0000_0000_0000 ∷ 0x401c_0000_0000_0000 ∷ 0x401c_0000_0000_0000 ∷ 0x401c_0000_0000_0000 ∷ [])) (7 ∷ [])
-    ≡ (Refused OffTheBoard 0, vec (0x401c_0000_0000_0000 ∷ 0x401c_0000_0000_0000 ∷ 0x401c_0000_0000_0000 ∷ 0x401c_0000_0000_0000 ∷ []), 7 ∷ [])
+    ≡ (refused_with OffTheBoard 0, vec (0x401c_0000_0000_0000 ∷ 0x401c_0000_0000_0000 ∷ 0x401c_0000_0000_0000 ∷ 0x401c_0000_0000_0000 ∷ []), 7 ∷ [])
 unfolding all
 refused_3_nan = refl
 
 -- The largest magnitude that is allowed passes.
 pub at_the_limit : copy_call 1 (vec (0xc130_0000_0000_0000 ∷ [])) (vec (0x3ff0_0000_0000_0000 ∷ [])) (vec (0x401c_0000_0000_0000 ∷ [])) (7 ∷ [])
-    ≡ (Done 1, vec (0xc130_0000_0000_0000 ∷ []), 0 ∷ [])
+    ≡ (Ok 1, vec (0xc130_0000_0000_0000 ∷ []), 0 ∷ [])
 unfolding all
 at_the_limit = refl
 
 -- 12 comes where there are no points.
 pub refused_12 : copy_call 2 (vec ([])) (vec (0 ∷ 0xbff0_0000_0000_0000 ∷ 0x3ff0_0000_0000_0000 ∷ 0 ∷ [])) (vec (0x401c_0000_0000_0000 ∷ 0x401c_0000_0000_0000 ∷ 0x401c_0000_0000_0000 ∷ 0x401c_0000_0000_0000 ∷ [])) (7 ∷ [])
-    ≡ (Refused Blank 0, vec (0x401c_0000_0000_0000 ∷ 0x401c_0000_0000_0000 ∷ 0x401c_0000_0000_0000 ∷ 0x401c_0000_0000_0000 ∷ []), 7 ∷ [])
+    ≡ (refused_with Blank 0, vec (0x401c_0000_0000_0000 ∷ 0x401c_0000_0000_0000 ∷ 0x401c_0000_0000_0000 ∷ 0x401c_0000_0000_0000 ∷ []), 7 ∷ [])
 unfolding all
 refused_12 = refl
 
 -- 12 comes where there are no matrices.
 pub refused_12_matrices : copy_call 2 (vec (0x3ff0_0000_0000_0000 ∷ 0 ∷ [])) (vec ([])) (vec (0x401c_0000_0000_0000 ∷ 0x401c_0000_0000_0000 ∷ 0x401c_0000_0000_0000 ∷ 0x401c_0000_0000_0000 ∷ [])) (7 ∷ [])
-    ≡ (Refused Blank 0, vec (0x401c_0000_0000_0000 ∷ 0x401c_0000_0000_0000 ∷ 0x401c_0000_0000_0000 ∷ 0x401c_0000_0000_0000 ∷ []), 7 ∷ [])
+    ≡ (refused_with Blank 0, vec (0x401c_0000_0000_0000 ∷ 0x401c_0000_0000_0000 ∷ 0x401c_0000_0000_0000 ∷ 0x401c_0000_0000_0000 ∷ []), 7 ∷ [])
 unfolding all
 refused_12_matrices = refl
 
 -- 13 comes where there is room for one point and a half. The point that fitted is kept.
 pub refused_13_points : copy_call 2 (vec (0x3ff0_0000_0000_0000 ∷ 0x4000_0000_0000_0000 ∷ [])) (vec (0x3ff0_0000_0000_0000 ∷ 0 ∷ 0 ∷ 0x3ff0_0000_0000_0000 ∷ 0xbff0_0000_0000_0000 ∷ 0 ∷ 0 ∷ 0xbff0_0000_0000_0000 ∷ [])) (vec (0x401c_0000_0000_0000 ∷ 0x401c_0000_0000_0000 ∷ 0x401c_0000_0000_0000 ∷ [])) (7 ∷ 7 ∷ 7 ∷ 7 ∷ 7 ∷ 7 ∷ 7 ∷ 7 ∷ 7 ∷ [])
-    ≡ (Refused ShortSheet 1, vec (0x3ff0_0000_0000_0000 ∷ 0x4000_0000_0000_0000 ∷ 0x401c_0000_0000_0000 ∷ []), 7 ∷ 7 ∷ 7 ∷ 7 ∷ 7 ∷ 7 ∷ 7 ∷ 7 ∷ 7 ∷ [])
+    ≡ (refused_with ShortSheet 1, vec (0x3ff0_0000_0000_0000 ∷ 0x4000_0000_0000_0000 ∷ 0x401c_0000_0000_0000 ∷ []), 7 ∷ 7 ∷ 7 ∷ 7 ∷ 7 ∷ 7 ∷ 7 ∷ 7 ∷ 7 ∷ [])
 unfolding all
 refused_13_points = refl
 
 -- 13 comes where the points fit and the table does not.
 pub refused_13_table : copy_call 2 (vec (0x3ff0_0000_0000_0000 ∷ 0x4000_0000_0000_0000 ∷ [])) (vec (0x3ff0_0000_0000_0000 ∷ 0 ∷ 0 ∷ 0x3ff0_0000_0000_0000 ∷ 0xbff0_0000_0000_0000 ∷ 0 ∷ 0 ∷ 0xbff0_0000_0000_0000 ∷ [])) (vec (0x401c_0000_0000_0000 ∷ 0x401c_0000_0000_0000 ∷ 0x401c_0000_0000_0000 ∷ 0x401c_0000_0000_0000 ∷ 0x401c_0000_0000_0000 ∷ [])) (7 ∷ 7 ∷ 7 ∷ [])
-    ≡ (Refused ShortSheet 2, vec (0x3ff0_0000_0000_0000 ∷ 0x4000_0000_0000_0000 ∷ 0xbff0_0000_0000_0000 ∷ 0xc000_0000_0000_0000 ∷ 0x401c_0000_0000_0000 ∷ []), 7 ∷ 7 ∷ 7 ∷ [])
+    ≡ (refused_with ShortSheet 2, vec (0x3ff0_0000_0000_0000 ∷ 0x4000_0000_0000_0000 ∷ 0xbff0_0000_0000_0000 ∷ 0xc000_0000_0000_0000 ∷ 0x401c_0000_0000_0000 ∷ []), 7 ∷ 7 ∷ 7 ∷ [])
 unfolding all
 refused_13_table = refl
 
 -- 13 comes before 14.
 pub refused_13_before_14 : copy_call 2 (vec (0x3ff0_0000_0000_0000 ∷ 0 ∷ [])) (vec (0 ∷ 0xbff0_0000_0000_0000 ∷ 0x3ff0_0000_0000_0000 ∷ 0 ∷ [])) (vec (0x401c_0000_0000_0000 ∷ 0x401c_0000_0000_0000 ∷ 0x401c_0000_0000_0000 ∷ 0x401c_0000_0000_0000 ∷ [])) ([])
-    ≡ (Refused ShortSheet 1, vec (0 ∷ 0x3ff0_0000_0000_0000 ∷ 0x401c_0000_0000_0000 ∷ 0x401c_0000_0000_0000 ∷ []), [])
+    ≡ (refused_with ShortSheet 1, vec (0 ∷ 0x3ff0_0000_0000_0000 ∷ 0x401c_0000_0000_0000 ∷ 0x401c_0000_0000_0000 ∷ []), [])
 unfolding all
 refused_13_before_14 = refl
 
@@ -307,6 +306,6 @@ pub room_2048 : copy_call 1 (one_f ∷ []) (one_f ∷ []) (replicate 4096 zero_f
 unfolding most
 room_2048 = refl
 
-pub copies_2049 : (copy_out 2048 [] (replicate 2049 []) [] []).0 ≡ Refused ShortSheet 2048
+pub copies_2049 : (copy_out 2048 [] (replicate 2049 []) [] []).0 ≡ refused_with ShortSheet 2048
 unfolding all
 copies_2049 = refl

@@ -1,7 +1,6 @@
 -- This file has section 6: the search, its members, and their marks; and the preflight answers 8, 9, 10, 15 and 11.
 -- Assumes nothing.
-use Rattle.std.specs.Prelude.{ℕ, zero, suc, ◌-◌, Bool, true, false, ◌&&◌, List, [], ◌∷◌, map, length, get_or, set, leb, ltb, eqb}
-use Rattle.std.proofs.Math.Option.{Option, none, some}
+use Rattle.std.specs.Prelude.{ℕ, zero, suc, ◌-◌, Bool, true, false, ◌&&◌, List, [], ◌∷◌, map, length, get_or, set, leb, ltb, eqb, None, Ok, Option, Some}
 use Rattle.std.specs.Float.Ieee.{lt}
 use Rattle.spec.specs.declared.Refusal.TheVariants.{NotFull, DoubleCorner, Centred, Flat, Unsettled}
 use Rattle.spec.specs.Lists.{holds, eq_list, range, every, no_repeats}
@@ -10,7 +9,7 @@ use Rattle.spec.specs.Mark.{marked}
 use Rattle.spec.specs.Float.{eps, zero_f, finite}
 use Rattle.spec.specs.Matrix.{Matrix, columns, mul_mat, inverse, determinant}
 use Rattle.spec.specs.Points.{near, row_of}
-use Rattle.spec.specs.Judged.{Judged, ◌>>=◌, ◌>>◌, judge, passed, wanted}
+use Rattle.spec.specs.Judged.{Judged, ◌>>=◌, ◌>>◌, judge, wanted}
 use Rattle.spec.specs.Solid.{Concrete}
 use Rattle.spec.specs.Flags.{Flag, element_at, first_flag, flags, change}
 use Rattle.spec.specs.Classes.{point_of, distance_of, class_table, by_table, types_of}
@@ -19,8 +18,8 @@ use Rattle.spec.specs.Classes.{point_of, distance_of, class_table, by_table, typ
 
 -- This is the first of the facets fs "whose hull is further than EPS from the origin".
 unfoldable pub first_far : Concrete → List ℕ → Option ℕ
-first_far c [] = none
-first_far c (f ∷ fs) = elim (lt eps (distance_of c (top c.abs - 1) f)) [ true ↦ some f | false ↦ first_far c fs ]
+first_far c [] = None
+first_far c (f ∷ fs) = elim (lt eps (distance_of c (top c.abs - 1) f)) [ true ↦ Some f | false ↦ first_far c fs ]
 
 unfoldable pub swap_with_first : List (List ℕ) → ℕ → List (List ℕ)
 swap_with_first l f = set (set l f (get_or l 0 [])) 0 (get_or l f [])
@@ -99,13 +98,13 @@ unfoldable pub tested : Setting → Matrix → Option Member
 tested w m =
     let row = row_of w.searched.points m in
     elim (every (λ v. ltb v (length w.searched.points)) row && examples_go w.searched.abs w.types row)
-    [ true ↦ some (record { matrix = m; row = row; mark = mark_of w.read.abs (by_table w.classes) row }) | false ↦ none ]
+    [ true ↦ Some (record { matrix = m; row = row; mark = mark_of w.read.abs (by_table w.classes) row }) | false ↦ None ]
 
 -- These are the members of a list of flags: "Members come in flag order with matrix and row".
 unfoldable pub members_of : Setting → List Flag → List Member
 members_of w [] = []
 members_of w (F ∷ Fs) = elim (same_types w F) [
-  | true ↦ elim (tested w (candidate w F)) [ some m ↦ m ∷ members_of w Fs | none ↦ members_of w Fs ]
+  | true ↦ elim (tested w (candidate w F)) [ Some m ↦ m ∷ members_of w Fs | None ↦ members_of w Fs ]
   | false ↦ members_of w Fs
 ]
 
@@ -133,14 +132,14 @@ setting c = do
   judge NotFull (full c)
   judge DoubleCorner (no_repeats near c.points)
   f ← wanted Centred (first_far c (range 0 (size c.abs (top c.abs - 1))))
-  d ← passed (exchanged c f)
+  d ← Ok (exchanged c f)
   z ← wanted Unsettled (types_of d)
   i ← wanted Flat (inverse (flag_columns d (first_flag d.abs)))
   judge Flat (all_finite i)
-  passed (record { read = c; classes = class_table c; searched = d; types = z; inv = i })
+  Ok (record { read = c; classes = class_table c; searched = d; types = z; inv = i })
 
 -- These are the members of every flag that passes, in flag order.
 unfoldable pub search : Concrete → Judged (List Member)
 search c = do
   w ← setting c
-  passed (members_of w (flags w.searched.abs))
+  Ok (members_of w (flags w.searched.abs))

@@ -1,7 +1,7 @@
 -- This file has section 2's sheet and its limits, and the preflight answers 1 to 4: "Fields are judged as they come (wholeness, then 2, 3 or 4; a
 -- list's length counts as entries when it is read), then 1 for the end".
 -- Assumes nothing.
-use Rattle.std.specs.Prelude.{ℕ, zero, suc, ◌+◌, ◌-◌, ◌*◌, Bool, true, false, ◌&&◌, List, [], ◌∷◌, length, get_or, leb, ltb, eqb, Float}
+use Rattle.std.specs.Prelude.{ℕ, zero, suc, ◌+◌, ◌-◌, ◌*◌, Bool, true, false, ◌&&◌, List, [], ◌∷◌, length, get_or, leb, ltb, eqb, Float, Err, Ok}
 use Rattle.std.specs.Float.{binary64}
 use Rattle.std.specs.Float.Ieee.{of_bits}
 use Rattle.spec.specs.declared.Refusal.{Refusal}
@@ -9,7 +9,7 @@ use Rattle.spec.specs.declared.Refusal.TheVariants.{CutSheet, Format, OffTheBoar
 use Rattle.spec.specs.Limits.{max_rank, max_dimension, max_count, max_entries}
 use Rattle.spec.specs.Float.{in_range}
 use Rattle.spec.specs.Bits.{field}
-use Rattle.spec.specs.Judged.{Judged, refused, passed}
+use Rattle.spec.specs.Judged.{Judged}
 
 -- This is what a sheet says: R, D, the counts of ranks 1 to R - 1, each vertex's coordinates, and for ranks 2 to R - 1 each element's list.
 pub record Parsed : Type 0 where
@@ -27,17 +27,17 @@ Reader A = ℕ → Judged (A × ℕ)
 infixl 10 ◌>>=◌ ◌>>◌
 -- One reading is followed by another that may depend on the first one's value.
 unfoldable pub ◌>>=◌ : {A B : Type 0} → Reader A → (A → Reader B) → Reader B
-◌>>=◌ m k i = elim (m i) [ refused why ↦ refused why | passed x ↦ k x.0 x.1 ]
+◌>>=◌ m k i = elim (m i) [ Err why ↦ Err why | Ok x ↦ k x.0 x.1 ]
 
 unfoldable pub ◌>>◌ : {A B : Type 0} → Reader A → Reader B → Reader B
-◌>>◌ m k i = elim (m i) [ refused why ↦ refused why | passed x ↦ k x.1 ]
+◌>>◌ m k i = elim (m i) [ Err why ↦ Err why | Ok x ↦ k x.1 ]
 
 unfoldable pub done : {A : Type 0} → A → Reader A
-done a i = passed (a, i)
+done a i = Ok (a, i)
 
 -- The reading is refused, unless the test passes.
 unfoldable pub judge : Refusal → Bool → Reader (Unit {0})
-judge why ok i = elim ok [ true ↦ passed (tt, i) | false ↦ refused why ]
+judge why ok i = elim ok [ true ↦ Ok (tt, i) | false ↦ Err why ]
 
 -- The same reading is done n times.
 unfoldable pub times : {A : Type 0} → ℕ → Reader A → Reader (List A)
@@ -56,7 +56,7 @@ vertex_count R counts = get_or counts 0 R
 module _ (b : List ℕ) where
   -- Reads the next w bits. Refusal 1 comes where "a field isn't whole".
   unfoldable pub bits : ℕ → Reader ℕ
-  bits w i = elim (leb (i + w) (8 * length b)) [ true ↦ passed (field b i w, i + w) | false ↦ refused CutSheet ]
+  bits w i = elim (leb (i + w) (8 * length b)) [ true ↦ Ok (field b i w, i + w) | false ↦ Err CutSheet ]
 
   -- Reads the field "R, 3 bits", with the limit "R 0 to 5".
   unfoldable pub rank : Reader ℕ
@@ -139,4 +139,4 @@ module _ (b : List ℕ) where
     done (record { rank = R; dimension = D; counts = counts; points = points; lists = ls })
 
 unfoldable pub read_sheet : List ℕ → Judged Parsed
-read_sheet b = elim (sheet b 0) [ refused why ↦ refused why | passed x ↦ passed x.0 ]
+read_sheet b = elim (sheet b 0) [ Err why ↦ Err why | Ok x ↦ Ok x.0 ]

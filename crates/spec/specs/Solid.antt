@@ -1,10 +1,10 @@
 -- This file has section 2: the solid that a sheet says, and the preflight answers 7, 5 and 6.
 -- Assumes nothing.
-use Rattle.std.specs.Prelude.{ℕ, zero, suc, ◌+◌, ◌-◌, ◌*◌, Bool, ◌&&◌, List, [], ◌∷◌, ◌++◌, map, length, get_or, replicate, leb, ltb, eqb, Float}
+use Rattle.std.specs.Prelude.{ℕ, zero, suc, ◌+◌, ◌-◌, ◌*◌, Bool, ◌&&◌, List, [], ◌∷◌, ◌++◌, map, length, get_or, replicate, leb, ltb, eqb, Float, Ok}
 use Rattle.spec.specs.declared.Refusal.TheVariants.{Loose, Mitre, Bench}
 use Rattle.spec.specs.Lists.{holds, range, keep, sum, every}
 use Rattle.spec.specs.Types.{Solid, top, size, subs, sups, proper_ranks, elements}
-use Rattle.spec.specs.Judged.{Judged, ◌>>=◌, ◌>>◌, judge, passed}
+use Rattle.spec.specs.Judged.{Judged, ◌>>=◌, ◌>>◌, judge}
 use Rattle.spec.specs.Sheet.{Parsed, read_sheet}
 
 -- These are the lists of the proper ranks: "A vertex has the least element as sub", and ranks 2 to R - 1 have the sheet's lists.
@@ -60,8 +60,8 @@ pub record Concrete : Type 0 where
 unfoldable pub preflight : List ℕ → ℕ → ℕ → Judged Concrete
 preflight b words floats = do
   p ← read_sheet b
-  c ← passed (record { dimension = p.dimension; points = p.points; abs = solid_of p })
+  c ← Ok (record { dimension = p.dimension; points = p.points; abs = solid_of p })
   judge Bench (roomy c.abs words floats)
   judge Loose (bound c.abs)
   judge Mitre (diamond c.abs)
-  passed c
+  Ok c

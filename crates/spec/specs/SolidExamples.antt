@@ -1,7 +1,6 @@
 -- Solids as lists are evaluated with distance classes that are given by hand: the square, the prism over a triangle, and the two smallest solids.
 -- Assumes nothing.
-use Rattle.std.specs.Prelude.{◌≡◌, refl, true, false, [], ◌∷◌, get_or}
-use Rattle.std.proofs.Math.Option.{some}
+use Rattle.std.specs.Prelude.{◌≡◌, refl, true, false, [], ◌∷◌, get_or, Some}
 use Rattle.spec.specs.Lists.{distinct, renumber, count, holds, eq_list, range, keep, sum, without, place, join, every, no_repeats, in_order}
 use Rattle.spec.specs.Mark.{image, goes, carries_element, marked}
 use Rattle.spec.specs.Types.{reach, vertices, vertex_sets, Solid, Classes, subs, sups, proper_ranks, elements, type_count, start_at, start, key, keys, step, play, sweep_steps, sweep, settle, result, element_types_at, element_types}
@@ -18,7 +17,7 @@ square =
     ∷ ((0 ∷ 1 ∷ 2 ∷ 3 ∷ []) ∷ [])
     ∷ []
 
-pub square-types : result square alike ≡ some ((0 ∷ []) ∷ (0 ∷ 0 ∷ 0 ∷ 0 ∷ []) ∷ (0 ∷ 0 ∷ 0 ∷ 0 ∷ []) ∷ (0 ∷ []) ∷ [])
+pub square-types : result square alike ≡ Some ((0 ∷ []) ∷ (0 ∷ 0 ∷ 0 ∷ 0 ∷ []) ∷ (0 ∷ 0 ∷ 0 ∷ 0 ∷ []) ∷ (0 ∷ []) ∷ [])
 unfolding result settle sweep sweep_steps play step keys key start start_at type_count elements proper_ranks sups subs distinct renumber count holds eq_list range keep sum without place
 square-types = refl
 
@@ -46,7 +45,7 @@ prism =
     ∷ []
 
 pub prism-types : result prism alike
-    ≡ some ((0 ∷ [])
+    ≡ Some ((0 ∷ [])
     ∷ (0 ∷ 0 ∷ 0 ∷ 0 ∷ 0 ∷ 0 ∷ [])
     ∷ (0 ∷ 0 ∷ 0 ∷ 0 ∷ 0 ∷ 0 ∷ 1 ∷ 1 ∷ 1 ∷ [])
     ∷ (0 ∷ 0 ∷ 1 ∷ 1 ∷ 1 ∷ [])
@@ -85,11 +84,11 @@ point = ([] ∷ []) ∷ []
 abbrev pub dot : Solid
 dot = ([] ∷ []) ∷ ((0 ∷ []) ∷ []) ∷ []
 
-pub point-types : result point alike ≡ some ((0 ∷ []) ∷ [])
+pub point-types : result point alike ≡ Some ((0 ∷ []) ∷ [])
 unfolding result settle sweep sweep_steps play step keys key start start_at type_count elements proper_ranks sups subs distinct renumber count holds eq_list range keep sum without place
 point-types = refl
 
-pub dot-types : result dot alike ≡ some ((0 ∷ []) ∷ (0 ∷ []) ∷ [])
+pub dot-types : result dot alike ≡ Some ((0 ∷ []) ∷ (0 ∷ []) ∷ [])
 unfolding result settle sweep sweep_steps play step keys key start start_at type_count elements proper_ranks sups subs distinct renumber count holds eq_list range keep sum without place
 dot-types = refl
 
@@ -100,10 +99,10 @@ sides r e = get_or (get_or ([] ∷ [] ∷ (5 ∷ 9 ∷ 5 ∷ 9 ∷ []) ∷ []) r
 abbrev pub corners : Classes
 corners r e = get_or (get_or ([] ∷ (9 ∷ 5 ∷ 9 ∷ 5 ∷ []) ∷ []) r []) e 0
 
-pub rectangle_types : result square sides ≡ some ((0 ∷ []) ∷ (0 ∷ 0 ∷ 0 ∷ 0 ∷ []) ∷ (0 ∷ 1 ∷ 0 ∷ 1 ∷ []) ∷ (0 ∷ []) ∷ [])
+pub rectangle_types : result square sides ≡ Some ((0 ∷ []) ∷ (0 ∷ 0 ∷ 0 ∷ 0 ∷ []) ∷ (0 ∷ 1 ∷ 0 ∷ 1 ∷ []) ∷ (0 ∷ []) ∷ [])
 unfolding result settle sweep sweep_steps play step keys key start start_at type_count elements proper_ranks sups subs distinct renumber count holds eq_list range keep sum without place
 rectangle_types = refl
 
-pub rhombus-types : result square corners ≡ some ((0 ∷ []) ∷ (0 ∷ 1 ∷ 0 ∷ 1 ∷ []) ∷ (0 ∷ 0 ∷ 0 ∷ 0 ∷ []) ∷ (0 ∷ []) ∷ [])
+pub rhombus-types : result square corners ≡ Some ((0 ∷ []) ∷ (0 ∷ 1 ∷ 0 ∷ 1 ∷ []) ∷ (0 ∷ 0 ∷ 0 ∷ 0 ∷ []) ∷ (0 ∷ []) ∷ [])
 unfolding result settle sweep sweep_steps play step keys key start start_at type_count elements proper_ranks sups subs distinct renumber count holds eq_list range keep sum without place
 rhombus-types = refl

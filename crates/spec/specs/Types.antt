@@ -1,7 +1,6 @@
 -- This file has section 2's solids as plain lists, and section 4: the types of a solid's elements, by steps and sweeps.
 -- Assumes nothing.
-use Rattle.std.specs.Prelude.{◌≡◌, ℕ, zero, suc, pred, ◌+◌, ◌-◌, ◌<◌, Bool, true, false, ◌&&◌, List, [], ◌∷◌, ◌++◌, map, reverse, length, get_or, set, replicate, eqb, ltb}
-use Rattle.std.proofs.Math.Option.{Option, none, some}
+use Rattle.std.specs.Prelude.{◌≡◌, ℕ, zero, suc, pred, ◌+◌, ◌-◌, ◌<◌, Bool, true, false, ◌&&◌, List, [], ◌∷◌, ◌++◌, map, reverse, length, get_or, set, replicate, eqb, ltb, None, Option, Some}
 use Rattle.spec.specs.Lists.{distinct, place, renumber, count, holds, eq_list, range, keep, sum, join, in_order}
 
 -- ---- solids
@@ -145,10 +144,10 @@ sweep s S = play s S (sweep_steps s)
 -- "Sweeps end when one leaves the number of types unchanged." This is the state that such a sweep gives, or `none` where n sweeps are done before one
 -- does.
 unfoldable pub settle : Solid → ℕ → State → Option State
-settle s zero S = none
+settle s zero S = None
 settle s (suc n) S =
     let S' = sweep s S in
-    elim (eqb (type_count s S') (type_count s S)) [ true ↦ some S' | false ↦ settle s n S' ]
+    elim (eqb (type_count s S') (type_count s S)) [ true ↦ Some S' | false ↦ settle s n S' ]
 
 -- The first sweep is done before any is compared, because "the first never" ends them. `none` is refusal 15, "E + 2 sweeps done, still changing".
 unfoldable pub result : Solid → Classes → Option State

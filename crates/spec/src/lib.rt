@@ -2,8 +2,10 @@
 // The rest of this crate consists of definitions and of examples that evaluate them (specs/). The theorems about them are in crate `laws`.
 #![tactic(auto)]
 
-ghost use Rattle.std.specs.Prelude.{◌≡◌};
-ghost use Rattle.spec.specs.Refusal.{number};
+ghost use Rattle.std.specs.Prelude.{◌≡◌, Some, codes};
+ghost use Rattle.spec.specs.Refusal.{number, word};
+
+use std::fmt;
 
 // These are section 2's limits as the programs have them. specs/Limits.antt has them for the definitions.
 pub const MAX_RANK: usize = 5;
@@ -31,62 +33,81 @@ pub const MAX_WORDS: usize = 16 * (MAX_PROPER + MAX_STORED + 4);
 
 pub const MAX_FLOATS: usize = 8 * (MAX_PROPER + 8);
 
-// A refusal is named by its word in the table.
-#[derive(Clone, Copy)]
+// A refusal is named by its word in the table, and its number there is its discriminant.
+#[derive(Clone, Copy, Debug, PartialEq, Eq)]
 pub enum Refusal {
-    CutSheet,
-    Format,
-    OffTheBoard,
-    BadList,
-    Loose,
-    Mitre,
-    Bench,
-    NotFull,
-    DoubleCorner,
-    Centred,
-    Flat,
-    Blank,
-    ShortSheet,
-    Open,
-    Unsettled,
+    CutSheet = 1,
+    Format = 2,
+    OffTheBoard = 3,
+    BadList = 4,
+    Loose = 5,
+    Mitre = 6,
+    Bench = 7,
+    NotFull = 8,
+    DoubleCorner = 9,
+    Centred = 10,
+    Flat = 11,
+    Blank = 12,
+    ShortSheet = 13,
+    Open = 14,
+    Unsettled = 15,
 }
 
-// A judgement accepts what it judges, or it refuses it.
-#[derive(Clone, Copy)]
-pub enum Verdict {
-    Accepted,
-    Refused(Refusal),
+// A call is refused for a reason, and the number says how many members or points were kept.
+#[derive(Clone, Copy, Debug, PartialEq, Eq)]
+pub struct Refused {
+    pub why: Refusal,
+    pub kept: usize,
 }
 
-// Either the call is done, and the number says how many types, members or copies there are; or it is refused, and the number says how many
-// members or points were kept.
-#[derive(Clone, Copy)]
-pub enum Answer {
-    Done(usize),
-    Refused(Refusal, usize),
-}
+// Either the call is done, and the number says how many types, members or copies there are; or it is refused.
+pub type Answer = Result<usize, Refused>;
 
 impl Refusal {
     // Returns the refusal's number in the table.
     pub fn number(self) -> u32
         ensures { result ≡ number self }
     {
+        self as u32
+    }
+
+    // Returns the refusal's word in the table.
+    fn word(self) -> &'static str
+        ensures { result.now ≡ codes (word self) }
+    {
         match self {
-            Refusal::CutSheet => 1,
-            Refusal::Format => 2,
-            Refusal::OffTheBoard => 3,
-            Refusal::BadList => 4,
-            Refusal::Loose => 5,
-            Refusal::Mitre => 6,
-            Refusal::Bench => 7,
-            Refusal::NotFull => 8,
-            Refusal::DoubleCorner => 9,
-            Refusal::Centred => 10,
-            Refusal::Flat => 11,
-            Refusal::Blank => 12,
-            Refusal::ShortSheet => 13,
-            Refusal::Open => 14,
-            Refusal::Unsettled => 15,
+            Refusal::CutSheet => "cut sheet",
+            Refusal::Format => "format",
+            Refusal::OffTheBoard => "off the board",
+            Refusal::BadList => "bad list",
+            Refusal::Loose => "loose",
+            Refusal::Mitre => "mitre",
+            Refusal::Bench => "bench",
+            Refusal::NotFull => "not full",
+            Refusal::DoubleCorner => "double corner",
+            Refusal::Centred => "centred",
+            Refusal::Flat => "flat",
+            Refusal::Blank => "blank",
+            Refusal::ShortSheet => "short sheet",
+            Refusal::Open => "open",
+            Refusal::Unsettled => "unsettled",
         }
+    }
+}
+
+impl fmt::Display for Refusal {
+    ghost output = { λ why. Some (codes (word why)) };
+
+    fn fmt<W: fmt::Write>(&self, f: &mut fmt::Formatter<W>) -> fmt::Result {
+        f.write_str(self.word())
+    }
+}
+
+// A judgement that comes before anything is written keeps nothing.
+impl From<Refusal> for Refused {
+    ghost from_gives = { λ why r. r ≡ record { why = why; kept = 0 } };
+
+    fn from(why: Refusal) -> Refused {
+        Refused { why, kept: 0 }
     }
 }

@@ -1,9 +1,10 @@
 -- While flags are tried, the members listed so far stand in the outputs, and the next one goes to the part after those.
 -- Assumes nothing.
+use Rattle.std.specs.Prelude.{None, Option, Some}
 use mathlib.Core.Path.{◌≡◌, refl, sym, ap, ap₂, ◌∙◌, subst}
 use Prim.Native.Nat.{ℕ, suc, ◌+◌, ◌-◌, ◌*◌, ◌≤◌}
 use mathlib.Core.Bool.{Bool, true, false, not, ◌&&◌, ◌||◌}
-use mathlib.Core.Option.{Option, none, some, none-ne-some}
+use Rattle.laws.proofs.Options.{none-ne-some}
 use mathlib.Core.List.{List, [], ◌∷◌, ◌++◌}
 use native.Mathlib.Omega.{arith}
 use native.Mathlib.Numerals.{add-one}
@@ -110,24 +111,24 @@ module _ (w : Setting) (rot : Bool) (m : Room) (d v : ℕ) (shape : SettingFit d
     same_rows : q ≡ row_part → rows_then ≡ rs'
     same_rows k = rw k (put_same (n * v) (length rs' - n * v) rs')
 
-    member_shape : (x : Member) → gives w rot F ≡ some x → MemberShape d v x
+    member_shape : (x : Member) → gives w rot F ≡ Some x → MemberShape d v x
     unfolding gives listed_if
     member_shape x = go (same_types w F)
       where
-        listed : (b : Bool) (y : Member) → tested w (candidate w F) ≡ some y → elim b as (λ z. Option Member) [ true ↦ some y | false ↦ none ] ≡ some x → MemberShape d v x
+        listed : (b : Bool) (y : Member) → tested w (candidate w F) ≡ Some y → elim b as (λ z. Option Member) [ true ↦ Some y | false ↦ None ] ≡ Some x → MemberShape d v x
         listed true y k h = tested_shape d v w shape (candidate w F) (candidate_shape d v w shape F) x (k ∙ h)
         listed false y k h = absurd (none-ne-some x h)
 
-        passing : (o : Option Member) → tested w (candidate w F) ≡ o → listed_if rot o ≡ some x → MemberShape d v x
-        passing none k h = absurd (none-ne-some x h)
-        passing (some y) k h = listed (not rot || is_rotation y) y k h
+        passing : (o : Option Member) → tested w (candidate w F) ≡ o → listed_if rot o ≡ Some x → MemberShape d v x
+        passing None k h = absurd (none-ne-some x h)
+        passing (Some y) k h = listed (not rot || is_rotation y) y k h
 
-        go : (b : Bool) → elim b as (λ z. Option Member) [ true ↦ listed_if rot (tested w (candidate w F)) | false ↦ none ] ≡ some x → MemberShape d v x
+        go : (b : Bool) → elim b as (λ z. Option Member) [ true ↦ listed_if rot (tested w (candidate w F)) | false ↦ None ] ≡ Some x → MemberShape d v x
         go true h = passing (tested w (candidate w F)) refl h
         go false h = absurd (none-ne-some x h)
 
     -- There are three cases, of a member and of the room.
-    module _ (k : ◌≡◌ {A = Tried × List Float × List ℕ} (t, p, q) (tried none true matrix_part row_part)) (o : gives w rot F ≡ none) where
+    module _ (k : ◌≡◌ {A = Tried × List Float × List ℕ} (t, p, q) (tried None true matrix_part row_part)) (o : gives w rot F ≡ None) where
       skipped : Going w rot m d v Fs left ms matrices_then rs rows_then n
       unfolding tried same_matrices same_rows
       skipped = record {
@@ -139,8 +140,8 @@ module _ (w : Setting) (rot : Bool) (m : Room) (d v : ℕ) (shape : SettingFit d
         room = g.room;
       }
 
-    module _ (x : Member) (o : gives w rot F ≡ some x) where
-      module _ (h : have_room m d v (suc n) ≡ true) (k : ◌≡◌ {A = Tried × List Float × List ℕ} (t, p, q) (tried (some x) true matrix_part row_part)) where
+    module _ (x : Member) (o : gives w rot F ≡ Some x) where
+      module _ (h : have_room m d v (suc n) ≡ true) (k : ◌≡◌ {A = Tried × List Float × List ℕ} (t, p, q) (tried (Some x) true matrix_part row_part)) where
         joined : Going w rot m d v Fs left ms matrices_then rs rows_then (suc n)
         unfolding tried member_shape floats_in entries_in
         joined =
@@ -158,7 +159,7 @@ module _ (w : Setting) (rot : Bool) (m : Room) (d v : ℕ) (shape : SettingFit d
               room = fits-holds m d v (suc n) h;
             }
 
-      module _ (h : have_room m d v (suc n) ≡ false) (k : ◌≡◌ {A = Tried × List Float × List ℕ} (t, p, q) (tried (some x) false matrix_part row_part)) where
+      module _ (h : have_room m d v (suc n) ≡ false) (k : ◌≡◌ {A = Tried × List Float × List ℕ} (t, p, q) (tried (Some x) false matrix_part row_part)) where
         stopped : (fitting m d v 0 (members_given w rot Fs) ≡ g.done) × (ltb n (length (members_given w rot Fs)) ≡ true) × (matrices_then ≡ ms') × (rows_then ≡ rs')
         unfolding tried same_matrices same_rows
         stopped =
@@ -171,12 +172,12 @@ module _ (w : Setting) (rot : Bool) (m : Room) (d v : ℕ) (shape : SettingFit d
       where
         go : (o : Option Member) (b : Bool) → gives w rot F ≡ o → have_room m d v (suc n) ≡ b
             → ◌≡◌ {A = Tried × List Float × List ℕ} (t, p, q) (tried (gives w rot F) (have_room m d v (suc n)) matrix_part row_part) → Then t
-        go none b o h k =
+        go None b o h k =
             let k' = rw o at k in
             subst Then (sym (ap (λ (u : Tried × List Float × List ℕ). u.0) k')) (skipped k' o)
-        go (some x) true o h k =
+        go (Some x) true o h k =
             let k' = rw (o, h) at k in
             subst Then (sym (ap (λ (u : Tried × List Float × List ℕ). u.0) k')) (joined x o h k')
-        go (some x) false o h k =
+        go (Some x) false o h k =
             let k' = rw (o, h) at k in
             subst Then (sym (ap (λ (u : Tried × List Float × List ℕ). u.0) k')) (stopped x o h k')

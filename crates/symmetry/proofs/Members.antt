@@ -1,7 +1,8 @@
 -- In the loop over the flags, this is what stands before each flag, and what trying it makes of that.
 -- Assumes nothing.
+use Rattle.std.specs.Prelude.{Ok, Err}
 use mathlib.Core.Path.{◌≡◌, refl, sym, subst, ◌∙◌}
-use mathlib.Core.Bool.{Bool, true, false}
+use mathlib.Core.Bool.{Bool}
 use mathlib.Core.List.{List, [], ◌∷◌}
 use Prim.Native.Nat.{ℕ, ◌+◌, ◌-◌, ◌*◌, ◌≤◌}
 use native.Mathlib.Numerals.{add-one}
@@ -45,7 +46,7 @@ module _ (sh : Shape) (ws : List ℕ) (fs : List Float) (inverse : List (List Fl
   tally_first c = going_first (setting_in sh ws fs inverse c) rot (room_for ms rs room) d v Fs ms rs
 
   module _ (ms' : List Float) (rs' : List ℕ) (n : ℕ) where
-    pub tally_end : Tally sh ws fs inverse rot room v ms ms' rs rs' n [] → SolidListed sh ws fs inverse rot room (record { count = n; short = false }) ms ms' rs rs'
+    pub tally_end : Tally sh ws fs inverse rot room v ms ms' rs rs' n [] → SolidListed sh ws fs inverse rot room (Ok n) ms ms' rs rs'
     tally_end g c = all_listed (setting_in sh ws fs inverse c) rot (room_for ms rs room) d v (shape c) Fs ms ms' rs rs' n (g c)
 
     module _ (F : Flag) (left : List Flag) (g : Tally sh ws fs inverse rot room v ms ms' rs rs' n (F ∷ left)) where
@@ -89,7 +90,7 @@ module _ (sh : Shape) (ws : List ℕ) (fs : List Float) (inverse : List (List Fl
         unfolding Then
         tally_added r c = rw (add-one n) (came c Added r)
 
-        pub tally_short : t ≡ Short → SolidListed sh ws fs inverse rot room (record { count = n; short = true }) ms matrices_then rs rows_then
+        pub tally_short : t ≡ Short → SolidListed sh ws fs inverse rot room (Err (record { 0 = n })) ms matrices_then rs rows_then
         unfolding Then
         tally_short r c =
             let z = came c Short r in

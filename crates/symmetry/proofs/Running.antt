@@ -1,9 +1,9 @@
 -- The members are listed one flag after another, and this file says what each flag adds, and what stands at the end.
 -- Assumes nothing.
+use Rattle.std.specs.Prelude.{None, Ok, Option, Some}
 use mathlib.Core.Path.{◌≡◌, refl, sym, ap, ◌∙◌}
 use Prim.Native.Nat.{ℕ, zero, suc, ◌+◌, ◌*◌, ◌≤◌}
 use mathlib.Core.Bool.{Bool, true, false, not, ◌||◌}
-use mathlib.Core.Option.{Option, none, some}
 use mathlib.Core.List.{List, [], ◌∷◌, ◌++◌, map, append_assoc, append-nil, map-append}
 use native.Mathlib.Omega.{arith}
 use lib.ListN.{length, length-append}
@@ -12,12 +12,12 @@ use native.Mathlib.Nat.{zero-mul}
 use lib.Dec.{ltb}
 use borrow.Author.Tests.{lt-ltb, ltb-false}
 use Rattle.preflight.proofs.store.Listing.{join-append}
+use Rattle.spec.specs.Refusal.{refused_with}
 use Rattle.spec.specs.Lists.{join}
 use Rattle.spec.specs.declared.Refusal.TheVariants.{ShortSheet}
-use Rattle.spec.specs.declared.Answer.TheVariants.{Done, Refused}
 use Rattle.spec.specs.Flags.{Flag, flags}
 use Rattle.spec.specs.Search.{Member, Setting, candidate, same_types, tested, members_of, is_rotation, rotations_of}
-use Rattle.spec.specs.Judged.{passed, ◌>>=◌}
+use Rattle.spec.specs.Judged.{◌>>=◌}
 use Rattle.spec.specs.Solid.{Concrete}
 use Rattle.spec.specs.Calls.{Room, have_room, fitting, Outcome, kept_of, outcome, SearchOut, room_of, search_written}
 use Rattle.symmetry.specs.Tails.{wanted_of, listed, call_from}
@@ -25,8 +25,8 @@ use Rattle.symmetry.specs.Listing.{listed_if, gives, members_given, matrix_cells
 
 -- Puts a member, where there is one, before the others.
 unfoldable pub before : Option Member → List Member → List Member
-before none ms = ms
-before (some x) ms = x ∷ ms
+before None ms = ms
+before (Some x) ms = x ∷ ms
 
 -- One flag more gives its member, where it gives one.
 pub members-next : (w : Setting) (rot : Bool) (F : Flag) (Fs : List Flag) → members_given w rot (F ∷ Fs) ≡ before (gives w rot F) (members_given w rot Fs)
@@ -34,17 +34,17 @@ unfolding members_given gives members_of rotations_of wanted_of listed_if before
 members-next w rot F Fs = go rot (same_types w F) (tested w (candidate w F))
   where
     rotates : (b : Bool) (x : Member) → elim b as (λ z. List Member) [ true ↦ x ∷ rotations_of (members_of w Fs) | false ↦ rotations_of (members_of w Fs) ]
-        ≡ before (elim (not true || b) as (λ z. Option Member) [ true ↦ some x | false ↦ none ]) (rotations_of (members_of w Fs))
+        ≡ before (elim (not true || b) as (λ z. Option Member) [ true ↦ Some x | false ↦ None ]) (rotations_of (members_of w Fs))
     rotates true x = refl
     rotates false x = refl
 
     go : (rot b : Bool) (o : Option Member) →
-        wanted_of rot (elim b as (λ z. List Member) [ true ↦ elim o as (λ z. List Member) [ some m ↦ m ∷ members_of w Fs | none ↦ members_of w Fs ] | false ↦ members_of w Fs ])
-        ≡ before (elim b as (λ z. Option Member) [ true ↦ listed_if rot o | false ↦ none ]) (wanted_of rot (members_of w Fs))
+        wanted_of rot (elim b as (λ z. List Member) [ true ↦ elim o as (λ z. List Member) [ Some m ↦ m ∷ members_of w Fs | None ↦ members_of w Fs ] | false ↦ members_of w Fs ])
+        ≡ before (elim b as (λ z. Option Member) [ true ↦ listed_if rot o | false ↦ None ]) (wanted_of rot (members_of w Fs))
     go rot false o = refl
-    go rot true none = refl
-    go false true (some x) = refl
-    go true true (some x) = rotates (is_rotation x) x
+    go rot true None = refl
+    go false true (Some x) = refl
+    go true true (Some x) = rotates (is_rotation x) x
 
 -- The cells of one member more stand behind those before.
 cells-one : {A : Type 0} (f : Member → List A) (done : List Member) (x : Member) → join (map f (done ++ x ∷ [])) ≡ join (map f done) ++ f x
@@ -75,13 +75,13 @@ module _ (w : Setting) (rot : Bool) (m : Room) (d v : ℕ) (Fs : List Flag) wher
 
   module _ (F : Flag) (rest : List Flag) (done : List Member) (i : Running w rot m d v Fs (F ∷ rest) done) where
     -- The flag gives no member.
-    pub running_none : gives w rot F ≡ none → Running w rot m d v Fs rest done
+    pub running_none : gives w rot F ≡ None → Running w rot m d v Fs rest done
     unfolding before
     running_none e =
         let q : members_given w rot (F ∷ rest) ≡ members_given w rot rest = members-next w rot F rest ∙ ap (λ o. before o (members_given w rot rest)) e in
         record { kept = rw q at i.kept; all = rw q at i.all; floats = i.floats; entries = i.entries }
 
-    module _ (x : Member) (e : gives w rot F ≡ some x) where
+    module _ (x : Member) (e : gives w rot F ≡ Some x) where
       coming : members_given w rot (F ∷ rest) ≡ x ∷ members_given w rot rest
       unfolding before
       coming = members-next w rot F rest ∙ ap (λ o. before o (members_given w rot rest)) e
@@ -143,7 +143,7 @@ written-kept old [] (y ∷ kept) short h e = absurd (omega (arith, h))
 written-kept old (x ∷ ms) kept short h e = rw e (go (length kept) (ltb (length kept) (suc (length ms))) refl refl)
   where
     go : (n : ℕ) (b : Bool) → length kept ≡ n → ltb n (suc (length ms)) ≡ b
-        → search_written (elim b as (λ z. Outcome) [ true ↦ record { answer = Refused ShortSheet (length kept); members = kept } | false ↦ record { answer = Done (length kept); members = kept } ]) old
+        → search_written (elim b as (λ z. Outcome) [ true ↦ record { answer = refused_with ShortSheet (length kept); members = kept } | false ↦ record { answer = Ok (length kept); members = kept } ]) old
         ≡ (answer_of b (length kept), outs_of kept old)
     go n true q t = refl
     go zero false q t = let z = ltb-false 0 (suc (length ms)) t in absurd (omega (arith, z))
@@ -152,7 +152,7 @@ written-kept old (x ∷ ms) kept short h e = rw e (go (length kept) (ltb (length
 -- This is what a call gives once its members are listed.
 pub listed-call : (w : Setting) (rot : Bool) (c : Concrete) (old : SearchOut) (short : Bool) → c.dimension ≡ w.searched.dimension → c.points ≡ w.searched.points
     → short ≡ ltb (length (kept_in w rot (room_of old) (flags w.searched.abs))) (length (members_given w rot (flags w.searched.abs)))
-    → call_from rot c (passed w) old ≡ (answer_of short (length (kept_in w rot (room_of old) (flags w.searched.abs))), outs_of (kept_in w rot (room_of old) (flags w.searched.abs)) old)
+    → call_from rot c (Ok w) old ≡ (answer_of short (length (kept_in w rot (room_of old) (flags w.searched.abs))), outs_of (kept_in w rot (room_of old) (flags w.searched.abs)) old)
 unfolding call_from listed outcome ◌>>=◌ kept_in members_given
 listed-call w rot c old short d p e =
     let ms = members_given w rot (flags w.searched.abs) in

@@ -1,9 +1,9 @@
 -- This file says what trying a candidate comes to, and what trying a flag does.
 -- Assumes nothing.
+use Rattle.std.specs.Prelude.{None, Option, Some}
 use mathlib.Core.Path.{◌≡◌, refl, sym, ap, subst, ◌∙◌}
 use mathlib.Core.Logic.{◌⊎◌, inl, inr}
 use mathlib.Core.Bool.{Bool, true, false, not, ◌&&◌, ◌||◌}
-use mathlib.Core.Option.{Option, none, some}
 use mathlib.Core.List.{List, map}
 use Prim.Native.Nat.{ℕ, suc, ◌*◌, ◌≤◌}
 use lib.ListN.{length}
@@ -32,11 +32,11 @@ use Rattle.symmetry.specs.Listing.{listed_if, gives, tried, fits, Came}
 use Rattle.symmetry.specs.Searching.{Searching, passing}
 
 module _ (d v k : ℕ) (o : Option Member) (ms : List Float) (rs : List ℕ) where
-  came_none : o ≡ none → Came d v k o Skipped ms ms rs rs
+  came_none : o ≡ None → Came d v k o Skipped ms ms rs rs
   unfolding tried
   came_none e = rw e refl
 
-  module _ (x : Member) (e : o ≡ some x) where
+  module _ (x : Member) (e : o ≡ Some x) where
     came_short : fits d v (length ms) (length rs) k ≡ false → Came d v k o Short ms ms rs rs
     unfolding tried
     came_short h = rw (e, h) refl
@@ -59,9 +59,9 @@ module _ (D : Concrete) (z : State) (m : Matrix) (rot : Bool) (d v k : ℕ) (ms 
   abbrev member : Member
   member = record { matrix = m; row = row_of D.points m; mark = mark_of c.abs (by_table (class_table c)) (row_of D.points m) }
 
-  tested_is : (b : Bool) → b ≡ passing D z m → tested (setting_of c D z i) m ≡ elim b as (λ t. Option Member) [ true ↦ some member | false ↦ none ]
+  tested_is : (b : Bool) → b ≡ passing D z m → tested (setting_of c D z i) m ≡ elim b as (λ t. Option Member) [ true ↦ Some member | false ↦ None ]
   unfolding tested passing setting_of
-  tested_is b e = ap (λ t. elim t as (λ u. Option Member) [ true ↦ some member | false ↦ none ]) (sym e)
+  tested_is b e = ap (λ t. elim t as (λ u. Option Member) [ true ↦ Some member | false ↦ None ]) (sym e)
 
   -- The candidate does not pass.
   pub candidate_not : false ≡ passing D z m → Came d v k (listed_if rot (tested (setting_of c D z i) m)) Skipped ms ms rs rs
@@ -73,20 +73,20 @@ module _ (D : Concrete) (z : State) (m : Matrix) (rot : Bool) (d v k : ℕ) (ms 
   unfolding listed_if is_rotation
   candidate-turned r e = came_none d v k _ ms rs (go (passing D z m) refl)
     where
-      turned : (b t : Bool) → b ≡ true → t ≡ false → ◌≡◌ {A = Option Member} (elim (not b || t) as (λ u. Option Member) [ true ↦ some member | false ↦ none ]) none
+      turned : (b t : Bool) → b ≡ true → t ≡ false → ◌≡◌ {A = Option Member} (elim (not b || t) as (λ u. Option Member) [ true ↦ Some member | false ↦ None ]) None
       turned b t p q = rw (p, q) refl
 
-      go : (b : Bool) → passing D z m ≡ b → listed_if rot (tested (setting_of c D z i) m) ≡ none
+      go : (b : Bool) → passing D z m ≡ b → listed_if rot (tested (setting_of c D z i) m) ≡ None
       go true p = ap (listed_if rot) (tested_is true (sym p)) ∙ turned rot (lt zero_f (determinant m)) r e
       go false p = ap (listed_if rot) (tested_is false (sym p))
 
   module _ (yes : true ≡ passing D z m) where
     module _ (wanted : (rot ≡ false) ⊎ (lt zero_f (determinant m) ≡ true)) where
-      listed : listed_if rot (tested (setting_of c D z i) m) ≡ some member
+      listed : listed_if rot (tested (setting_of c D z i) m) ≡ Some member
       unfolding listed_if is_rotation
       listed = ap (listed_if rot) (tested_is true yes) ∙ go rot wanted
         where
-          go : (b : Bool) → (b ≡ false) ⊎ (lt zero_f (determinant m) ≡ true) → elim (not b || lt zero_f (determinant m)) as (λ t. Option Member) [ true ↦ some member | false ↦ none ] ≡ some member
+          go : (b : Bool) → (b ≡ false) ⊎ (lt zero_f (determinant m) ≡ true) → elim (not b || lt zero_f (determinant m)) as (λ t. Option Member) [ true ↦ Some member | false ↦ None ] ≡ Some member
           go b (inl e) = rw e refl
           go true (inr e) = rw e refl
           go false (inr e) = refl
@@ -118,7 +118,7 @@ module _ (D : Concrete) (R : ℕ) (ranks : length D.abs ≡ suc R) (z : State) (
   types_are = rw (ranks, first) refl
 
   abbrev by : Matrix → Bool → Option Member
-  by m b = elim b [ true ↦ listed_if rot (tested (setting_of c D z i) m) | false ↦ none ]
+  by m b = elim b [ true ↦ listed_if rot (tested (setting_of c D z i) m) | false ↦ None ]
 
   pub flag_not : false ≡ types_agree z R F G → Came d v k (gives (setting_of c D z i) rot F) Skipped ms ms rs rs
   unfolding gives

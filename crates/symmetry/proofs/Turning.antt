@@ -1,5 +1,6 @@
 -- A loop over the flags knows what stands of the flags that are to come, and how many they are.
 -- Assumes nothing.
+use Rattle.std.specs.Prelude.{Option, None, Some}
 use mathlib.Core.Path.{◌≡◌, refl, sym, ap, subst, ◌∙◌}
 use mathlib.Core.Bool.{Bool, true, false}
 use mathlib.Core.List.{List, [], ◌∷◌}
@@ -60,18 +61,18 @@ module _ (sh : Shape) (w : List ℕ) (h : Held sh w) (P : List Flag → Type 0) 
       place-first G (flags s) i n.low n.is
       (λ j k e. let q = (every_flag_once s h.sound).once j i (omega (arith, k, n.low)) n.low (sym e ∙ n.is) in omega (arith, q, k))
 
-  module _ (more : Bool) (G : Flag) (f : Follows s F more G) where
-    -- There is more, and G is the flag after F.
-    pub flags-next : more ≡ true → (Q : List Flag → Type 0) → Q later → FlagsFrom s G Q
-    flags-next e Q q = record { from = suc t.from; flag = nth_next sh w h F more G f t.from t.flag e; stands = q }
+  module _ (after : Option Flag) (f : Follows s F after) where
+    -- The flag after F is G.
+    pub flags-next : (G : Flag) → after ≡ Some G → (Q : List Flag → Type 0) → Q later → FlagsFrom s G Q
+    flags-next G e Q q = record { from = suc t.from; flag = nth_next sh w h F after f t.from t.flag G e; stands = q }
 
-    pub fewer : more ≡ true → to_come s G < to_come s F
+    pub fewer : (G : Flag) → after ≡ Some G → to_come s G < to_come s F
     unfolding to_come place_is
-    fewer e =
+    fewer G e =
         let n = t.flag in
-        let m = nth_next sh w h F more G f t.from n e in
+        let m = nth_next sh w h F after f t.from n G e in
         omega (arith, place_is F t.from n, place_is G (suc t.from) m, m.low)
 
     -- The last flag is F.
-    pub flags-end : more ≡ false → (Q : List Flag → Type 0) → Q later → Q []
-    flags-end e Q q = subst Q (drop_of_length-le (flags s) {i = suc t.from} (omega (arith, nth_last sh w h F more G f t.from t.flag e))) q
+    pub flags-end : after ≡ None → (Q : List Flag → Type 0) → Q later → Q []
+    flags-end e Q q = subst Q (drop_of_length-le (flags s) {i = suc t.from} (omega (arith, nth_last sh w h F after f t.from t.flag e))) q

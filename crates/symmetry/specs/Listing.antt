@@ -1,27 +1,26 @@
 -- A search writes out members, one flag after another.
 -- Assumes nothing.
-use Rattle.std.specs.Prelude.{◌≡◌, ℕ, zero, suc, ◌+◌, ◌*◌, Bool, true, false, not, ◌&&◌, ◌||◌, List, ◌++◌, map, length, leb, ltb, Float}
-use Rattle.std.proofs.Math.Option.{Option, none, some}
+use Rattle.std.specs.Prelude.{◌≡◌, ℕ, zero, suc, ◌+◌, ◌*◌, Bool, true, false, not, ◌&&◌, ◌||◌, List, ◌++◌, map, length, leb, ltb, Float, None, Option, Some, Result, Ok, Err}
+use Rattle.std.specs.Result.{is_err}
 use Rattle.spec.specs.declared.Refusal.TheVariants.{Blank, ShortSheet}
-use Rattle.spec.specs.declared.Answer.{Answer}
-use Rattle.spec.specs.declared.Answer.TheVariants.{Done, Refused}
+use Rattle.spec.specs.Refusal.{Answer, refused_with}
 use Rattle.spec.specs.Lists.{join, written}
 use Rattle.spec.specs.Flags.{Flag}
 use Rattle.spec.specs.Search.{Member, Setting, candidate, same_types, tested, members_of, is_rotation}
 use Rattle.spec.specs.Calls.{Room, fitting, SearchOut}
 use Rattle.symmetry.specs.declared.listing.Tried.{Tried}
 use Rattle.symmetry.specs.declared.listing.Tried.TheVariants.{Skipped, Added, Short}
-use Rattle.symmetry.specs.declared.listing.Members.{Members}
+use Rattle.symmetry.specs.declared.listing.NoRoom.{NoRoom}
 use Rattle.symmetry.specs.Tails.{wanted_of}
 
 -- Gives the member, if the call lists it: a search lists any member, and a rotations call only a rotation.
 unfoldable pub listed_if : Bool → Option Member → Option Member
-listed_if rot none = none
-listed_if rot (some x) = elim (not rot || is_rotation x) [ true ↦ some x | false ↦ none ]
+listed_if rot None = None
+listed_if rot (Some x) = elim (not rot || is_rotation x) [ true ↦ Some x | false ↦ None ]
 
 -- Gives the member that a flag gives, if it is listed.
 unfoldable pub gives : Setting → Bool → Flag → Option Member
-gives w rot F = elim (same_types w F) [ true ↦ listed_if rot (tested w (candidate w F)) | false ↦ none ]
+gives w rot F = elim (same_types w F) [ true ↦ listed_if rot (tested w (candidate w F)) | false ↦ None ]
 
 -- Lists the listed members that some flags give.
 unfoldable pub members_given : Setting → Bool → List Flag → List Member
@@ -46,9 +45,9 @@ pub record Running (w : Setting) (rot : Bool) (m : Room) (d v : ℕ) (Fs rest : 
 
 -- Says what trying a flag comes to: it gives no listed member, its member is written, or there is no room for its member.
 unfoldable pub tried : Option Member → Bool → List Float → List ℕ → Tried × List Float × List ℕ
-tried none room ms rs = (Skipped, ms, rs)
-tried (some x) true ms rs = (Added, written (join x.matrix) ms, written x.row rs)
-tried (some x) false ms rs = (Short, ms, rs)
+tried None room ms rs = (Skipped, ms, rs)
+tried (Some x) true ms rs = (Added, written (join x.matrix) ms, written x.row rs)
+tried (Some x) false ms rs = (Short, ms, rs)
 
 -- Tells whether a member of d * d floats and v row entries fits into what is left of the outputs, with k marks left.
 unfoldable pub fits : ℕ → ℕ → ℕ → ℕ → ℕ → Bool
@@ -65,18 +64,23 @@ Came d v k o t ms ms' rs rs' = ◌≡◌ {A = Tried × List Float × List ℕ} (
 unfoldable pub kept_in : Setting → Bool → Room → List Flag → List Member
 kept_in w rot m Fs = fitting m w.searched.dimension (length w.searched.points) 0 (members_given w rot Fs)
 
+-- Gives the number of members that are listed, which is told also where one more had no room.
+abbrev pub number_of : Result ℕ NoRoom → ℕ
+number_of (Ok n) = n
+number_of (Err e) = e.0
+
 -- The members of the flags Fs are listed. This says how many, whether one more had no room, and what the outputs are before and after.
-pub record MembersListed (w : Setting) (rot : Bool) (m : Room) (Fs : List Flag) (r : Members) (ms ms' : List Float) (rs rs' : List ℕ) : Type 0 where
-  pub count : r.count ≡ length (kept_in w rot m Fs)
-  pub short : r.short ≡ ltb (length (kept_in w rot m Fs)) (length (members_given w rot Fs))
+pub record MembersListed (w : Setting) (rot : Bool) (m : Room) (Fs : List Flag) (r : Result ℕ NoRoom) (ms ms' : List Float) (rs rs' : List ℕ) : Type 0 where
+  pub count : number_of r ≡ length (kept_in w rot m Fs)
+  pub short : is_err r ≡ ltb (length (kept_in w rot m Fs)) (length (members_given w rot Fs))
   pub matrices : ms' ≡ written (matrix_cells (kept_in w rot m Fs)) ms
   pub rows : rs' ≡ written (row_cells (kept_in w rot m Fs)) rs
 
 -- The answer "then 12 or 13" is decided by whether one more member had no room, and by how many are listed.
 unfoldable pub answer_of : Bool → ℕ → Answer
-answer_of true n = Refused ShortSheet n
-answer_of false zero = Refused Blank 0
-answer_of false (suc n) = Done (suc n)
+answer_of true n = refused_with ShortSheet n
+answer_of false zero = refused_with Blank 0
+answer_of false (suc n) = Ok (suc n)
 
 -- Gives the outputs with some members written to them.
 unfoldable pub outs_of : List Member → SearchOut → SearchOut

@@ -1,6 +1,6 @@
 -- While flags are tried, the workspace holds the solid searched, its types, and the fingerprints of its vertex sets.
 -- Assumes nothing.
-use Rattle.std.specs.Prelude.{◌≡◌, ℕ, ◌≤◌, Bool, true, ◌&&◌, List, length, ltb, Float}
+use Rattle.std.specs.Prelude.{◌≡◌, ℕ, ◌≤◌, Bool, true, ◌&&◌, List, length, ltb, Float, Result}
 use Rattle.spec.specs.Lists.{every, no_repeats}
 use Rattle.spec.specs.Types.{State}
 use Rattle.spec.specs.Matrix.{Matrix}
@@ -19,7 +19,7 @@ use Rattle.flag.specs.Reading.{flag_in}
 use Rattle.symmetry.specs.Fingerprints.{Fingerprinted}
 use Rattle.symmetry.specs.declared.listing.Tried.{Tried}
 use Rattle.symmetry.specs.declared.listing.Trial.{Trial}
-use Rattle.symmetry.specs.declared.listing.Members.{Members}
+use Rattle.symmetry.specs.declared.listing.NoRoom.{NoRoom}
 use Rattle.symmetry.specs.Tails.{setting_of}
 use Rattle.symmetry.specs.Listing.{listed_if, gives, Came, MembersListed}
 
@@ -59,13 +59,13 @@ CandidateTried x words floats m t ms ms' rs rs' =
     (listed_if x.rotations (tested (setting_of c (solid_in sh words floats) (state_in sh words) i) (corner sh.dimension m))) t ms ms' rs rs'
 
 -- Trying the flag of a trial came to t.
-abbrev pub FlagTried : Trial → List ℕ → List Float → List (List Float) → Tried → List Float → List Float → List ℕ → List ℕ → Type 0
-FlagTried x words floats inverse t ms ms' rs rs' =
+abbrev pub FlagTried : Trial → List ℕ → List Float → Tried → List Float → List Float → List ℕ → List ℕ → Type 0
+FlagTried x words floats t ms ms' rs rs' =
     let sh = x.shape in
     (c : Concrete) → Came sh.dimension (size_at sh 1) x.left
-    (gives (setting_in sh words floats inverse c) x.rotations (flag_in sh.rank x.flag)) t ms ms' rs rs'
+    (gives (setting_in sh words floats x.inverse c) x.rotations (flag_in sh.rank x.flag)) t ms ms' rs rs'
 
 -- The members that the flags of the solid in the workspace give are listed, where there are so many marks.
-abbrev pub SolidListed : Shape → List ℕ → List Float → List (List Float) → Bool → ℕ → Members → List Float → List Float → List ℕ → List ℕ → Type 0
+abbrev pub SolidListed : Shape → List ℕ → List Float → List (List Float) → Bool → ℕ → Result ℕ NoRoom → List Float → List Float → List ℕ → List ℕ → Type 0
 SolidListed sh words floats inverse rotations marks r ms ms' rs rs' =
     (c : Concrete) → MembersListed (setting_in sh words floats inverse c) rotations (room_for ms rs marks) (flags (abstract_in sh words)) r ms ms' rs rs'

@@ -1,14 +1,14 @@
 -- Section 6's search is a chain of judgements: `spec`'s `setting` is cut into the tails that the program goes through, and what a call gives from
 -- each.
 -- Assumes nothing.
-use Rattle.std.specs.Prelude.{ℕ, ◌-◌, Bool, true, false, List, Float}
+use Rattle.std.specs.Prelude.{ℕ, ◌-◌, Bool, true, false, List, Float, Ok}
 use Rattle.spec.specs.declared.Refusal.TheVariants.{DoubleCorner, Centred, Flat, Unsettled}
-use Rattle.spec.specs.declared.Answer.{Answer}
+use Rattle.spec.specs.Refusal.{Answer}
 use Rattle.spec.specs.Lists.{range, no_repeats}
 use Rattle.spec.specs.Types.{top, size, State}
 use Rattle.spec.specs.Matrix.{Matrix, inverse}
 use Rattle.spec.specs.Points.{near}
-use Rattle.spec.specs.Judged.{Judged, passed, ◌>>=◌, ◌>>◌, judge, wanted}
+use Rattle.spec.specs.Judged.{Judged, ◌>>=◌, ◌>>◌, judge, wanted}
 use Rattle.spec.specs.Solid.{Concrete}
 use Rattle.spec.specs.Flags.{first_flag, flags}
 use Rattle.spec.specs.Classes.{class_table, types_of}
@@ -29,7 +29,7 @@ unfoldable pub from11 : Concrete → Concrete → State → Judged Setting
 from11 c d z = do
   i ← wanted Flat (inverse (flag_columns d (first_flag d.abs)))
   judge Flat (all_finite i)
-  passed (setting_of c d z i)
+  Ok (setting_of c d z i)
 
 -- These are the judgements from 15 on.
 unfoldable pub from15 : Concrete → Concrete → Judged Setting
@@ -53,7 +53,7 @@ from9 c = do
 unfoldable pub listed : Bool → Concrete → Judged Setting → Judged (Concrete × List Member)
 listed rot c j = do
   w ← j
-  passed (c, wanted_of rot (members_of w (flags w.searched.abs)))
+  Ok (c, wanted_of rot (members_of w (flags w.searched.abs)))
 
 -- Gives the answer and outputs of a call, from one of these tails of the judgements on.
 unfoldable pub call_from : Bool → Concrete → Judged Setting → SearchOut → Answer × SearchOut

@@ -17,32 +17,17 @@ ghost use Rattle.flag.specs.Reading.{flag_in};
 ghost use Rattle.symmetry.specs.Post.{Turned, types_agree};
 
 use flag::Flag;
-use float::{DIMENSION, tolerance};
-use points::Found;
+use float::DIMENSION;
+use points::{find, loaded};
 use ranked::Shape;
 use ranked::lists::get;
-
-// Tells whether a float is neither an infinity nor a NaN.
-fn is_finite(x: f64) -> bool
-    ensures { result ≡ finite x }
-{
-    tolerance::magnitude(x) < 1.0 / 0.0
-}
 
 // Tells whether the first d entries are finite.
 fn row_finite(v: [f64; DIMENSION], d: usize) -> bool
     requires { d ≤ max_dimension }
     ensures { result ≡ every finite (take d v) }
 {
-    let mut i: usize = 0;
-    while i < d {
-        if is_finite(v[i]) {
-            i += 1;
-        } else {
-            return false;
-        }
-    }
-    true
+    v[..d].iter().all(|x| x.is_finite())
 }
 
 // Tells whether every entry is finite. Refusal 11 asks this of the inverse.
@@ -50,15 +35,7 @@ pub fn all_finite(m: [[f64; DIMENSION]; DIMENSION], d: usize) -> bool
     requires { d ≤ max_dimension }
     ensures { result ≡ all_finite (corner d m) }
 {
-    let mut i: usize = 0;
-    while i < d {
-        if row_finite(m[i], d) {
-            i += 1;
-        } else {
-            return false;
-        }
-    }
-    true
+    m[..d].iter().all(|row| row_finite(*row, d))
 }
 
 // Tells whether no vertex is within EPS of a later one on every axis. Refusal 9 asks this of the vertices.
@@ -66,14 +43,10 @@ pub fn no_double(points: &[f64], d: usize, n: usize) -> bool
     requires { (d ≤ max_dimension) × (n * d ≤ length points.now) }
     ensures { result ≡ no_repeats near (parts n d points.now) }
 {
-    let mut i: usize = 0;
-    while i < n {
-        let q = points::loaded(points, d, i);
-        i += 1;
-        let start = i * d;
-        let later = &points[start..];
-        let left = n - i;
-        if let Found::At(_) = points::find(later, d, left, q) {
+    for i in 0..n {
+        let q = loaded(points, d, i);
+        let later = &points[(i + 1) * d..];
+        if find(later, d, n - (i + 1), q).is_some() {
             return false;
         }
     }
@@ -85,19 +58,14 @@ pub fn same_types(words: &[u32], sh: Shape, flag: Flag, first: Flag) -> bool
     requires held { Held sh (lists_of sh words.now) }
     requires sh_in_bounds { scratch_at sh ≤ length words.now }
     requires flag { IsFlag (abstract_in sh words.now) (flag_in sh.rank flag) }
-    requires flag_2 { IsFlag (abstract_in sh words.now) (flag_in sh.rank first) }
+    requires first_flag { IsFlag (abstract_in sh words.now) (flag_in sh.rank first) }
     ensures { result ≡ types_agree (state_in sh words.now) sh.rank (flag_in sh.rank flag) (flag_in sh.rank first) }
 {
-    let rank = sh.rank;
-    let a = flag.elements;
-    let b = first.elements;
-    let mut r: usize = 0;
-    while r <= rank {
+    for r in 0..sh.rank + 1 {
         let types = sh.types(r);
-        if get(words, types + a[r]) != get(words, types + b[r]) {
+        if get(words, types + flag.elements[r]) != get(words, types + first.elements[r]) {
             return false;
         }
-        r += 1;
     }
     true
 }
@@ -110,13 +78,9 @@ fn turned(lists: &[u32], sh: Shape, flag: Flag) -> Flag
     requires le_rank { 1 ≤ sh.rank }
     ensures { Turned (abs_in sh lists.now) (flag_in sh.rank flag) (flag_in sh.rank result) }
 {
-    let rank = sh.rank;
     let mut f = flag;
-    let mut r: usize = 1;
-    while r < rank {
-        let next = f.change(lists, sh, r);
-        f = next;
-        r += 1;
+    for r in 1..sh.rank {
+        f = f.change(lists, sh, r);
     }
     f
 }
@@ -138,15 +102,10 @@ pub fn vertex_sequence(
     let d = sh.dimension;
     let mut rows = [[0.0; DIMENSION]; DIMENSION];
     let mut f = flag;
-    let first = f.elements;
-    rows[0] = points::loaded(floats, d, first[1]);
-    let mut i: usize = 1;
-    while i < d {
-        let next = turned(lists, sh, f);
-        let elements = next.elements;
-        rows[i] = points::loaded(floats, d, elements[1]);
-        f = next;
-        i += 1;
+    rows[0] = loaded(floats, d, f.elements[1]);
+    for i in 1..d {
+        f = turned(lists, sh, f);
+        rows[i] = loaded(floats, d, f.elements[1]);
     }
     matrix::from_columns(rows, d)
 }

@@ -15,45 +15,33 @@ ghost use Rattle.symmetry.specs.Searching.{Searching, passing, CandidateTried, F
 use crate::candidates::{candidate, same_types};
 use crate::vertex_sets::examples::examples_go;
 use crate::writing::{put_entries, put_matrix};
-use flag::{Advance, Flag};
+use flag::Flag;
 use float::DIMENSION;
 use points::lookup::{PLACES, places, row_of};
 use ranked::Shape;
 use spec::MAX_COUNT;
 
-// This is what trying a flag came to: it gives no member that is listed, its member was written, or there is no room for it.
-#[derive(Clone, Copy)]
-pub enum Tried {
+// This is what trying a flag came to: it gives no member that is listed, its member was written, or there is no room for it. The search goes on after
+// the first two, so a Result with a bool would name the three cases less plainly.
+#[derive(Clone, Copy, Debug)]
+enum Tried {
     Skipped,
     Added,
     Short,
 }
 
-// This says how many members are listed, and whether one more had no room.
-#[derive(Clone, Copy)]
-pub struct Members {
-    pub count: usize,
-    pub short: bool,
-}
+// One member more had no room. So many are listed.
+#[derive(Clone, Copy, Debug, PartialEq, Eq)]
+pub struct NoRoom(pub usize);
 
-impl Members {
-    fn of(count: usize, short: bool) -> Members
-        ensures { result ≡ record { count = count; short = short } }
-    {
-        Members {
-            count: count,
-            short: short,
-        }
-    }
-}
-
-// This is one turn of the search: the flag that is tried, the first flag, which it is compared with, whether rotations alone are listed, and how many
-// marks are left for members. The inverse goes beside it, since a field that is an array of arrays would leave every function over it to a proof by hand.
+// This is one turn of the search: the flag that is tried, the first flag, which it is compared with, the inverse of the first flag's columns, whether
+// rotations alone are listed, and how many marks are left for members.
 #[derive(Clone, Copy)]
 struct Trial {
     shape: Shape,
     first: Flag,
     flag: Flag,
+    inverse: [[f64; DIMENSION]; DIMENSION],
     rotations: bool,
     left: usize,
 }
@@ -63,13 +51,7 @@ fn has_room(d: usize, v: usize, floats: usize, entries: usize, left: usize) -> b
     requires { d ≤ max_dimension }
     ensures { result ≡ fits d v floats entries left }
 {
-    if floats < d * d {
-        return false;
-    }
-    if entries < v {
-        return false;
-    }
-    0 < left
+    d * d <= floats && v <= entries && 0 < left
 }
 
 // Tells whether a candidate passes the test that each vertex image is found and that each type's example goes to an element. If so, its row is
@@ -92,10 +74,7 @@ fn passes(
 {
     let d = sh.dimension;
     let v = sh.vertices();
-    if !row_of(floats, d, v, places, m, row) {
-        return false;
-    }
-    examples_go(words, sh, row)
+    row_of(floats, d, v, places, m, row) && examples_go(words, sh, row)
 }
 
 // Tries a candidate. It is skipped, or written to the front of the given parts of the outputs, or there is no room for it. Whether it is a rotation is
@@ -116,10 +95,8 @@ fn try_candidate(
 {
     let sh = trial.shape;
     let d = sh.dimension;
-    if trial.rotations {
-        if !(0.0 < matrix::determinant(m, d)) {
-            return Tried::Skipped;
-        }
+    if trial.rotations && !(0.0 < matrix::determinant(m, d)) {
+        return Tried::Skipped;
     }
     let mut row = [0u16; MAX_COUNT];
     if !passes(words, sh, floats, places, m, &mut row) {
@@ -140,7 +117,6 @@ fn try_flag(
     floats: &[f64],
     places: &[u16; PLACES],
     trial: Trial,
-    inverse: [[f64; DIMENSION]; DIMENSION],
     matrices: &mut [f64],
     rows: &mut [u16],
 ) -> Tried
@@ -148,20 +124,18 @@ fn try_flag(
     requires flag { IsFlag (abstract_in trial.shape words.now) (flag_in trial.shape.rank trial.flag) }
     requires first_value { flag_in trial.shape.rank trial.first ≡ first_flag (abstract_in trial.shape words.now) }
     requires guesses { Guesses (solid_in trial.shape words.now floats.now).points places.now }
-    ensures { FlagTried trial words.now floats.now inverse result
+    ensures { FlagTried trial words.now floats.now result
         matrices.old matrices.new rows.old rows.new }
 {
     let sh = trial.shape;
-    let flag = trial.flag;
-    let first = trial.first;
-    if !same_types(words, sh, flag, first) {
+    if !same_types(words, sh, trial.flag, trial.first) {
         return Tried::Skipped;
     }
-    let m = candidate(sh.lists(words), sh, floats, flag, inverse);
+    let m = candidate(sh.lists(words), sh, floats, trial.flag, trial.inverse);
     try_candidate(words, floats, places, trial, m, matrices, rows)
 }
 
-// Tries every flag in order, until there is no room. `room` is how many marks there are.
+// Tries every flag in order, until there is no room, and returns how many members are listed. `room` is how many marks there are.
 pub fn list_members(
     words: &[u32],
     sh: Shape,
@@ -171,7 +145,7 @@ pub fn list_members(
     room: usize,
     matrices: &mut [f64],
     rows: &mut [u16],
-) -> Members
+) -> Result<usize, NoRoom>
     requires { Searching sh words.now floats.now }
     ensures { SolidListed sh words.now floats.now inverse rotations room result
         matrices.old matrices.new rows.old rows.new }
@@ -185,9 +159,10 @@ pub fn list_members(
     loop {
         let trial = Trial {
             shape: sh,
-            first: first,
-            flag: flag,
-            rotations: rotations,
+            first,
+            flag,
+            inverse,
+            rotations,
             left: room - n,
         };
         let tried = try_flag(
@@ -195,23 +170,17 @@ pub fn list_members(
             floats,
             &places,
             trial,
-            inverse,
             &mut matrices[n * (d * d)..],
             &mut rows[n * v..],
         );
         match tried {
             Tried::Skipped => {}
-            Tried::Added => {
-                n += 1;
-            }
-            Tried::Short => return Members::of(n, true),
+            Tried::Added => n += 1,
+            Tried::Short => return Err(NoRoom(n)),
         }
-        let next = flag.next(sh.lists(words), sh);
-        flag = next.flag;
-        let advance = next.advance;
-        match advance {
-            Advance::More => {}
-            Advance::Ended => return Members::of(n, false),
-        }
+        let Some(next) = flag.next(sh.lists(words), sh) else {
+            return Ok(n);
+        };
+        flag = next;
     }
 }

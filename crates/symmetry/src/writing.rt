@@ -11,10 +11,8 @@ pub fn put_matrix(m: [[f64; DIMENSION]; DIMENSION], d: usize, out: &mut [f64])
     requires { (d ≤ max_dimension) × (d * d ≤ length out.old) }
     ensures { out.new ≡ written (join (corner d m)) out.old }
 {
-    let mut i: usize = 0;
-    while i < d {
+    for i in 0..d {
         points::put(&mut out[i * d..], m[i], d);
-        i += 1;
     }
 }
 
@@ -23,9 +21,5 @@ pub fn put_entries(row: &[u16], n: usize, out: &mut [u16])
     requires { (n ≤ length row.now) × (n ≤ length out.old) }
     ensures { out.new ≡ written (take n row.now) out.old }
 {
-    let mut i: usize = 0;
-    while i < n {
-        out[i] = row[i];
-        i += 1;
-    }
+    out[..n].copy_from_slice(&row[..n]);
 }

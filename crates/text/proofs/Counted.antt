@@ -36,15 +36,6 @@ count_no : (m : Matrix) (ms : List Matrix) → lt zero_f (determinant m) ≡ fal
 unfolding rotation_count
 count_no m ms e = rw (e, rotation_count)
 
--- A matrix counts as one where its determinant is above 0, and as none otherwise.
-pub count-one : (m : Matrix) → lt zero_f (determinant m) ≡ true → 1 ≡ rotation_count (m ∷ [])
-unfolding rotation_count
-count-one m e = sym (count_yes m [] e)
-
-pub count_none : (m : Matrix) → lt zero_f (determinant m) ≡ false → 0 ≡ rotation_count (m ∷ [])
-unfolding rotation_count
-count_none m e = sym (count_no m [] e)
-
 count_add : (ms : List Matrix) (x : Matrix) → rotation_count (ms ++ (x ∷ [])) ≡ rotation_count ms + rotation_count (x ∷ [])
 unfolding rotation_count
 count_add [] x = omega arith
@@ -69,10 +60,23 @@ module _ (l : List Float) (d : ℕ) where
   abbrev pub counted : ℕ → ℕ
   counted n = rotation_count (map (parts d d) (parts n (d * d) l))
 
-  pub counted_next : (j : ℕ) → counted (j + 1) ≡ counted j + rotation_count (parts d d (take (d * d) (drop (j * (d * d)) l)) ∷ [])
+  counted_next : (j : ℕ) → counted (j + 1) ≡ counted j + rotation_count (parts d d (take (d * d) (drop (j * (d * d)) l)) ∷ [])
   counted_next j =
       rw (add-one j, parts_more j (d * d) l, map-append (parts d d) (parts j (d * d) l) (take (d * d) (drop (j * (d * d)) l) ∷ []))
       (count_add (map (parts d d) (parts j (d * d) l)) (parts d d (take (d * d) (drop (j * (d * d)) l))))
+
+  -- The next matrix counts as one where its determinant is above 0, and as none otherwise.
+  module _ (j : ℕ) where
+    abbrev next : Matrix
+    next = parts d d (take (d * d) (drop (j * (d * d)) l))
+
+    pub counted_yes : lt zero_f (determinant next) ≡ true → counted (j + 1) ≡ counted j + 1
+    unfolding rotation_count
+    counted_yes e = omega (arith, counted_next j, count_yes next [] e)
+
+    pub counted_no : lt zero_f (determinant next) ≡ false → counted (j + 1) ≡ counted j
+    unfolding rotation_count
+    counted_no e = omega (arith, counted_next j, count_no next [] e)
 
   pub counted-most : (n : ℕ) → counted n ≤ n
   counted-most n = omega (arith, count_most (map (parts d d) (parts n (d * d) l)), length-map (parts n (d * d) l) (parts d d), length-parts n (d * d) l)

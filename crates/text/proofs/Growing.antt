@@ -3,11 +3,11 @@
 use mathlib.Core.Path.{◌≡◌, sym, ap, ap₂, ◌∙◌}
 use mathlib.Core.List.{List, [], ◌∷◌, ◌++◌, append_assoc, append-nil}
 use Prim.Native.Nat.{ℕ, suc, ◌+◌, ◌≤◌, ◌<◌}
-use native.Mathlib.Nat.{add-zero, add_assoc}
+use native.Mathlib.Nat.{add-zero}
 use native.Mathlib.Numerals.{add-one}
 use native.Mathlib.Omega.{arith}
-use lib.ListN.{length, get_or, take, drop, set, length-append, take-append-drop, length-drop}
-use lib.Seq.{length-take-le, take_at, drop_at, drop-drop, set_split, take-suc, take_all}
+use lib.ListN.{length, take, drop, set, length-append, take-append-drop, length-drop}
+use lib.Seq.{length-take-le, take_at, drop_at, drop-drop, set_split}
 use Rattle.text.specs.Puts.{Puts}
 
 pub puts_none : (from : ℕ) (old : List ℕ) → from ≤ length old → Puts from [] old old from
@@ -50,13 +50,3 @@ module _ {from end : ℕ} {l old new : List ℕ} (p : Puts from l old new end) w
             ∙ ap (λ (x : List ℕ). x ++ drop (from + length (l ++ m)) old) (append_assoc (take from old) l m);
         stop = omega (arith, length-append l m, p.stop, q.stop);
       }
-
--- ---- bytes one at a time
-
-pub puts_next : (from i : ℕ) (s old new : List ℕ) → i < length s → from + i < length new → Puts from (take i s) old new (from + i)
-    → Puts from (take (i + 1) s) old (set new (from + i) (get_or s i 0)) (from + (i + 1))
-puts_next from i s old new h g p =
-    rw (sym (add_assoc from i 1), add-one i) (puts_is (puts_then p (puts_byte (from + i) (get_or s i 0) new g)) (sym (take-suc s i 0 h)))
-
-pub puts_all : (from i : ℕ) (s old new : List ℕ) → i ≤ length s → length s ≤ i → Puts from (take i s) old new (from + i) → Puts from s old new (from + i)
-puts_all from i s old new h g p = puts_is p (take_all i s g)

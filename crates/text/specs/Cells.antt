@@ -4,6 +4,11 @@ use Rattle.std.specs.Prelude.{List, [], ◌∷◌, map, ℕ, ◌*◌, take}
 use Rattle.spec.specs.Lists.{join}
 use Rattle.spec.specs.Types.{ElementType}
 use Rattle.spec.specs.KitText.{type_line}
+use Rattle.text.specs.declared.lines.TypeRecord.{TypeRecord}
+
+-- Gives the type that the program has as a record.
+abbrev pub element_type_of : TypeRecord → ElementType
+element_type_of r = record { rank = r.rank; number = r.number; example = r.example; count = r.count }
 
 -- Lists the types whose cells these are.
 unfoldable pub types_from : List ℕ → List ElementType

@@ -2,11 +2,10 @@
 ghost use Rattle.std.specs.Prelude.{◌+◌, ◌*◌, ◌≤◌, ◌<◌, length, take};
 ghost use Rattle.spec.specs.KitText.{refused_line, type_line, types_lines};
 ghost use Rattle.text.specs.Puts.{Puts};
-ghost use Rattle.text.specs.Cells.{types_from, lines_to};
+ghost use Rattle.text.specs.Cells.{element_type_of, types_from, lines_to};
 ghost use Rattle.text.specs.Members.{members_text};
 
 use crate::writing::{put_bytes, put_decimal, put_labelled};
-use points::cell;
 use spec::Refusal;
 
 // Writes a refusal's line: "A refusal prints `refused` and its number".
@@ -14,45 +13,53 @@ pub fn refused(out: &mut [u8], from: usize, why: Refusal) -> usize
     requires { from + length (refused_line why) ≤ length out.old }
     ensures { Puts from (refused_line why) out.old out.new result }
 {
-    let n = why.number() as usize;
-    let end = put_labelled(out, from, b"refused ", n);
+    let end = put_labelled(out, from, b"refused ", why.number() as usize);
     put_bytes(out, end, b"\n")
 }
 
+// This is a type as its four cells of a table have it.
+#[derive(Clone, Copy)]
+pub struct TypeRecord {
+    pub rank: usize,
+    pub number: usize,
+    pub example: usize,
+    pub count: usize,
+}
+
 // Writes a type's line: "rank, type, example, count".
-pub fn element_type(
-    out: &mut [u8],
-    from: usize,
-    rank: usize,
-    number: usize,
-    example: usize,
-    count: usize,
-) -> usize
-    requires { from + length (type_line (record { rank = rank; number = number; example = example; count = count })) ≤ length out.old }
-    ensures { Puts from (type_line (record { rank = rank; number = number; example = example; count = count })) out.old out.new result }
+pub fn element_type(out: &mut [u8], from: usize, of: TypeRecord) -> usize
+    requires { from + length (type_line (element_type_of of)) ≤ length out.old }
+    ensures { Puts from (type_line (element_type_of of)) out.old out.new result }
 {
-    let first = put_decimal(out, from, rank);
-    let second = put_labelled(out, first, b" ", number);
-    let third = put_labelled(out, second, b" ", example);
-    let fourth = put_labelled(out, third, b" ", count);
+    let first = put_decimal(out, from, of.rank);
+    let second = put_labelled(out, first, b" ", of.number);
+    let third = put_labelled(out, second, b" ", of.example);
+    let fourth = put_labelled(out, third, b" ", of.count);
     put_bytes(out, fourth, b"\n")
 }
 
-// Writes the lines of the first n types of a table.
+// Writes the lines of the first n types of a table. Chunks of four cells would be no plainer, since each cell of a chunk is still read by its place.
 fn type_lines(out: &mut [u8], from: usize, table: &[u16], n: usize) -> usize
     requires { (4 * n ≤ length table.now) × (from + length (lines_to table.now n) ≤ length out.old) }
     ensures { Puts from (lines_to table.now n) out.old out.new result }
 {
     let mut end = from;
-    let mut i: usize = 0;
-    while i < n {
+    for i in 0..n {
         let p = 4 * i;
-        let rank = cell(table, p);
-        let number = cell(table, p + 1);
-        let example = cell(table, p + 2);
-        let count = cell(table, p + 3);
-        end = element_type(out, end, rank, number, example, count);
-        i += 1;
+        let rank = usize::from(table[p]);
+        let number = usize::from(table[p + 1]);
+        let example = usize::from(table[p + 2]);
+        let count = usize::from(table[p + 3]);
+        end = element_type(
+            out,
+            end,
+            TypeRecord {
+                rank,
+                number,
+                example,
+                count,
+            },
+        );
     }
     end
 }

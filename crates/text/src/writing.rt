@@ -1,5 +1,5 @@
 // This module puts what every line is made of: given bytes, and numbers in decimal.
-ghost use Rattle.std.specs.Prelude.{◌≡◌, ◌++◌, ◌+◌, ◌≤◌, ◌<◌, length};
+ghost use Rattle.std.specs.Prelude.{◌++◌, ◌+◌, ◌≤◌, length};
 ghost use Rattle.spec.specs.KitText.{decimal};
 ghost use Rattle.text.specs.Puts.{Puts};
 
@@ -8,20 +8,9 @@ pub fn put_bytes(out: &mut [u8], from: usize, s: &[u8]) -> usize
     requires { from + length s.now ≤ length out.old }
     ensures { Puts from s.now out.old out.new result }
 {
-    let mut i: usize = 0;
-    while i < s.len() {
-        out[from + i] = s[i];
-        i += 1;
-    }
-    from + i
-}
-
-// Returns the character of a digit.
-fn digit(n: usize) -> u8
-    requires { n < 10 }
-    ensures { result ≡ 48 + n }
-{
-    b'0' + n as u8
+    let end = from + s.len();
+    out[from..end].copy_from_slice(s);
+    end
 }
 
 // Writes a number's digits in order: those of its tenth part come first.
@@ -30,11 +19,11 @@ pub fn put_decimal(out: &mut [u8], from: usize, n: usize) -> usize
     ensures { Puts from (decimal n) out.old out.new result }
 {
     if n < 10 {
-        out[from] = digit(n);
+        out[from] = b'0' + n as u8;
         return from + 1;
     }
     let end = put_decimal(out, from, n / 10);
-    out[end] = digit(n % 10);
+    out[end] = b'0' + (n % 10) as u8;
     end + 1
 }
 

@@ -1,5 +1,6 @@
 -- The answer of a call of copying goes by the outputs' lengths and not by what they hold.
 -- Assumes nothing.
+use Rattle.std.specs.Prelude.{Err, Ok}
 use mathlib.Core.Path.{◌≡◌, refl, sym, ap, ◌∙◌}
 use mathlib.Core.Bool.{Bool, true, false, ◌&&◌}
 use mathlib.Core.List.{List}
@@ -8,12 +9,11 @@ use lib.ListN.{length, take, replicate, length-replicate}
 use lib.Dec.{eqb, leb}
 use lib.Ieee.{Float}
 use Rattle.spec.specs.declared.Refusal.TheVariants.{ShortSheet, Open}
-use Rattle.spec.specs.declared.Answer.{Answer}
-use Rattle.spec.specs.declared.Answer.TheVariants.{Done, Refused}
+use Rattle.spec.specs.Refusal.{Answer, refused_with}
 use Rattle.spec.specs.Limits.{max_count}
 use Rattle.spec.specs.Lists.{join, holds, written}
 use Rattle.spec.specs.Float.{zero_f}
-use Rattle.spec.specs.Judged.{Judged, refused, passed}
+use Rattle.spec.specs.Judged.{Judged}
 use Rattle.spec.specs.Matrix.{Vector, Matrix}
 use Rattle.spec.specs.Copying.{copies, points, matrices, copy_table, judge_copy, copy_out, copy_call, no_image}
 
@@ -23,8 +23,8 @@ Out = Answer × List Float × List ℕ
 -- This is the answer, as the number of cells in the output of rows decides it.
 abbrev answer : ℕ → List Matrix → List Vector → ℕ → Answer
 answer n ms cs k = elim (leb (length cs) n && leb (length ms * length cs) k) as (λ _. Answer) [
-  | false ↦ Refused ShortSheet (length (take n cs))
-  | true ↦ elim (holds eqb (length cs) (copy_table ms cs)) as (λ _. Answer) [ true ↦ Refused Open (length (take n cs)) | false ↦ Done (length cs) ]
+  | false ↦ refused_with ShortSheet (length (take n cs))
+  | true ↦ elim (holds eqb (length cs) (copy_table ms cs)) as (λ _. Answer) [ true ↦ refused_with Open (length (take n cs)) | false ↦ Ok (length cs) ]
 ]
 
 out-answer : (n : ℕ) (ms : List Matrix) (cs : List Vector) (o : List Float) (t : List ℕ) → (copy_out n ms cs o t).0 ≡ answer n ms cs (length t)
@@ -33,15 +33,15 @@ out-answer n ms cs o t = go (leb (length cs) n && leb (length ms * length cs) (l
   where
     go : (b c : Bool) →
         (elim b as (λ _. Out) [
-          | false ↦ (Refused ShortSheet (length (take n cs)), written (join (take n cs)) o, t)
+          | false ↦ (refused_with ShortSheet (length (take n cs)), written (join (take n cs)) o, t)
           | true ↦ elim c as (λ _. Out) [
-            | true ↦ (Refused Open (length (take n cs)), written (join (take n cs)) o, written (replicate (length ms * length cs) no_image) t)
-            | false ↦ (Done (length cs), written (join (take n cs)) o, written (copy_table ms cs) t)
+            | true ↦ (refused_with Open (length (take n cs)), written (join (take n cs)) o, written (replicate (length ms * length cs) no_image) t)
+            | false ↦ (Ok (length cs), written (join (take n cs)) o, written (copy_table ms cs) t)
           ]
         ]).0
         ≡ elim b as (λ _. Answer) [
-          | false ↦ Refused ShortSheet (length (take n cs))
-          | true ↦ elim c as (λ _. Answer) [ true ↦ Refused Open (length (take n cs)) | false ↦ Done (length cs) ]
+          | false ↦ refused_with ShortSheet (length (take n cs))
+          | true ↦ elim c as (λ _. Answer) [ true ↦ refused_with Open (length (take n cs)) | false ↦ Ok (length cs) ]
         ]
     go false c = refl
     go true true = refl
@@ -57,10 +57,10 @@ unfolding copy_call
 call_same d ps ts o o' t t' e f = go (judge_copy d ps ts)
   where
     go : (j : Judged (Unit {0})) →
-        (elim j as (λ _. Out) [ refused why ↦ (Refused why 0, o, t) | passed u ↦ copy_out (min max_count (length o / d)) (matrices d ts) (copies (matrices d ts) (points d ps)) o t ]).0
-        ≡ (elim j as (λ _. Out) [ refused why ↦ (Refused why 0, o', t') | passed u ↦ copy_out (min max_count (length o' / d)) (matrices d ts) (copies (matrices d ts) (points d ps)) o' t' ]).0
-    go (refused why) = refl
-    go (passed u) = rw e (out_same (min max_count (length o' / d)) (matrices d ts) (copies (matrices d ts) (points d ps)) o o' t t' f)
+        (elim j as (λ _. Out) [ Err why ↦ (refused_with why 0, o, t) | Ok u ↦ copy_out (min max_count (length o / d)) (matrices d ts) (copies (matrices d ts) (points d ps)) o t ]).0
+        ≡ (elim j as (λ _. Out) [ Err why ↦ (refused_with why 0, o', t') | Ok u ↦ copy_out (min max_count (length o' / d)) (matrices d ts) (copies (matrices d ts) (points d ps)) o' t' ]).0
+    go (Err why) = refl
+    go (Ok u) = rw e (out_same (min max_count (length o' / d)) (matrices d ts) (copies (matrices d ts) (points d ps)) o o' t t' f)
 
 -- So outputs of zeros tell the answer for any with room for n points and 48 rows.
 pub call_zeros : (d n : ℕ) (ps ts o : List Float) (t : List ℕ) → length o ≡ d * n → length t ≡ 48 * n →

@@ -1,12 +1,11 @@
 -- This file has section 7's constant table of 48: its rule, its closure under products, and the copies of (1,2,3) under it. The rows of all the 48
 -- are six, so only the dots of these are worked out, and the rest is done on numbers. Assumes nothing.
-use Rattle.std.specs.Prelude.{◌≡◌, refl, ℕ, ◌/◌, ◌^◌, ◌-◌, ◌%◌, ◌+◌, ◌*◌, true, false, List, [], ◌∷◌, map, length, replicate, get_or, eqb, ltb, Float, pos}
+use Rattle.std.specs.Prelude.{◌≡◌, refl, ℕ, ◌/◌, ◌^◌, ◌-◌, ◌%◌, ◌+◌, ◌*◌, true, false, List, [], ◌∷◌, map, length, replicate, get_or, eqb, ltb, Float, pos, Ok}
 use Rattle.std.proofs.Common.{ap, ◌∙◌}
 use Rattle.std.specs.Float.{fin}
 use Rattle.std.specs.Float.Ieee.{of_bits, neg}
 use Rattle.spec.specs.declared.Refusal.TheVariants.{Open}
-use Rattle.spec.specs.declared.Answer.{Answer}
-use Rattle.spec.specs.declared.Answer.TheVariants.{Done, Refused}
+use Rattle.spec.specs.Refusal.{Answer, refused_with}
 use Rattle.spec.specs.Lists.{join, range, place, eq_list, every, holds, written, no_repeats}
 use Rattle.spec.specs.Float.{zero_f, one_f, zip, dot}
 use Rattle.spec.specs.Matrix.{Vector, Matrix, columns, mul_vec, mul_mat}
@@ -121,12 +120,12 @@ before = refl
 
 -- This is what the call gives out, from the table's rows.
 abbrev out : List (List ℕ) → Answer × List Float × List ℕ
-out t = elim (holds eqb 48 (join t)) [ true ↦ (Refused Open 48, join cs, replicate 2304 no_image) | false ↦ (Done 48, join cs, join t) ]
+out t = elim (holds eqb 48 (join t)) [ true ↦ (refused_with Open 48, join cs, replicate 2304 no_image) | false ↦ (Ok 48, join cs, join t) ]
 
-pub after : copy_out 48 axis_orders cs (replicate 144 zero_f) (replicate 2304 0) ≡ (Done 48, join cs, join products)
+pub after : copy_out 48 axis_orders cs (replicate 144 zero_f) (replicate 2304 0) ≡ (Ok 48, join cs, join products)
 unfolding copy_out copy_table row_of written cs zip orders range join signed axis_order axis_orders row_numbers zero_f one_f neg products place eq_list of_bits holds
 after = ap out rows
 
 -- This is the case "(1,2,3) 48", which document 01 marks P, with the points and the table written out.
-pub forty_eight : copy_call 3 abc (join (join axis_orders)) (replicate 144 zero_f) (replicate 2304 0) ≡ (Done 48, join cs, join products)
+pub forty_eight : copy_call 3 abc (join (join axis_orders)) (replicate 144 zero_f) (replicate 2304 0) ≡ (Ok 48, join cs, join products)
 forty_eight = before ∙ after

@@ -1,17 +1,15 @@
 -- This file says what document 01's definitions give on each smallest input where the Rust differs, for the rows of docs/DIFFERENCES.md, and whether
 -- the input is clean (section 6).
 -- Assumes nothing.
-use Rattle.std.specs.Prelude.{◌≡◌, refl, ℕ, true, false, List, [], ◌∷◌, ◌++◌, map, length, replicate, take, Float}
-use Rattle.std.proofs.Math.Option.{some}
+use Rattle.std.specs.Prelude.{◌≡◌, refl, ℕ, true, false, List, [], ◌∷◌, ◌++◌, map, length, replicate, take, Float, Ok, Some}
 use Rattle.std.specs.Float.{binary64}
 use Rattle.std.specs.Float.Ieee.{of_bits}
-use Rattle.spec.specs.declared.Answer.TheVariants.{Done}
 use Rattle.spec.specs.Ascii.{ascii}
 use Rattle.spec.specs.Lists.{join}
 use Rattle.spec.specs.Copying.{copy_call}
 use Rattle.spec.specs.Calls.{search_call}
 use Rattle.spec.specs.KitText.{kit_text}
-use Rattle.spec.specs.Judged.{passed, ◌>>=◌}
+use Rattle.spec.specs.Judged.{◌>>=◌}
 use Rattle.spec.specs.Classes.{types_of}
 use Rattle.spec.specs.Search.{search}
 use Rattle.spec.specs.Clean.{clean, clean_copying}
@@ -82,13 +80,13 @@ near_two_vertices-rows = refl
 
 -- When 1e-7 is copied under [1], [−1], [0], the image 0 is near both copies, and takes the lowest number.
 pub near_two_copies : copy_call 1 (of_bits binary64 0x3e7a_d7f2_9abc_af48 ∷ []) (map (of_bits binary64) (0x3ff0_0000_0000_0000 ∷ 0xbff0_0000_0000_0000 ∷ 0 ∷ [])) (replicate 2 (of_bits binary64 0)) (replicate 6 7)
-    ≡ (Done 2, map (of_bits binary64) (0x3e7a_d7f2_9abc_af48 ∷ 0xbe7a_d7f2_9abc_af48 ∷ []), 0 ∷ 1 ∷ 1 ∷ 0 ∷ 0 ∷ 0 ∷ [])
+    ≡ (Ok 2, map (of_bits binary64) (0x3e7a_d7f2_9abc_af48 ∷ 0xbe7a_d7f2_9abc_af48 ∷ []), 0 ∷ 1 ∷ 1 ∷ 0 ∷ 0 ∷ 0 ∷ [])
 unfolding all
 near_two_copies = refl
 
 -- When (0,5), (8e-8,0) are copied under the identity and [[1,−1e-8],[0,1]], every image is found.
 pub found_copies : copy_call 2 (map (of_bits binary64) (0x0000000000000000 ∷ 0x4014000000000000 ∷ 0x3e75798ee2308c3a ∷ 0x0000000000000000 ∷ [])) (map (of_bits binary64) (0x3ff0000000000000 ∷ 0x0000000000000000 ∷ 0x0000000000000000 ∷ 0x3ff0000000000000 ∷ 0x3ff0000000000000 ∷ 0xbe45798ee2308c3a ∷ 0x0000000000000000 ∷ 0x3ff0000000000000 ∷ [])) (replicate 4 (of_bits binary64 0)) (replicate 4 7)
-    ≡ (Done 2, map (of_bits binary64) (0x0000000000000000 ∷ 0x4014000000000000 ∷ 0x3e75798ee2308c3a ∷ 0x0000000000000000 ∷ []), 0 ∷ 1 ∷ 0 ∷ 1 ∷ [])
+    ≡ (Ok 2, map (of_bits binary64) (0x0000000000000000 ∷ 0x4014000000000000 ∷ 0x3e75798ee2308c3a ∷ 0x0000000000000000 ∷ []), 0 ∷ 1 ∷ 0 ∷ 1 ∷ [])
 unfolding all
 found_copies = refl
 
@@ -104,18 +102,18 @@ three_points = (0 ∷ 0x4014000000000000 ∷ []) ∷ (0x3e75798ee2308c3a ∷ 0 �
 
 -- These are two solids by which the readings of clean are told apart (docs/DECISIONS.md): the Rust has 6 types and 1 member of the first, and 2
 -- members of the second.
-pub later-types : types_of later ≡ some ((0 ∷ []) ∷ (0 ∷ 0 ∷ 1 ∷ []) ∷ (0 ∷ 1 ∷ 1 ∷ []) ∷ (0 ∷ []) ∷ [])
+pub later-types : types_of later ≡ Some ((0 ∷ []) ∷ (0 ∷ 0 ∷ 1 ∷ []) ∷ (0 ∷ 1 ∷ 1 ∷ []) ∷ (0 ∷ []) ∷ [])
 unfolding evaluate
 later-types = refl
 
-pub member-counts : map (λ c. search c >>= λ ms. passed (length ms)) (later ∷ folded ∷ []) ≡ passed 2 ∷ passed 1 ∷ []
+pub member-counts : map (λ c. search c >>= λ ms. Ok (length ms)) (later ∷ folded ∷ []) ≡ Ok 2 ∷ Ok 1 ∷ []
 unfolding evaluate
 member-counts = refl
 
 -- The points (0,5), (8e-8,0) and (−5e-8,5) are copied under the identity, with room for three copies. The third point is found among the copies, so
 -- that there are two.
 pub found_point : copy_call 2 (map (of_bits binary64) (join three_points)) (map (of_bits binary64) (join identity)) (replicate 6 (of_bits binary64 0)) (replicate 3 7)
-    ≡ (Done 2, map (of_bits binary64) (join (take 2 three_points) ++ 0 ∷ 0 ∷ []), 0 ∷ 1 ∷ 7 ∷ [])
+    ≡ (Ok 2, map (of_bits binary64) (join (take 2 three_points) ++ 0 ∷ 0 ∷ []), 0 ∷ 1 ∷ 7 ∷ [])
 unfolding all
 found_point = refl
 
@@ -123,13 +121,13 @@ found_point = refl
 
 -- Five of the solids above differ because they are not clean.
 pub not_clean : map clean_sheet (near_two ∷ listed_once ∷ near_two_vertices ∷ near_on_axis ∷ near_square ∷ [])
-    ≡ passed false ∷ passed false ∷ passed false ∷ passed false ∷ passed false ∷ []
+    ≡ Ok false ∷ Ok false ∷ Ok false ∷ Ok false ∷ Ok false ∷ []
 unfolding evaluate
 not_clean = refl
 
 -- Those that differ because document 01 refuses them, with 11, 9, 12 and 8, are clean.
 pub clean-refused : map clean_sheet (not_finite ∷ double_corner ∷ sliver ∷ (96 ∷ 0 ∷ 128 ∷ 8 ∷ 0 ∷ 128 ∷ 0 ∷ 1 ∷ 0 ∷ 32 ∷ 0 ∷ 0 ∷ 64 ∷ []) ∷ [])
-    ≡ passed true ∷ passed true ∷ passed true ∷ passed true ∷ []
+    ≡ Ok true ∷ Ok true ∷ Ok true ∷ Ok true ∷ []
 unfolding evaluate
 clean-refused = refl
 
@@ -139,12 +137,12 @@ unfolding evaluate
 clean-refused_9 = refl
 
 -- The square whose edges cross is clean, and yet the Rust differs: it is the one difference that is known on clean input which 01 does not refuse.
-pub clean_crossed : clean_sheet crossed_square ≡ passed true
+pub clean_crossed : clean_sheet crossed_square ≡ Ok true
 unfolding evaluate
 clean_crossed = refl
 
 -- Two solids that are searched, the second with its facets exchanged, are clean.
-pub clean_solids : map clean_sheet (square ∷ triangle ∷ []) ≡ passed true ∷ passed true ∷ []
+pub clean_solids : map clean_sheet (square ∷ triangle ∷ []) ≡ Ok true ∷ Ok true ∷ []
 unfolding evaluate
 clean_solids = refl
 

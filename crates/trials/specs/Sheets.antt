@@ -1,8 +1,8 @@
 -- Section "Trial solids", and each refusal that a sheet can meet, are evaluated from the sheets' bytes.
 -- Assumes nothing.
-use Rattle.std.specs.Prelude.{◌≡◌, refl, ℕ, List, [], ◌∷◌, ◌++◌, map, replicate, take}
+use Rattle.std.specs.Prelude.{◌≡◌, refl, ℕ, List, [], ◌∷◌, ◌++◌, map, replicate, take, Ok}
 use Rattle.spec.specs.declared.Refusal.TheVariants.{Bench, ShortSheet}
-use Rattle.spec.specs.declared.Answer.TheVariants.{Done, Refused}
+use Rattle.spec.specs.Refusal.{refused_with}
 use Rattle.spec.specs.Ascii.{ascii}
 use Rattle.spec.specs.Calls.{types_call, search_call, rotations_call}
 use Rattle.spec.specs.KitText.{kit_text}
@@ -180,37 +180,37 @@ solid = refl
 
 -- These are the doubled square's types, in a workspace that just suffices, for E = 8 and I = 8. Cells past the answer keep their values.
 pub types-given : types_call doubled 320 128 (types_old 9 13)
-    ≡ (Done 3, record { elements = 0 ∷ 0 ∷ 0 ∷ 0 ∷ 0 ∷ 1 ∷ 0 ∷ 1 ∷ 7 ∷ []; types = 1 ∷ 0 ∷ 0 ∷ 4 ∷ 2 ∷ 0 ∷ 0 ∷ 2 ∷ 2 ∷ 1 ∷ 1 ∷ 2 ∷ 7 ∷ [] })
+    ≡ (Ok 3, record { elements = 0 ∷ 0 ∷ 0 ∷ 0 ∷ 0 ∷ 1 ∷ 0 ∷ 1 ∷ 7 ∷ []; types = 1 ∷ 0 ∷ 0 ∷ 4 ∷ 2 ∷ 0 ∷ 0 ∷ 2 ∷ 2 ∷ 1 ∷ 1 ∷ 2 ∷ 7 ∷ [] })
 unfolding evaluate
 types-given = refl
 
 -- With one word less, or one float less, the answer is 7.
-pub bench : types_call doubled 319 128 (types_old 9 13) ≡ (Refused Bench 0, types_old 9 13)
+pub bench : types_call doubled 319 128 (types_old 9 13) ≡ (refused_with Bench 0, types_old 9 13)
 unfolding evaluate
 bench = refl
 
 -- 7 comes before 5 and 6, which this sheet would meet too.
-pub bench_first : types_call (96 ∷ 0 ∷ 192 ∷ 4 ∷ 0 ∷ 128 ∷ 0 ∷ 1 ∷ []) 0 0 (types_old 9 13) ≡ (Refused Bench 0, types_old 9 13)
+pub bench_first : types_call (96 ∷ 0 ∷ 192 ∷ 4 ∷ 0 ∷ 128 ∷ 0 ∷ 1 ∷ []) 0 0 (types_old 9 13) ≡ (refused_with Bench 0, types_old 9 13)
 unfolding evaluate
 bench_first = refl
 
-pub bench_floats : types_call doubled 320 127 (types_old 9 13) ≡ (Refused Bench 0, types_old 9 13)
+pub bench_floats : types_call doubled 320 127 (types_old 9 13) ≡ (refused_with Bench 0, types_old 9 13)
 unfolding evaluate
 bench_floats = refl
 
 -- With a cell less for the elements, or for the types, the answer is 13, and nothing is written.
-pub short_elements : types_call doubled 320 128 (types_old 7 13) ≡ (Refused ShortSheet 0, types_old 7 13)
+pub short_elements : types_call doubled 320 128 (types_old 7 13) ≡ (refused_with ShortSheet 0, types_old 7 13)
 unfolding evaluate
 short_elements = refl
 
-pub short_types : types_call doubled 320 128 (types_old 9 11) ≡ (Refused ShortSheet 0, types_old 9 11)
+pub short_types : types_call doubled 320 128 (types_old 9 11) ≡ (refused_with ShortSheet 0, types_old 9 11)
 unfolding evaluate
 short_types = refl
 
 -- These are the square's eight members, row by row. Each output has one cell more than needed, and keeps it (0x4000.. is 2.0).
 pub square-members : shown (search_call square 4096 2048 (search_old 33 33 9))
     ≡ (
-      Done 8,
+      Ok 8,
       0x3ff0000000000000 ∷ 0 ∷ 0 ∷ 0x3ff0000000000000
           ∷ 0xbff0000000000000 ∷ 0 ∷ 0 ∷ 0x3ff0000000000000
           ∷ 0 ∷ 0xbff0000000000000 ∷ 0x3ff0000000000000 ∷ 0
@@ -237,7 +237,7 @@ square-members = refl
 -- These are the square's four rotations.
 pub square-rotations : shown (rotations_call square 4096 2048 (search_old 16 16 4))
     ≡ (
-      Done 4,
+      Ok 4,
       0x3ff0000000000000 ∷ 0 ∷ 0 ∷ 0x3ff0000000000000
           ∷ 0 ∷ 0xbff0000000000000 ∷ 0x3ff0000000000000 ∷ 0
           ∷ 0xbff0000000000000 ∷ 0 ∷ 0 ∷ 0xbff0000000000000
@@ -254,7 +254,7 @@ square-rotations = refl
 -- With floats for two matrices and a half the answer is 13, and two members are kept.
 pub square_short : shown (search_call square 4096 2048 (search_old 11 100 100))
     ≡ (
-      Refused ShortSheet 2,
+      refused_with ShortSheet 2,
       0x3ff0000000000000 ∷ 0 ∷ 0 ∷ 0x3ff0000000000000
           ∷ 0xbff0000000000000 ∷ 0 ∷ 0 ∷ 0x3ff0000000000000
           ∷ 0x4000000000000000 ∷ 0x4000000000000000 ∷ 0x4000000000000000 ∷ [],
@@ -265,11 +265,11 @@ unfolding evaluate
 square_short = refl
 
 -- With row entries for two members and a quarter the answer is the same.
-pub square_short_rows : (search_call square 4096 2048 (search_old 32 9 8)).0 ≡ Refused ShortSheet 2
+pub square_short_rows : (search_call square 4096 2048 (search_old 32 9 8)).0 ≡ refused_with ShortSheet 2
 unfolding evaluate
 square_short_rows = refl
 
 -- Without room for a single member the answer is 13, and nothing is written.
-pub square-none : search_call square 4096 2048 (search_old 32 32 0) ≡ (Refused ShortSheet 0, search_old 32 32 0)
+pub square-none : search_call square 4096 2048 (search_old 32 32 0) ≡ (refused_with ShortSheet 0, search_old 32 32 0)
 unfolding evaluate
 square-none = refl

@@ -1,17 +1,15 @@
 -- This file has section "Trial solids": "Cases marked P are proved jointly, one theorem over the lot." The theorem says of each sheet which solid it
 -- holds, by what reading it gives, and what the calls and the program `kit` answer for it. The calls are lent what `kit` lends.
 -- Assumes nothing.
-use Rattle.std.specs.Prelude.{◌≡◌, refl, ℕ, ◌*◌, ◌≤◌, ◌<◌, false, List, [], ◌∷◌, ◌++◌, length, replicate, Float, pos}
+use Rattle.std.specs.Prelude.{◌≡◌, refl, ℕ, ◌*◌, ◌≤◌, ◌<◌, false, List, [], ◌∷◌, ◌++◌, length, replicate, Float, pos, Ok}
 use Rattle.std.proofs.Common.{ap, arith}
 use Rattle.std.specs.Float.{fin, binary64}
 use Rattle.std.specs.Float.Ieee.{of_bits, neg}
 use Rattle.spec.specs.declared.Refusal.TheVariants.{NotFull, DoubleCorner, Centred, Flat, Open}
-use Rattle.spec.specs.declared.Answer.{Answer}
-use Rattle.spec.specs.declared.Answer.TheVariants.{Done, Refused}
+use Rattle.spec.specs.Refusal.{Answer, refused_with}
 use Rattle.spec.specs.Ascii.{ascii}
 use Rattle.spec.specs.Float.{zero_f, one_f, root}
 use Rattle.spec.specs.Lists.{join}
-use Rattle.spec.specs.Judged.{passed}
 use Rattle.spec.specs.Sheet.{Parsed, read_sheet}
 use Rattle.spec.specs.Copying.{axis_orders, copy_call}
 use Rattle.spec.specs.Calls.{TypesOut, types_call, SearchOut, search_call, rotations_call}
@@ -91,52 +89,52 @@ turns48 = join (join axis_orders)
 pub record Trials : Type 0 where
   -- The first case is "square (1,1), (−1,1), (−1,−1), (1,−1), edges 01, 12, 23, 03: 85 bytes".
   pub square-bytes : length square ≡ 85
-  pub square_reads : read_sheet square ≡ passed (quadrangle ((one ∷ one ∷ []) ∷ (neg one ∷ one ∷ []) ∷ (neg one ∷ neg one ∷ []) ∷ (one ∷ neg one ∷ []) ∷ []))
+  pub square_reads : read_sheet square ≡ Ok (quadrangle ((one ∷ one ∷ []) ∷ (neg one ∷ one ∷ []) ∷ (neg one ∷ neg one ∷ []) ∷ (one ∷ neg one ∷ []) ∷ []))
   pub square_kit : kit_text square ≡ ascii "types 2\n1 0 0 4\n2 0 0 4\nmembers 8 confirmed 8 rotations 4\n"
   -- The program's case is "input past 8,192 bytes is refused 1".
   pub long_kit : (b : List ℕ) → longest < length b → kit_text b ≡ ascii "refused 1\n"
   -- The next case is "that square, first coordinates doubled: edge types 0 and 1, two each; 4 members, 2 rotations".
-  pub doubled_reads : read_sheet doubled ≡ passed (quadrangle ((two ∷ one ∷ []) ∷ (neg two ∷ one ∷ []) ∷ (neg two ∷ neg one ∷ []) ∷ (two ∷ neg one ∷ []) ∷ []))
+  pub doubled_reads : read_sheet doubled ≡ Ok (quadrangle ((two ∷ one ∷ []) ∷ (neg two ∷ one ∷ []) ∷ (neg two ∷ neg one ∷ []) ∷ (two ∷ neg one ∷ []) ∷ []))
   pub doubled-types : types_in doubled
-      ≡ (Done 3, record { elements = (0 ∷ 0 ∷ 0 ∷ 0 ∷ 0 ∷ 1 ∷ 0 ∷ 1 ∷ []) ++ replicate 248 7; types = (1 ∷ 0 ∷ 0 ∷ 4 ∷ 2 ∷ 0 ∷ 0 ∷ 2 ∷ 2 ∷ 1 ∷ 1 ∷ 2 ∷ []) ++ replicate 1012 7 })
-  pub doubled-members : members doubled ≡ Done 4
-  pub doubled-rotations : rotations doubled ≡ Done 2
+      ≡ (Ok 3, record { elements = (0 ∷ 0 ∷ 0 ∷ 0 ∷ 0 ∷ 1 ∷ 0 ∷ 1 ∷ []) ++ replicate 248 7; types = (1 ∷ 0 ∷ 0 ∷ 4 ∷ 2 ∷ 0 ∷ 0 ∷ 2 ∷ 2 ∷ 1 ∷ 1 ∷ 2 ∷ []) ++ replicate 1012 7 })
+  pub doubled-members : members doubled ≡ Ok 4
+  pub doubled-rotations : rotations doubled ≡ Ok 2
   -- The next case is "(2,0), (0,1), (−2,0), (0,−1): vertex types two and two, one edge type; 4 members".
-  pub rhombus_reads : read_sheet rhombus ≡ passed (quadrangle ((two ∷ zero ∷ []) ∷ (zero ∷ one ∷ []) ∷ (neg two ∷ zero ∷ []) ∷ (zero ∷ neg one ∷ []) ∷ []))
+  pub rhombus_reads : read_sheet rhombus ≡ Ok (quadrangle ((two ∷ zero ∷ []) ∷ (zero ∷ one ∷ []) ∷ (neg two ∷ zero ∷ []) ∷ (zero ∷ neg one ∷ []) ∷ []))
   pub rhombus-types : types_in rhombus
-      ≡ (Done 3, record { elements = (0 ∷ 1 ∷ 0 ∷ 1 ∷ 0 ∷ 0 ∷ 0 ∷ 0 ∷ []) ++ replicate 248 7; types = (1 ∷ 0 ∷ 0 ∷ 2 ∷ 1 ∷ 1 ∷ 1 ∷ 2 ∷ 2 ∷ 0 ∷ 0 ∷ 4 ∷ []) ++ replicate 1012 7 })
-  pub rhombus-members : members rhombus ≡ Done 4
+      ≡ (Ok 3, record { elements = (0 ∷ 1 ∷ 0 ∷ 1 ∷ 0 ∷ 0 ∷ 0 ∷ 0 ∷ []) ++ replicate 248 7; types = (1 ∷ 0 ∷ 0 ∷ 2 ∷ 1 ∷ 1 ∷ 1 ∷ 2 ∷ 2 ∷ 0 ∷ 0 ∷ 4 ∷ []) ++ replicate 1012 7 })
+  pub rhombus-members : members rhombus ≡ Ok 4
   -- The next case is "R = 2 at −1 and 1: 2 members, 1 rotation."
-  pub dyad_reads : read_sheet dyad ≡ passed (segment (neg one) one)
-  pub dyad-members : members dyad ≡ Done 2
-  pub dyad-rotations : rotations dyad ≡ Done 1
+  pub dyad_reads : read_sheet dyad ≡ Ok (segment (neg one) one)
+  pub dyad-members : members dyad ≡ Ok 2
+  pub dyad-rotations : rotations dyad ≡ Ok 1
   -- The next case is "At 0 and 1: 11."
-  pub lopsided_reads : read_sheet lopsided ≡ passed (segment zero one)
-  pub lopsided-members : members lopsided ≡ Refused Flat 0
+  pub lopsided_reads : read_sheet lopsided ≡ Ok (segment zero one)
+  pub lopsided-members : members lopsided ≡ refused_with Flat 0
   -- The next case is "At −1e-7 and 1e-7: 10."
-  pub tiny_reads : read_sheet tiny ≡ passed (segment (neg ten_millionth) ten_millionth)
-  pub tiny-members : members tiny ≡ Refused Centred 0
+  pub tiny_reads : read_sheet tiny ≡ Ok (segment (neg ten_millionth) ten_millionth)
+  pub tiny-members : members tiny ≡ refused_with Centred 0
   -- The next case is "At 0 and 1e-7: 9, yet two vertex types".
-  pub close_reads : read_sheet close ≡ passed (segment zero ten_millionth)
-  pub close-members : members close ≡ Refused DoubleCorner 0
+  pub close_reads : read_sheet close ≡ Ok (segment zero ten_millionth)
+  pub close-members : members close ≡ refused_with DoubleCorner 0
   pub close-types : types_in close
-      ≡ (Done 2, record { elements = (0 ∷ 1 ∷ []) ++ replicate 254 7; types = (1 ∷ 0 ∷ 0 ∷ 1 ∷ 1 ∷ 1 ∷ 1 ∷ 1 ∷ []) ++ replicate 1016 7 })
+      ≡ (Ok 2, record { elements = (0 ∷ 1 ∷ []) ++ replicate 254 7; types = (1 ∷ 0 ∷ 0 ∷ 1 ∷ 1 ∷ 1 ∷ 1 ∷ 1 ∷ []) ++ replicate 1016 7 })
   -- "R = 1: no types; search 8" holds of every accepted sheet of that rank, on any workspace of at least 64 words and 64 floats, with any outputs.
   -- The second field says what `kit` prints for such a sheet.
-  pub rank-one_calls : (b : List ℕ) (p : Parsed) → read_sheet b ≡ passed p → p.rank ≡ 1 → (words floats : ℕ) → 64 ≤ words → 64 ≤ floats → NoProperRank b words floats
-  pub rank-one_kit : (b : List ℕ) (p : Parsed) → read_sheet b ≡ passed p → p.rank ≡ 1 → kit_text b ≡ ascii "types 0\nrefused 8\n"
+  pub rank-one_calls : (b : List ℕ) (p : Parsed) → read_sheet b ≡ Ok p → p.rank ≡ 1 → (words floats : ℕ) → 64 ≤ words → 64 ≤ floats → NoProperRank b words floats
+  pub rank-one_kit : (b : List ℕ) (p : Parsed) → read_sheet b ≡ Ok p → p.rank ≡ 1 → kit_text b ≡ ascii "types 0\nrefused 8\n"
   -- The sheet of the one vertex (1,2) is among them.
-  pub single_reads : read_sheet single ≡ passed (record { rank = 1; dimension = 2; counts = []; points = (one ∷ two ∷ []) ∷ []; lists = [] })
-  pub single-types : types_in single ≡ (Done 0, types_lent)
-  pub single-members : members single ≡ Refused NotFull 0
+  pub single_reads : read_sheet single ≡ Ok (record { rank = 1; dimension = 2; counts = []; points = (one ∷ two ∷ []) ∷ []; lists = [] })
+  pub single-types : types_in single ≡ (Ok 0, types_lent)
+  pub single-members : members single ≡ refused_with NotFull 0
   -- The case of roots is "root of 4 is 2; of 2 is 0x3FF6A09E667F3BCD".
   pub root-of_4 : root four ≡ two
   pub root-of_2 : root two ≡ of_bits binary64 0x3FF6_A09E_667F_3BCD
   -- The cases of copying are "under the 48, (1,0,0) has 6 copies, (1,1,1) 8, (1,2,3) 48. A quarter turn alone on (1,0): 14".
-  pub six_copies : copies 3 6 (one ∷ zero ∷ zero ∷ []) turns48 ≡ Done 6
-  pub eight_copies : copies 3 8 (one ∷ one ∷ one ∷ []) turns48 ≡ Done 8
-  pub forty_eight_copies : copies 3 48 (one ∷ two ∷ three ∷ []) turns48 ≡ Done 48
-  pub quarter_turn : copies 2 1 (one ∷ zero ∷ []) (zero ∷ neg one ∷ one ∷ zero ∷ []) ≡ Refused Open 1
+  pub six_copies : copies 3 6 (one ∷ zero ∷ zero ∷ []) turns48 ≡ Ok 6
+  pub eight_copies : copies 3 8 (one ∷ one ∷ one ∷ []) turns48 ≡ Ok 8
+  pub forty_eight_copies : copies 3 48 (one ∷ two ∷ three ∷ []) turns48 ≡ Ok 48
+  pub quarter_turn : copies 2 1 (one ∷ zero ∷ []) (zero ∷ neg one ∷ one ∷ zero ∷ []) ≡ refused_with Open 1
 
 pub trials : Trials
 unfolding evaluate all

@@ -5,7 +5,7 @@ ghost use Rattle.std.specs.Prelude.{◌≡◌, [], ◌∷◌, map, length};
 ghost use Rattle.std.specs.Float.{binary64};
 ghost use Rattle.std.specs.Float.Ieee.{of_bits, neg};
 ghost use Rattle.spec.specs.declared.Refusal.TheVariants.{Open};
-ghost use Rattle.spec.specs.declared.Answer.TheVariants.{Done, Refused};
+ghost use Rattle.spec.specs.Refusal.{refused_with};
 ghost use Rattle.spec.specs.Lists.{join};
 ghost use Rattle.spec.specs.Float.{zero_f, one_f};
 ghost use Rattle.spec.specs.Copying.{axis_orders, copy_call};
@@ -43,9 +43,9 @@ fn copies_of(point: [f64; 3], copies: &mut [f64], cells: &mut [u16]) -> Answer
 // Copies (1,0,0) under the 48, with room for just the 6 copies.
 pub fn six_copies(copies: &mut [f64], cells: &mut [u16]) -> Answer
     requires { (length copies.old ≡ 18) × (length cells.old ≡ 288) }
-    ensures cells_after { (result, copies.new, cells.new)
+    ensures as_defined { (result, copies.new, cells.new)
         ≡ copy_call 3 (one_f ∷ zero_f ∷ zero_f ∷ []) (join (join axis_orders)) copies.old cells.old }
-    ensures value { result ≡ Done 6 }
+    ensures value { result ≡ Ok 6 }
 {
     let point = [1.0, 0.0, 0.0];
     copies_of(point, copies, cells)
@@ -54,9 +54,9 @@ pub fn six_copies(copies: &mut [f64], cells: &mut [u16]) -> Answer
 // Copies (1,1,1) under the 48, with room for just the 8 copies.
 pub fn eight_copies(copies: &mut [f64], cells: &mut [u16]) -> Answer
     requires { (length copies.old ≡ 24) × (length cells.old ≡ 384) }
-    ensures cells_after { (result, copies.new, cells.new)
+    ensures as_defined { (result, copies.new, cells.new)
         ≡ copy_call 3 (one_f ∷ one_f ∷ one_f ∷ []) (join (join axis_orders)) copies.old cells.old }
-    ensures value { result ≡ Done 8 }
+    ensures value { result ≡ Ok 8 }
 {
     let point = [1.0, 1.0, 1.0];
     copies_of(point, copies, cells)
@@ -65,10 +65,10 @@ pub fn eight_copies(copies: &mut [f64], cells: &mut [u16]) -> Answer
 // Copies (1,2,3) under the 48, with room for just the 48 copies.
 pub fn forty_eight_copies(copies: &mut [f64], cells: &mut [u16]) -> Answer
     requires { (length copies.old ≡ 144) × (length cells.old ≡ 2304) }
-    ensures cells_after { (result, copies.new, cells.new)
+    ensures as_defined { (result, copies.new, cells.new)
         ≡ copy_call 3 (map (of_bits binary64) (0x3ff0_0000_0000_0000 ∷ 0x4000_0000_0000_0000 ∷ 0x4008_0000_0000_0000 ∷ []))
         (join (join axis_orders)) copies.old cells.old }
-    ensures value { result ≡ Done 48 }
+    ensures value { result ≡ Ok 48 }
 {
     let point = [1.0, 2.0, 3.0];
     copies_of(point, copies, cells)
@@ -77,9 +77,9 @@ pub fn forty_eight_copies(copies: &mut [f64], cells: &mut [u16]) -> Answer
 // Copies (1,0) under a quarter turn alone, with room for the one copy. The image of that copy is not among the copies.
 pub fn quarter_turn_alone(copies: &mut [f64], cells: &mut [u16]) -> Answer
     requires { (length copies.old ≡ 2) × (length cells.old ≡ 48) }
-    ensures cells_after { (result, copies.new, cells.new)
+    ensures as_defined { (result, copies.new, cells.new)
         ≡ copy_call 2 (one_f ∷ zero_f ∷ []) (zero_f ∷ neg one_f ∷ one_f ∷ zero_f ∷ []) copies.old cells.old }
-    ensures value { result ≡ Refused Open 1 }
+    ensures value { result ≡ refused_with Open 1 }
 {
     let point = [1.0, 0.0];
     let turn = [0.0, -1.0, 1.0, 0.0];

@@ -1,8 +1,8 @@
 -- The call goes by its outcomes.
 -- Assumes nothing.
+use Rattle.std.specs.Prelude.{Err, None, Ok, Option, Some}
 use mathlib.Core.Path.{◌≡◌, refl, sym, ap, ◌∙◌}
 use mathlib.Core.Bool.{Bool, true, false, ◌&&◌}
-use mathlib.Core.Option.{Option, none, some}
 use mathlib.Core.List.{List, [], ◌∷◌, map}
 use Prim.Native.Nat.{ℕ, ◌+◌, ◌*◌, ◌≤◌, ◌<◌}
 use native.Mathlib.Omega.{arith}
@@ -11,12 +11,10 @@ use lib.Dec.{eqb, leb}
 use lib.ListN.{length, length-append, length-map}
 use Rattle.spec.specs.declared.Refusal.{Refusal}
 use Rattle.spec.specs.declared.Refusal.TheVariants.{ShortSheet, Unsettled}
-use Rattle.spec.specs.declared.Answer.{Answer}
-use Rattle.spec.specs.declared.Answer.TheVariants.{Done, Refused}
+use Rattle.spec.specs.Refusal.{Answer, refused_with}
 use Rattle.spec.specs.Lists.{distinct, sum, join, written}
 use Rattle.spec.specs.Types.{Solid, State, types_at, size, proper_ranks, elements, type_count, given, element_types_at, element_types}
 use Rattle.spec.specs.Judged as Judging
-use Rattle.spec.specs.Judged.{refused, passed}
 use Rattle.spec.specs.Solid.{Concrete, preflight}
 use Rattle.spec.specs.Classes.{types_of}
 use Rattle.spec.specs.Calls.{Given, type_cells, TypesOut, types_given, types_written, types_call}
@@ -34,11 +32,11 @@ use Rattle.types.proofs.Ranks.{proper-low, types_in_lem, given_long}
 -- ---- the tails
 
 module _ (b : List ℕ) (words floats : ℕ) (old : TypesOut) where
-  pub call-refused : (why : Refusal) → preflight b words floats ≡ refused why → types_call b words floats old ≡ (Refused why 0, old)
+  pub call-refused : (why : Refusal) → preflight b words floats ≡ Err why → types_call b words floats old ≡ (refused_with why 0, old)
   unfolding types_call types_given types_written Judging.◌>>=◌
   call-refused why p = rw p refl
 
-  pub call_passed : (c : Concrete) → preflight b words floats ≡ passed c → types_call b words floats old ≡ answered c old
+  pub call_passed : (c : Concrete) → preflight b words floats ≡ Ok c → types_call b words floats old ≡ answered c old
   unfolding types_call types_given types_written answered handed_out Judging.◌>>=◌ Judging.◌>>◌ Judging.wanted Judging.judge
   call_passed c p = rw p (go (types_of c))
     where
@@ -46,11 +44,11 @@ module _ (b : List ℕ) (words floats : ℕ) (old : TypesOut) where
       out z = record { elements = given c.abs z; types = element_types c.abs z }
 
       last : (z : State) (t : Bool)
-          → types_written (Judging.◌>>◌ (Judging.judge ShortSheet t) (passed (out z))) old
+          → types_written (Judging.◌>>◌ (Judging.judge ShortSheet t) (Ok (out z))) old
           ≡ elim t as (λ _. Answer × TypesOut) [
-            | false ↦ (Refused ShortSheet 0, old)
+            | false ↦ (refused_with ShortSheet 0, old)
             | true ↦ (
-              Done (length (element_types c.abs z)),
+              Ok (length (element_types c.abs z)),
               record { elements = written (given c.abs z) old.elements; types = written (join (map type_cells (element_types c.abs z))) old.types },
             )
           ]
@@ -60,18 +58,18 @@ module _ (b : List ℕ) (words floats : ℕ) (old : TypesOut) where
       go : (o : Option State)
           → types_written
           (Judging.◌>>=◌ (Judging.wanted Unsettled o)
-          (λ z. Judging.◌>>◌ (Judging.judge ShortSheet (leb (length (given c.abs z)) (length old.elements) && leb (4 * length (element_types c.abs z)) (length old.types))) (passed (out z))))
+          (λ z. Judging.◌>>◌ (Judging.judge ShortSheet (leb (length (given c.abs z)) (length old.elements) && leb (4 * length (element_types c.abs z)) (length old.types))) (Ok (out z))))
           old
-          ≡ elim o as (λ _. Answer × TypesOut) [ none ↦ (Refused Unsettled 0, old) | some z ↦ handed_out c.abs z old ]
-      go none = refl
-      go (some z) = last z (leb (length (given c.abs z)) (length old.elements) && leb (4 * length (element_types c.abs z)) (length old.types))
+          ≡ elim o as (λ _. Answer × TypesOut) [ None ↦ (refused_with Unsettled 0, old) | Some z ↦ handed_out c.abs z old ]
+      go None = refl
+      go (Some z) = last z (leb (length (given c.abs z)) (length old.elements) && leb (4 * length (element_types c.abs z)) (length old.types))
 
 module _ (c : Concrete) (old : TypesOut) where
-  pub unsettled : types_of c ≡ none → answered c old ≡ (Refused Unsettled 0, old)
+  pub unsettled : types_of c ≡ None → answered c old ≡ (refused_with Unsettled 0, old)
   unfolding answered
   unsettled e = rw (e, answered) refl
 
-  pub settled : (z : State) → types_of c ≡ some z → answered c old ≡ handed_out c.abs z old
+  pub settled : (z : State) → types_of c ≡ Some z → answered c old ≡ handed_out c.abs z old
   unfolding answered
   settled z e = rw (e, answered) refl
 
@@ -110,7 +108,7 @@ module _ (sh : Shape) (w : List ℕ) (a : Countable sh w) (old : TypesOut) where
   elements-counted : length (given s z) ≡ proper sh
   elements-counted = given_long sh w a
 
-  pub short_elements : length old.elements < proper sh → (Refused ShortSheet 0, old) ≡ handed_out s z old
+  pub short_elements : length old.elements < proper sh → (refused_with ShortSheet 0, old) ≡ handed_out s z old
   unfolding handed_out
   short_elements h =
       let e : leb (length (given s z)) (length old.elements) ≡ false = lt-leb (length (given s z)) (length old.elements) (omega (arith, elements-counted)) in
@@ -120,7 +118,7 @@ module _ (sh : Shape) (w : List ℕ) (a : Countable sh w) (old : TypesOut) where
     fits : leb (length (given s z)) (length old.elements) ≡ true
     fits = le-leb (length (given s z)) (length old.elements) (omega (arith, elements-counted))
 
-    pub short_types : length old.types < 4 * type_count s z → (Refused ShortSheet 0, old) ≡ handed_out s z old
+    pub short_types : length old.types < 4 * type_count s z → (refused_with ShortSheet 0, old) ≡ handed_out s z old
     unfolding handed_out
     short_types k =
         let e : leb (4 * length (element_types s z)) (length old.types) ≡ false = lt-leb (4 * length (element_types s z)) (length old.types) (omega (arith, types-counted s z)) in
@@ -128,7 +126,7 @@ module _ (sh : Shape) (w : List ℕ) (a : Countable sh w) (old : TypesOut) where
 
     pub all_handed : 4 * type_count s z ≤ length old.types → (n : ℕ) → n ≡ type_count s z → (of table : List ℕ)
         → of ≡ written (given s z) old.elements → table ≡ written (join (map type_cells (element_types s z))) old.types
-        → (Done n, record { elements = of; types = table }) ≡ handed_out s z old
+        → (Ok n, record { elements = of; types = table }) ≡ handed_out s z old
     unfolding handed_out
     all_handed k n e of table p q =
         let f : leb (4 * length (element_types s z)) (length old.types) ≡ true = le-leb (4 * length (element_types s z)) (length old.types) (omega (arith, types-counted s z)) in

@@ -1,5 +1,6 @@
 -- Demand 3's theorem about the calls is carried over to the cells that a types call writes.
 -- Assumes nothing.
+use Rattle.std.specs.Prelude.{Ok}
 use mathlib.Core.Path.{◌≡◌, sym, ap, ◌∙◌}
 use mathlib.Core.List.{List, ◌++◌, map, append_assoc}
 use Prim.Native.Nat.{ℕ, zero, suc, ◌+◌, ◌-◌, ◌<◌}
@@ -7,8 +8,7 @@ use native.Mathlib.Omega.{arith}
 use native.Mathlib.Nat.{add-zero}
 use lib.ListN.{length, get_or, drop, get_or-append}
 use lib.Seq.{get_or-append-add}
-use Rattle.spec.specs.declared.Answer.{Answer}
-use Rattle.spec.specs.declared.Answer.TheVariants.{Done}
+use Rattle.spec.specs.Refusal.{Answer}
 use Rattle.spec.specs.Lists.{range, sum, join, written}
 use Rattle.spec.specs.Mark.{goes}
 use Rattle.spec.specs.Types.{Solid, top, size, proper_ranks, State, types_at, type_of, given}
@@ -65,7 +65,7 @@ demand3_outputs b words floats old new n done =
     let d = demand3_calls b words floats old n (sym (ap (λ (x : Answer × TypesOut). x.0) done)) in
     let s = d.solid.abs in
     let at : (r e : ℕ) → Proper s r → e < size s r → type_cell s new.elements r e ≡ type_of d.result r e =
-    call-cell b words floats old new n (Done n) done d in
+    call-cell b words floats old new n (Ok n) done d in
     record {
       solid = d.solid;
       read = d.read;
@@ -82,5 +82,5 @@ demand3_outputs b words floats old new n done =
 
 -- The call's contract makes both claims whatever its answer is.
 pub told : (b : List ℕ) (words floats : ℕ) (old new : TypesOut) (r : Answer) → (r, new) ≡ types_call b words floats old
-    → ((r, new) ≡ types_call b words floats old) × ((n : ℕ) → r ≡ Done n → Demand3Cells b words floats new.elements)
+    → ((r, new) ≡ types_call b words floats old) × ((n : ℕ) → r ≡ Ok n → Demand3Cells b words floats new.elements)
 told b words floats old new r e = (e, λ n done. demand3_outputs b words floats old new n (ap (λ (x : Answer). (x, new)) (sym done) ∙ e))

@@ -1,7 +1,7 @@
 -- A call can count only so many types.
 -- Assumes nothing.
+use Rattle.std.specs.Prelude.{Err, Ok, Some}
 use mathlib.Core.Path.{◌≡◌, refl, ap}
-use mathlib.Core.Option.{some}
 use mathlib.Core.List.{List}
 use Prim.Native.Nat.{ℕ, ◌-◌, ◌*◌, ◌≤◌}
 use native.Mathlib.Omega.{arith}
@@ -11,7 +11,7 @@ use Rattle.spec.specs.Limits.{max_rank, max_count}
 use Rattle.spec.specs.Refusal.{answer_count}
 use Rattle.spec.specs.Lists.{distinct, range}
 use Rattle.spec.specs.Types.{State, types_at, top, proper_ranks, type_count, element_types}
-use Rattle.spec.specs.Judged.{Judged, refused, passed}
+use Rattle.spec.specs.Judged.{Judged}
 use Rattle.spec.specs.Solid.{Concrete, preflight}
 use Rattle.spec.specs.Classes.{types_of}
 use Rattle.spec.specs.Calls.{Given, TypesOut, types_given, types_written, types_call}
@@ -24,7 +24,7 @@ use Rattle.types.proofs.Rows.{many_few}
 use Rattle.types.proofs.Call.{types-counted}
 
 -- A proper rank has no more types than elements.
-types-at-most : (b : List ℕ) (words floats : ℕ) (c : Concrete) (z : State) → preflight b words floats ≡ passed c → types_of c ≡ some z → length (element_types c.abs z) ≤ (max_rank - 1) * max_count
+types-at-most : (b : List ℕ) (words floats : ℕ) (c : Concrete) (z : State) → preflight b words floats ≡ Ok c → types_of c ≡ Some z → length (element_types c.abs z) ≤ (max_rank - 1) * max_count
 unfolding type_count proper_ranks
 types-at-most b words floats c z p e =
     let s = c.abs in
@@ -39,7 +39,7 @@ unfolding types_call types_written
 call-count b words floats old = go (types_given b words floats (length old.elements) (length old.types)) refl
   where
     go : (j : Judged Given) → types_given b words floats (length old.elements) (length old.types) ≡ j → answer_count (types_written j old).0 ≤ (max_rank - 1) * max_count
-    go (refused why) q = omega arith
-    go (passed g) q =
+    go (Err why) q = omega arith
+    go (Ok g) q =
         let h = behind b words floats (length old.elements) (length old.types) g q in
         omega (arith, ap (λ (x : Given). length x.types) h.out, types-at-most b words floats h.solid h.result h.read h.ended)

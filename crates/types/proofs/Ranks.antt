@@ -9,7 +9,7 @@ use native.Mathlib.Numerals.{add-one}
 use native.Mathlib.Nat.{add-zero}
 use lib.Dec.{eqb}
 use lib.ListN.{length, get_or, take, drop, set, length-append, length-take, length-drop, length-map}
-use lib.Seq.{sets, length-sets, take-add, take-suc, take_all, drop-drop, get_or-take, get_or-drop, length-take-le}
+use lib.Seq.{sets, length-sets, take-add, take-suc, take_all, drop-drop, length-take-le}
 use Rattle.spec.specs.Limits.{max_count}
 use Rattle.spec.specs.Lists.{In, distinct, range, join, written}
 use Rattle.spec.specs.Types.{Solid, State, types_at, proper_ranks, elements, type_count, given, ElementType, element_types_at, element_types, in_use}
@@ -24,7 +24,7 @@ use Rattle.ranked.proofs.Solids.{top_is, size_is, in_order_lem}
 use Rattle.ranked.proofs.Counted.{proper_is}
 use Rattle.element_types.specs.State.{types_in, state_in, Countable}
 use Rattle.element_types.proofs.Scanned.{table_snoc}
-use Rattle.element_types.proofs.Tallied.{counts_all, TypesTally, tally_first, run_in, run_numbered, tally_next, tally_end}
+use Rattle.element_types.proofs.Tallied.{counts_all, TypesTally, tally_first, run_long, run_numbered, tally_next, tally_end}
 use Rattle.types.specs.Cells.{cells_of, Listable}
 use Rattle.types.proofs.Sets.{join-append, sets_append, sets_written}
 use Rattle.types.proofs.Rows.{order_low, cells_in, cells-append}
@@ -38,13 +38,9 @@ of-join {A} g x (r ∷ l) h = go (in_either x (g r) (join (map g l)) h) (λ (m :
     go (inl m) ih = (r, inl refl, m)
     go (inr m) ih = let z = ih m in (z.0, inr z.1, z.2)
 
--- Of the n types that stand from word `from`, k are written.
-pub record Copied (w : List ℕ) (from n : ℕ) (old of : List ℕ) (k : ℕ) : Type 0 where
-  pub bound : k ≤ n
-  pub cells : of ≡ sets old 0 (take k (take n (drop from w)))
-
-pub copied-first : (w : List ℕ) (from n : ℕ) (old : List ℕ) → Copied w from n old old 0
-copied-first w from n old = record { bound = omega arith; cells = refl }
+-- The first k types of l are written.
+abbrev pub Copied : List ℕ → List ℕ → List ℕ → ℕ → Type 0
+Copied l old of k = of ≡ sets old 0 (take k l)
 
 module _ (sh : Shape) (w : List ℕ) where
   abbrev pub cells_at : ℕ → List ℕ
@@ -136,51 +132,40 @@ module _ (sh : Shape) (w : List ℕ) (a : Countable sh w) where
       omega (arith, order_low (types_at z j.0) n.first t j.2, n.each, size_is sh (lists_of sh w) j.0 (omega (arith, b)), a.held.few j.0 (omega (arith, b)))
 
   module _ (old : List ℕ) (room : elements s ≤ length old) (n from : ℕ) (e : n ≡ proper sh) (f : from ≡ layout.types_at sh 1) where
+    -- These are the types, as a slice of the words has them.
     abbrev run : List ℕ
-    run = take n (drop from w)
+    run = take (from + n - from) (drop from w)
 
     pub run_in_words : from + n ≤ length w
     run_in_words = omega (arith, types_in_lem)
 
-    run_long : length run ≡ n
-    run_long = simp (length-take, length-drop) (omega (arith, run_in_words))
+    run_many : length run ≡ n
+    run_many = simp (length-take, length-drop) (omega (arith, run_in_words))
 
     run_is : ts ≡ run
-    run_is = given-run ∙ ap₂ (λ (k b : ℕ). take k (drop b w)) (sym e) (sym f)
+    run_is = let q : n ≡ from + n - from = omega arith in
+        given-run ∙ ap₂ (λ (k b : ℕ). take k (drop b w)) (sym e ∙ q) (sym f)
 
-    pub cells_in_lem : n ≤ length old
-    cells_in_lem = omega (arith, proper_is sh (lists_of sh w) a.held)
+    pub cells_in_lem : length run ≤ length old
+    cells_in_lem = omega (arith, run_many, proper_is sh (lists_of sh w) a.held)
 
-    module _ (of : List ℕ) (k : ℕ) (i : Copied w from n old of k) where
-      pub copied_long : length of ≡ length old
-      copied_long = ap length i.cells ∙ length-sets old 0 (take k run)
-
-      pub copied-end : n ≤ k → of ≡ written ts old
+    module _ (of : List ℕ) (k : ℕ) (i : Copied run old of k) where
+      pub copied-end : length run ≤ k → of ≡ written ts old
       copied-end h =
-          i.cells ∙ ap (sets old 0) (take_all k run (omega (arith, run_long))) ∙ sets_written old run (omega (arith, run_long, cells_in_lem))
+          i ∙ ap (sets old 0) (take_all k run h) ∙ sets_written old run cells_in_lem
           ∙ ap (λ (l : List ℕ). written l old) (sym run_is)
 
-      module _ (h : k < n) (t : ℕ) (read : t ≡ get_or w (from + k) 0) where
-        here : get_or run k 0 ≡ t
-        here = get_or-take n (drop from w) k 0 h ∙ get_or-drop from w k 0 ∙ sym read
+      module _ (h : k < length run) where
+        pub copied_small : get_or run k 0 < max_count
+        copied_small = given_small (get_or run k 0) (rw run_is (in_get_d 0 run k h))
 
-        pub copied_small : t < max_count
-        copied_small = given_small t (rw run_is (rw here at (in_get_d 0 run k (omega (arith, run_long)))))
-
-        more : take (k + 1) run ≡ take k run ++ get_or run k 0 ∷ []
-        more = rw add-one (take-suc run k 0 (omega (arith, run_long)))
-
-        pub copied_next : Copied w from n old (set of k t) (k + 1)
+        pub copied_next : Copied run old (set of k (get_or run k 0)) (k + 1)
         copied_next =
-            let m : length (take k run) ≡ k = length-take-le k run (omega (arith, run_long)) in
+            let m : length (take k run) ≡ k = length-take-le k run (omega arith) in
             let q : k ≡ 0 + length (take k run) = omega arith in
-            record {
-              bound = omega arith;
-              cells =
-                  ap₂ (λ (x : List ℕ) (y : ℕ). set x y t) i.cells q
-                  ∙ sym (sets_append old 0 (take k run) (t ∷ []))
-                  ∙ ap (sets old 0) (ap (λ (x : ℕ). take k run ++ x ∷ []) (sym here) ∙ sym more);
-            }
+            let more : take (k + 1) run ≡ take k run ++ get_or run k 0 ∷ [] = rw add-one (take-suc run k 0 h) in
+            ap₂ (λ (x : List ℕ) (y : ℕ). set x y (get_or run k 0)) i q
+            ∙ sym (sets_append old 0 (take k run) (get_or run k 0 ∷ [])) ∙ ap (sets old 0) (sym more)
 
   -- ---- the types
 
@@ -212,25 +197,30 @@ module _ (sh : Shape) (w : List ℕ) (a : Countable sh w) where
     -- In the code's terms, the types of the rank's n elements stand from word `from` on.
     module _ (table : List ℕ) (m r : ℕ) (i : RanksTabled sh w old table m r) (h : r < sh.rank) (from n : ℕ) (f : from ≡ layout.types_at sh r) (e : n ≡ size_at sh r) where
       abbrev l : List ℕ
-      l = take n (drop from w)
+      l = take (from + n - from) (drop from w)
 
-      pub listable : Listable w from n r (length table) m
+      l_is : l ≡ types_in sh w r
+      unfolding types_in
+      l_is =
+          let q : from + n - from ≡ n = omega arith in
+          ap (λ (k : ℕ). take k (drop from w)) q ∙ rw (f, e) refl
+
+      pub listable : Listable l r (length table) m
       listable = record {
-        inside = run_in sh w a m r i.tally h from n f e;
         order = run_numbered sh w a m r i.tally h from n f e;
-        few = rw e (a.held.few r (omega arith));
+        few = rw (run_long sh w a m r i.tally h from n f e, e) (a.held.few r (omega arith));
         low = omega (arith, a.held.tall);
         room = omega (arith, (tally_next sh w a m r i.tally h from n f e (length (distinct eqb l)) refl).rest, counts_all sh w, tabled_long table m r i);
       }
 
       cells_more : cells_below sh w (r + 1) ≡ cells_below sh w r ++ cells_of r l
-      unfolding cells_below types_in join
+      unfolding cells_below join
       cells_more =
           let p : r + 1 - 1 ≡ suc (r - 1) = omega (arith, i.tally.proper) in
           ap (λ (k : ℕ). join (map (cells_at sh w) (range 1 k))) p
           ∙ ap join (table_snoc (cells_at sh w) 1 (r - 1) r (omega (arith, i.tally.proper)))
           ∙ join-append (map (cells_at sh w) (range 1 (r - 1))) ((cells_at sh w) r ∷ [])
-          ∙ ap (λ (x : List ℕ). cells_below sh w r ++ x) (append-nil ((cells_at sh w) r) ∙ rw (f, e) refl)
+          ∙ ap (λ (x : List ℕ). cells_below sh w r ++ x) (append-nil ((cells_at sh w) r) ∙ ap (cells_of r) (sym l_is))
 
       cells_long : length (cells_of r l) ≡ 4 * length (distinct eqb l)
       unfolding cells_of

@@ -9,8 +9,8 @@ use native.Mathlib.Omega.{arith}
 use native.Mathlib.Numerals.{add-one}
 use native.Mathlib.Decide.{ℕ_discrete}
 use lib.Dec.{eqb}
-use lib.ListN.{length, get_or, take, drop, set, length-append, length-take, length-drop, length-set, take-append-drop, get_or-append}
-use lib.Seq.{sets, length-sets, take-suc, take_all, get_or-take, get_or-drop, get_or-set_same, get_or-set_other, ext_get_or, append_snoc, get_or-append_seam, length-take-le}
+use lib.ListN.{length, get_or, take, drop, set, length-append, length-set, take-append-drop, get_or-append}
+use lib.Seq.{sets, length-sets, take-suc, take_all, get_or-set_same, get_or-set_other, ext_get_or, append_snoc, get_or-append_seam, length-take-le}
 use Rattle.spec.specs.Limits.{max_count}
 use Rattle.spec.specs.Lists.{In, distinct, place, count, range, join}
 use Rattle.spec.specs.Types.{ElementType}
@@ -217,41 +217,34 @@ cells-all r l o = ap (λ (d : List ℕ). cells_in (map (describe r l) d)) (sym o
 
 -- ---- the pass
 
--- Of the n elements, e were passed, and they have the types below k.
-pub record Rows (w : List ℕ) (from n r m : ℕ) (old table : List ℕ) (k e : ℕ) : Type 0 where
-  pub bound : e ≤ n
-  pub met : k ≡ length (distinct eqb (take e (take n (drop from w))))
-  pub cells : table ≡ sets old (4 * m) (cells_to r (take n (drop from w)) (take e (take n (drop from w))) k)
+-- Of the elements with the types l, e were passed, and they have the types below k.
+pub record Rows (l : List ℕ) (r m : ℕ) (old table : List ℕ) (k e : ℕ) : Type 0 where
+  pub met : k ≡ length (distinct eqb (take e l))
+  pub cells : table ≡ sets old (4 * m) (cells_to r l (take e l) k)
 
-pub rows-first : (w : List ℕ) (from n r m : ℕ) (old : List ℕ) → Rows w from n r m old old 0 0
+pub rows-first : (l : List ℕ) (r m : ℕ) (old : List ℕ) → Rows l r m old old 0 0
 unfolding cells_to distinct range join
-rows-first w from n r m old = record { bound = omega arith; met = refl; cells = refl }
+rows-first l r m old = record { met = refl; cells = refl }
 
-module _ (w : List ℕ) (from n r m : ℕ) (old : List ℕ) (a : Listable w from n r (length old) m) where
-  abbrev l : List ℕ
-  l = take n (drop from w)
-
-  l_long : length l ≡ n
-  l_long = simp (length-take, length-drop) (omega (arith, a.inside))
-
-  pub rows_end : (table : List ℕ) (k e : ℕ) → Rows w from n r m old table k e → n ≤ e → (k ≡ length (distinct eqb l)) × (table ≡ sets old (4 * m) (cells_of r l))
+module _ (l : List ℕ) (r m : ℕ) (old : List ℕ) (a : Listable l r (length old) m) where
+  pub rows_end : (table : List ℕ) (k e : ℕ) → Rows l r m old table k e → length l ≤ e → (k ≡ length (distinct eqb l)) × (table ≡ sets old (4 * m) (cells_of r l))
   rows_end table k e i h =
-      let z : take e l ≡ l = take_all e l (omega (arith, l_long)) in
+      let z : take e l ≡ l = take_all e l h in
       let q : k ≡ many l = i.met ∙ ap many z in
       (q, i.cells ∙ ap₂ (λ (y : List ℕ) (x : ℕ). sets old (4 * m) (cells_to r l y x)) z q ∙ ap (sets old (4 * m)) (cells-all r l a.order))
 
-  pub rows_long : (table : List ℕ) (k e : ℕ) → Rows w from n r m old table k e → length table ≡ length old
+  pub rows_long : (table : List ℕ) (k e : ℕ) → Rows l r m old table k e → length table ≡ length old
   rows_long table k e i = ap length i.cells ∙ length-sets old (4 * m) (cells_to r l (take e l) k)
 
-  module _ (table : List ℕ) (k e : ℕ) (i : Rows w from n r m old table k e) (h : e < n) (t : ℕ) (read : t ≡ get_or w (from + e) 0) where
+  module _ (table : List ℕ) (k e : ℕ) (i : Rows l r m old table k e) (h : e < length l) where
+    abbrev t : ℕ
+    t = get_or l e 0
+
     abbrev p : List ℕ
     p = take e l
 
-    here : get_or l e 0 ≡ t
-    here = get_or-take n (drop from w) e 0 h ∙ get_or-drop from w e 0 ∙ sym read
-
     grows : take (e + 1) l ≡ p ++ t ∷ []
-    grows = rw add-one (take-suc l e 0 (omega (arith, l_long))) ∙ ap (λ (x : ℕ). p ++ x ∷ []) here
+    grows = rw add-one (take-suc l e 0 h)
 
     parts : l ≡ (p ++ t ∷ []) ++ drop (e + 1) l
     parts = sym (take-append-drop (e + 1) l) ∙ ap (λ (x : List ℕ). x ++ drop (e + 1) l) grows
@@ -269,16 +262,13 @@ module _ (w : List ℕ) (from n r m : ℕ) (old : List ℕ) (a : Listable w from
     order_p = front_order p (t ∷ []) order
 
     p_long : length p ≡ e
-    p_long = length-take-le e l (omega (arith, l_long))
+    p_long = length-take-le e l (omega arith)
 
     few : k ≤ many l
     few = omega (arith, i.met, front_few p (t ∷ []) order, few_more)
 
     pub type_small : t < max_count
-    type_small = omega (arith, order_low l a.order t (rw here at (in_get_d 0 l e (omega (arith, l_long)))), l_long, a.few)
-
-    pub record_in : 4 * (m + k) ≤ length old
-    record_in = omega (arith, few, a.room)
+    type_small = omega (arith, order_low l a.order t (in_get_d 0 l e h), a.few)
 
     module _ (c : t ≡ k) where
       new : ¬ In t p
@@ -290,16 +280,15 @@ module _ (w : List ℕ) (from n r m : ℕ) (old : List ℕ) (a : Listable w from
       pub record_fits : 4 * (m + k) + 4 ≤ length table
       record_fits = omega (arith, one_more, few_more, i.met, a.room, rows_long table k e i)
 
-      pub rows_new : Rows w from n r m old (sets table (4 * (m + k)) (r ∷ t ∷ e ∷ 1 ∷ [])) (k + 1) (e + 1)
+      pub rows_new : Rows l r m old (sets table (4 * (m + k)) (r ∷ t ∷ e ∷ 1 ∷ [])) (k + 1) (e + 1)
       rows_new = record {
-        bound = omega arith;
         met = omega (arith, ap many grows, one_more, i.met);
         cells =
             let s = cells_to r l p k in
             let q : 4 * (m + k) ≡ 4 * m + length s = omega (arith, length-cells r l p k) in
             ap₂ (λ (x : List ℕ) (y : ℕ). sets x y (r ∷ t ∷ e ∷ 1 ∷ [])) i.cells q
             ∙ sym (sets_append old (4 * m) s (r ∷ t ∷ e ∷ 1 ∷ []))
-            ∙ ap (sets old (4 * m)) (ap (λ (x : ℕ). s ++ (r ∷ x ∷ e ∷ 1 ∷ [])) c ∙ sym (cells_new r l p k e (rw (← c) (place-first l e t (omega (arith, l_long)) here new)) (rw (← c) new)))
+            ∙ ap (sets old (4 * m)) (ap (λ (x : ℕ). s ++ (r ∷ x ∷ e ∷ 1 ∷ [])) c ∙ sym (cells_new r l p k e (rw (← c) (place-first l e t h refl new)) (rw (← c) new)))
             ∙ ap (λ (x : List ℕ). sets old (4 * m) (cells_to r l x (k + 1))) (ap (λ (x : ℕ). p ++ x ∷ []) (sym c) ∙ sym grows);
       }
 
@@ -329,9 +318,8 @@ module _ (w : List ℕ) (from n r m : ℕ) (old : List ℕ) (a : Listable w from
       pub count_small : get_or table (4 * (m + t) + 3) 0 < max_count
       count_small = omega (arith, counted, count_few t p, p_long, a.few)
 
-      pub rows_old : Rows w from n r m old (set table (4 * (m + t) + 3) (get_or table (4 * (m + t) + 3) 0 + 1)) k (e + 1)
+      pub rows_old : Rows l r m old (set table (4 * (m + t) + 3) (get_or table (4 * (m + t) + 3) 0 + 1)) k (e + 1)
       rows_old = record {
-        bound = omega arith;
         met = i.met ∙ ap length (sym (distinct_old eqb numbers p t met_before)) ∙ ap many (sym grows);
         cells =
             let s = cells_to r l p k in

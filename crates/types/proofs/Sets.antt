@@ -51,10 +51,3 @@ module _ {A : Type 0} where
   sets_written l a h =
       let e : 0 + length a ≡ length a = omega arith in
       sets-eq a l 0 (omega arith) ∙ ap (λ (k : ℕ). a ++ drop k l) e
-
-  pub sets_four : (l : List A) (i : ℕ) (a b c d : A) → set (set (set (set l i a) (i + 1) b) (i + 2) c) (i + 3) d ≡ sets l i (a ∷ b ∷ c ∷ d ∷ [])
-  sets_four l i a b c d =
-      let e₁ : i + 1 ≡ suc i = omega arith in
-      let e₂ : i + 2 ≡ suc (suc i) = omega arith in
-      let e₃ : i + 3 ≡ suc (suc (suc i)) = omega arith in
-      rw (e₁, e₂, e₃) refl

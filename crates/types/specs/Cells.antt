@@ -1,6 +1,6 @@
 -- The cells of a rank's types come from the types of its elements.
 -- Assumes nothing.
-use Rattle.std.specs.Prelude.{◌≡◌, List, map, ℕ, ◌+◌, ◌*◌, ◌≤◌, length, take, drop, eqb}
+use Rattle.std.specs.Prelude.{◌≡◌, List, map, ℕ, ◌+◌, ◌*◌, ◌≤◌, length, eqb}
 use Rattle.spec.specs.Limits.{max_rank, max_count}
 use Rattle.spec.specs.Lists.{distinct, place, count, range, join}
 use Rattle.spec.specs.Types.{ElementType}
@@ -18,10 +18,9 @@ cells_of r l = join (map type_cells (map (describe r l) (distinct eqb l)))
 abbrev pub InOrder : List ℕ → Type 0
 InOrder l = distinct eqb l ≡ range 0 (length (distinct eqb l))
 
--- The types of the n elements of rank r stand from word `from` on, and the cells have room for these types, four cells each, behind m others.
-pub record Listable (w : List ℕ) (from n r cells m : ℕ) : Type 0 where
-  pub inside : from + n ≤ length w
-  pub order : InOrder (take n (drop from w))
-  pub few : n ≤ max_count
+-- The elements of rank r have the types l, and the cells have room for these types, four cells each, behind m others.
+pub record Listable (l : List ℕ) (r cells m : ℕ) : Type 0 where
+  pub order : InOrder l
+  pub few : length l ≤ max_count
   pub low : r ≤ max_rank
-  pub room : 4 * (m + length (distinct eqb (take n (drop from w)))) ≤ cells
+  pub room : 4 * (m + length (distinct eqb l)) ≤ cells

@@ -1,8 +1,6 @@
 -- Demand 3's claims about states are said here of the cells that a types call leaves, so that a caller can rely on them.
 -- Assumes nothing.
-use Rattle.std.specs.Prelude.{◌≡◌, ◌≢◌, true, List, ℕ, ◌+◌, ◌<◌, get_or}
-use Rattle.spec.specs.declared.Answer.TheVariants.{Done}
-use Rattle.spec.specs.Judged.{passed}
+use Rattle.std.specs.Prelude.{◌≡◌, ◌≢◌, true, List, ℕ, ◌+◌, ◌<◌, get_or, Ok}
 use Rattle.spec.specs.Types.{Solid, size, Classes, State, type_of, start, Step, play}
 use Rattle.spec.specs.Mark.{marked, goes}
 use Rattle.spec.specs.Demand.{Proper, AllProper, Steady}
@@ -34,7 +32,7 @@ pub record CellsAgree (s : Solid) (cls : Classes) (S : State) (cells : List ℕ)
 -- Demand 3 holds of the sheet b, whose types stand in the cells.
 pub record Demand3Cells (b : List ℕ) (words floats : ℕ) (cells : List ℕ) : Type 0 where
   pub solid : Concrete
-  pub read : preflight b words floats ≡ passed solid
+  pub read : preflight b words floats ≡ Ok solid
   -- The claims are "a single theorem over the whole list of steps".
   pub steps : (xs : List Step) → AllProper solid.abs xs →
       let cls = by_table (class_table solid) in
@@ -43,4 +41,4 @@ pub record Demand3Cells (b : List ℕ) (words floats : ℕ) (cells : List ℕ) :
 -- Demand 3 holds of any call that is done. The equation is what the call's contract says.
 abbrev pub Demand3Outputs : Type 0
 Demand3Outputs =
-    (b : List ℕ) (words floats : ℕ) (old new : TypesOut) (n : ℕ) → (Done n, new) ≡ types_call b words floats old → Demand3Cells b words floats new.elements
+    (b : List ℕ) (words floats : ℕ) (old new : TypesOut) (n : ℕ) → (Ok n, new) ≡ types_call b words floats old → Demand3Cells b words floats new.elements

@@ -11,7 +11,6 @@ ghost use Rattle.types.specs.Call.{handed_out};
 
 use element_types::counting::type_count;
 use ranked::Shape;
-use ranked::lists::get;
 use spec::{Answer, Refusal};
 
 // Writes the type of each proper element, one cell for each.
@@ -22,10 +21,8 @@ fn write_types(words: &[u32], sh: Shape, of: &mut [u16])
 {
     let n = sh.proper();
     let from = sh.types(1);
-    let mut k: usize = 0;
-    while k < n {
-        of[k] = get(words, from + k) as u16;
-        k += 1;
+    for (k, t) in words[from..from + n].iter().enumerate() {
+        of[k] = *t as u16;
     }
 }
 
@@ -34,32 +31,24 @@ fn open_type(table: &mut [u16], cell: usize, r: u16, t: u16, e: u16)
     requires { cell + 4 ≤ length table.old }
     ensures { table.new ≡ sets table.old cell (r ∷ t ∷ e ∷ 1 ∷ []) }
 {
-    table[cell] = r;
-    table[cell + 1] = t;
-    table[cell + 2] = e;
-    table[cell + 3] = 1;
+    table[cell..cell + 4].copy_from_slice(&[r, t, e, 1]);
 }
 
-// Writes four cells for each type of rank r, behind those of m types, and answers how many types there are. The types of the rank's n elements
-// stand from word `from` on.
-fn write_rank(words: &[u32], from: usize, n: usize, r: usize, table: &mut [u16], m: usize) -> usize
-    requires { Listable words.now from n r (length table.old) m }
-    ensures value { result ≡ length (distinct eqb (take n (drop from words.now))) }
-    ensures table_after { table.new ≡ sets table.old (4 * m) (cells_of r (take n (drop from words.now))) }
+// Writes four cells for each type of rank r, behind those of m types, and answers how many types there are. The type of each of the rank's elements
+// is given.
+fn write_rank(types: &[u32], r: usize, table: &mut [u16], m: usize) -> usize
+    requires { Listable types.now r (length table.old) m }
+    ensures value { result ≡ length (distinct eqb types.now) }
+    ensures table_after { table.new ≡ sets table.old (4 * m) (cells_of r types.now) }
 {
     let mut k: usize = 0;
-    let mut e: usize = 0;
-    while e < n {
-        let t = get(words, from + e);
-        let here = e as u16;
-        e += 1;
+    for (e, t) in types.iter().enumerate() {
+        let t = *t as usize;
         if t == k {
-            open_type(table, 4 * (m + k), r as u16, t as u16, here);
+            open_type(table, 4 * (m + k), r as u16, t as u16, e as u16);
             k += 1;
         } else {
-            let cell = 4 * (m + t) + 3;
-            let count = table[cell];
-            table[cell] = count + 1;
+            table[4 * (m + t) + 3] += 1;
         }
     }
     k
@@ -75,12 +64,10 @@ fn write_table(words: &[u32], sh: Shape, table: &mut [u16])
 {
     let rank = sh.rank;
     let mut m: usize = 0;
-    let mut r: usize = 1;
-    while r < rank {
+    for r in 1..rank {
         let from = sh.types(r);
         let n = sh.size(r);
-        m += write_rank(words, from, n, r, table, m);
-        r += 1;
+        m += write_rank(&words[from..from + n], r, table, m);
     }
 }
 
@@ -93,12 +80,12 @@ pub fn give_out(words: &[u32], sh: Shape, of: &mut [u16], table: &mut [u16]) -> 
 {
     let n = type_count(words, sh);
     if of.len() < sh.proper() {
-        return Answer::Refused(Refusal::ShortSheet, 0);
+        return Err(Refusal::ShortSheet.into());
     }
     if table.len() < 4 * n {
-        return Answer::Refused(Refusal::ShortSheet, 0);
+        return Err(Refusal::ShortSheet.into());
     }
     write_types(words, sh, of);
     write_table(words, sh, table);
-    Answer::Done(n)
+    Ok(n)
 }

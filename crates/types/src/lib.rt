@@ -2,7 +2,6 @@
 #![tactic(auto)]
 
 ghost use Rattle.std.specs.Prelude.{◌≡◌, ℕ, length};
-ghost use Rattle.spec.specs.declared.Answer.TheVariants.{Done};
 ghost use Rattle.spec.specs.Calls.{types_call};
 ghost use Rattle.spec.specs.Workspace.{Free};
 ghost use Rattle.preflight.specs.Bench.{Bench};
@@ -10,11 +9,10 @@ ghost use Rattle.ranked.specs.Layout.{solid_in};
 ghost use Rattle.types.specs.Call.{answered};
 ghost use Rattle.types.specs.Demand3.{Demand3Cells};
 
-use element_types::settling::settled::Ending;
 use element_types::settling::types_of;
 use preflight::preflight;
 use ranked::Shape;
-use spec::{Answer, Refusal, Verdict};
+use spec::{Answer, Refusal};
 
 pub mod giving;
 
@@ -32,10 +30,8 @@ fn types_given(
     ensures { (result, record { elements = of.new; types = table.new })
         ≡ answered (solid_in sh words.old floats.old) (record { elements = of.old; types = table.old }) }
 {
-    match types_of(words, sh, floats) {
-        Ending::Settled => give_out(words, sh, of, table),
-        Ending::Changing => Answer::Refused(Refusal::Unsettled, 0),
-    }
+    types_of(words, sh, floats)?;
+    give_out(words, sh, of, table)
 }
 
 // The call takes a sheet of any bytes and any length, a workspace of any size, and outputs of any length: one cell for each proper element, and
@@ -48,18 +44,13 @@ pub fn element_types(
     of: &mut [u16],
     table: &mut [u16],
 ) -> Answer
-    ensures table_after { (result, record { elements = of.new; types = table.new })
+    ensures as_defined { (result, record { elements = of.new; types = table.new })
         ≡ types_call sheet.now (length words.old) (length floats.old)
         (record { elements = of.old; types = table.old }) }
-    ensures by_index { (n : ℕ) → result ≡ Done n
+    ensures types_kept { (n : ℕ) → result ≡ Ok n
         → Demand3Cells sheet.now (length words.old) (length floats.old) of.new }
     ensures free { Free words.old words.new floats.old floats.new }
 {
-    let ready = preflight(sheet, words, floats);
-    let verdict = ready.verdict;
-    let sh = ready.shape;
-    match verdict {
-        Verdict::Refused(why) => Answer::Refused(why, 0),
-        Verdict::Accepted => types_given(words, sh, floats, of, table),
-    }
+    let sh = preflight(sheet, words, floats)?;
+    types_given(words, sh, floats, of, table)
 }

@@ -16,7 +16,7 @@ use Rattle.copying.proofs.Squares.{square, square_pos}
 use Rattle.copying.proofs.Growth.{length-matrices}
 use Rattle.copying.proofs.Judgements.{Judgeable, judged_passed}
 use Rattle.copying.proofs.Outcome.{room_fits, answer-full, answer_short, answer-done, answer_open, too_few, enough, some_matrices}
-use Rattle.copying.proofs.copied.Goals.{After-room-limit, After-write, Else-table-count, In-Fits, Start}
+use Rattle.copying.proofs.copied.Goals.{After-room-limit, After-write, Else-table-count, In-Some, Start}
 use Rattle.copying.proofs.copied.Goals as goal
 
 judged : (c : Start) → Judgeable c.args.d c.args.from.now c.args.turns.now
@@ -42,24 +42,21 @@ limited c =
     ap (λ (k : ℕ). copy_out k (matrices c.args.d c.args.turns.now) (copies (matrices c.args.d c.args.turns.now) (points c.args.d c.args.from.now)) c.args.out.now c.args.table.now) c.room-limit.ensures
 
 -- There is room for the copies.
-fitting : (c : In-Fits) →
-    (Fitting c.args.d c.room-limit.result (cs (goal.at.overflow_mul-count c).Start) c.args.out.now c.copies.new.out c.in-Fits.n)
-fitting c = rw c.in-Fits.is at c.copies.ensures
+fitting : (c : In-Some) →
+    (Fitting c.args.d c.room-limit.result (cs (goal.at.overflow_mul-count c).Start) c.args.out.now c.copies.new.out c.in-Some.n)
+fitting c = rw c.in-Some.is at c.copies.ensures
 
 -- The table's cells fit.
 roomy : (c : Else-table-count) →
-    (length (matrices c.args.d c.args.turns.now) * c.in-Fits.n ≤ length c.args.table.now)
+    (length (matrices c.args.d c.args.turns.now) * c.in-Some.n ≤ length c.args.table.now)
 roomy c =
     rw (length-matrices c.args.d c.args.turns.now) (enough (length c.args.table.now) _ _ (let j = (judged_passed c.args.d c.args.from.now c.args.turns.now (sym c.requires)) in
     some_matrices (c.args.d * c.args.d) (length c.args.turns.now) j.whole j.some) c.if-table-count.false)
 
 -- What the table holds is told in terms of the copies.
 tabled : (c : After-write) →
-    (Tabled c.in-Fits.n (copy_table (matrices c.args.d c.args.turns.now) (copies (matrices c.args.d c.args.turns.now) (points c.args.d c.args.from.now))) c.args.table.now c.write.new.out c.write.result)
-tabled c = rw (rw c.in-Fits.is at c.copies.ensures).read at c.write.ensures
-
-short : (c : Start) → length c.args.table.now < 0x1_0000_0000_0000_0000
-short c = omega arith
+    (Tabled c.in-Some.n (copy_table (matrices c.args.d c.args.turns.now) (copies (matrices c.args.d c.args.turns.now) (points c.args.d c.args.from.now))) c.args.table.now c.write.new.out c.write.result)
+tabled c = rw (rw c.in-Some.is at c.copies.ensures).read at c.write.ensures
 
 pub room-limit-requires : goal.room-limit-requires
 room-limit-requires c = (judged (goal.at.room-limit-requires c).Start).low
@@ -85,14 +82,14 @@ nonzero_div-table c = counted (goal.at.nonzero_div-table c).Start
 
 pub returns-then-table-count : goal.returns-then-table-count
 returns-then-table-count c =
-    answer_short c.room-limit.result (ms (goal.at.returns-then-table-count c).Start) (cs (goal.at.returns-then-table-count c).Start) c.args.out.now c.args.table.now (fitting (goal.at.returns-then-table-count c).In-Fits)
+    answer_short c.room-limit.result (ms (goal.at.returns-then-table-count c).Start) (cs (goal.at.returns-then-table-count c).Start) c.args.out.now c.args.table.now (fitting (goal.at.returns-then-table-count c).In-Some)
     (rw (length-matrices c.args.d c.args.turns.now) (too_few (length c.args.table.now) _ _ (counted (goal.at.returns-then-table-count c).Start) c.if-table-count.true))
     ∙ limited (goal.at.returns-then-table-count c).After-room-limit
 
 pub write-requires : goal.write-requires
 write-requires c =
     let j = judged (goal.at.write-requires c).Start in
-    let f = fitting (goal.at.write-requires c).In-Fits in (
+    let f = fitting (goal.at.write-requires c).In-Some in (
       j.low,
       j.high,
       omega (arith, f.room, c.room-limit.ensures),
@@ -102,21 +99,13 @@ write-requires c =
 
 pub returns-then-write : goal.returns-then-write
 returns-then-write c =
-    answer-done c.room-limit.result (ms (goal.at.returns-then-write c).Start) (cs (goal.at.returns-then-write c).Start) c.args.out.now c.args.table.now (fitting (goal.at.returns-then-write c).In-Fits) (roomy (goal.at.returns-then-write c).Else-table-count) (rw c.if-write.true at (tabled (goal.at.returns-then-write c).After-write))
+    answer-done c.room-limit.result (ms (goal.at.returns-then-write c).Start) (cs (goal.at.returns-then-write c).Start) c.args.out.now c.args.table.now (fitting (goal.at.returns-then-write c).In-Some) (roomy (goal.at.returns-then-write c).Else-table-count) (rw c.if-write.true at (tabled (goal.at.returns-then-write c).After-write))
     ∙ limited (goal.at.returns-then-write c).After-room-limit
-
-pub overflow_mul-count-2 : goal.overflow_mul-count-2
-overflow_mul-count-2 c =
-    omega (arith, rw (length-matrices c.args.d c.args.turns.now) at (roomy (goal.at.overflow_mul-count-2 c).Else-table-count), short (goal.at.overflow_mul-count-2 c).Start)
-
-pub fill-requires : goal.fill-requires
-fill-requires c =
-    omega (arith, rw (length-matrices c.args.d c.args.turns.now) at (roomy (goal.at.fill-requires c).Else-table-count), c.write.auto.out)
 
 pub returns : goal.returns
 returns c =
-    let n = c.in-Fits.n in
+    let n = c.in-Some.n in
     let t = c.write.new.out in
     let e : c.fill.new.out ≡ written (replicate (length (ms (goal.at.returns c).Start) * n) no_image) t =
     rw (length-matrices c.args.d c.args.turns.now) c.fill.ensures in
-    rw e (answer_open c.room-limit.result (ms (goal.at.returns c).Start) (cs (goal.at.returns c).Start) c.args.out.now c.args.table.now (fitting (goal.at.returns c).In-Fits) (roomy (goal.at.returns c).Else-table-count) (rw c.if-write.false at (tabled (goal.at.returns c).After-write)) ∙ limited (goal.at.returns c).After-room-limit)
+    rw e (answer_open c.room-limit.result (ms (goal.at.returns c).Start) (cs (goal.at.returns c).Start) c.args.out.now c.args.table.now (fitting (goal.at.returns c).In-Some) (roomy (goal.at.returns c).Else-table-count) (rw c.if-write.false at (tabled (goal.at.returns c).After-write)) ∙ limited (goal.at.returns c).After-room-limit)

@@ -170,9 +170,6 @@ module _ (sh : Shape) (w : List ℕ) (cells : List Float) (a : Startable sh w ce
 
   -- ---- the proper ranks
 
-  pub begun_first : TypesBegun sh w w cells 1
-  begun_first = record { above = omega arith; long = refl; lists = refl; ends = λ q e. refl; types = λ fs e q b c d. absurd (omega arith) }
-
   module _ (v : List ℕ) (r : ℕ) (i : TypesBegun sh w v cells r) (k : r < sh.rank) where
     -- The rank's elements are proper, and their types lie within the words.
     pub offsets : (first_at sh 1 ≤ first_at sh r) × (first_at sh r < first_at sh (suc r)) × (first_at sh (suc r) ≤ first_at sh sh.rank) × (types_at sh (suc r) ≤ length w)

@@ -1,5 +1,6 @@
 -- What preflight leaves is room for the start and the sweeps, and the three parts go together.
 -- Assumes nothing.
+use Rattle.std.specs.Prelude.{Result}
 use mathlib.Core.Path.{◌≡◌, ◌∙◌, ap}
 use mathlib.Core.List.{List}
 use Prim.Native.Nat.{ℕ, ◌-◌, ◌≤◌}
@@ -7,6 +8,7 @@ use native.Mathlib.Omega.{arith}
 use lib.ListN.{length, take, drop, length-drop}
 use lib.Seq.{take_all}
 use lib.Ieee.{Float}
+use Rattle.spec.specs.declared.Refusal.{Refusal}
 use Rattle.spec.specs.Types.{start}
 use Rattle.spec.specs.Classes.{class_table, by_table, types_of}
 use Rattle.ranked.specs.declared.Shape.{Shape}
@@ -20,7 +22,6 @@ use Rattle.element_types.specs.State.{state_in, Sweepable}
 use Rattle.element_types.proofs.Room.{sweepable}
 use Rattle.element_types.proofs.Sweeps.{sweepable_kept}
 use Rattle.element_types.specs.Start.{Startable, Begins}
-use Rattle.element_types.specs.declared.settling.settled.Ending.{Ending}
 use Rattle.element_types.specs.Settle.{Settles}
 use Rattle.element_types.specs.Typed.{AtStart, Typed}
 
@@ -71,7 +72,7 @@ module _ (sh : Shape) (w : List ℕ) (fs : List Float) (b : Bench sh w fs) where
       }
 
 -- The sweeps go on from the start, and give the types.
-pub typed : (sh : Shape) (w v u : List ℕ) (fs gs : List Float) (ending : Ending) → AtStart sh w v fs gs → length u ≡ length v → Settles sh v u ending
+pub typed : (sh : Shape) (w v u : List ℕ) (fs gs : List Float) (ending : Result (Unit {0}) Refusal) → AtStart sh w v fs gs → length u ≡ length v → Settles sh v u ending
     → Typed sh w u fs gs ending
 unfolding types_of
 typed sh w v u fs gs ending b k s = record {
@@ -79,6 +80,6 @@ typed sh w v u fs gs ending b k s = record {
   points = b.points;
   lengths = (k ∙ b.lengths.0, b.lengths.1);
   cells = b.cells;
-  result = rw b.lists at (s.ends (by_table (class_table (solid_in sh w fs))) (rw b.lists b.state));
+  ends = rw b.lists at (s.ends (by_table (class_table (solid_in sh w fs))) (rw b.lists b.state));
   numbered = s.numbered;
 }

@@ -1,8 +1,8 @@
 -- The elements of a rank are numbered by their classes one after another, and this file says what holds when e are done.
 -- Assumes nothing.
+use Rattle.std.specs.Prelude.{Option, Some, None, position, All}
 use mathlib.Core.Path.{◌≡◌, refl, sym, ◌∙◌, ap, ap₂}
 use mathlib.Core.Logic.{◌≢◌, ◌⊎◌, inl, inr}
-use mathlib.Core.Bool.{true, false}
 use mathlib.Core.List.{List, [], ◌∷◌, ◌++◌, map}
 use Prim.Native.Nat.{ℕ, suc, ◌+◌, ◌-◌, ◌≤◌, ◌<◌}
 use native.Mathlib.Decide.{ℕ_discrete}
@@ -11,41 +11,20 @@ use native.Mathlib.Numerals.{add-one}
 use lib.ListN.{length, get_or, set, take, drop, length-set, length-drop}
 use lib.Seq.{get_or-set_same, get_or-set_other, drop-set-add, take-suc-set, take-set-le}
 use lib.Dec.{eqb}
-use lib.Ieee.{Float, nan}
+use lib.Ieee.{Float}
 use Rattle.spec.specs.Lists.{In, distinct, place, renumber, range}
-use Rattle.laws.proofs.Lists.{map_same, get_d_table, length_table, of_range}
+use Rattle.laws.proofs.Lists.{map_same, length_table, of_range}
 use Rattle.laws.proofs.Distinct.{in_distinct, of-distinct, place_at, in?}
 use Rattle.laws.proofs.Counts.{numbers}
 use Rattle.laws.proofs.Scan.{renumber-snoc, distinct_new, distinct_old, place_out}
 use Rattle.geometry.specs.Classes.{same_class}
 use Rattle.element_types.proofs.Scanned.{table_snoc}
 use Rattle.element_types.specs.Start.{cell_at, rep_cells, Shares, ClassesFit, ByClass}
-use Rattle.element_types.proofs.settling.Places.{place-within, place-alike, PlaceSought, sought_yes, sought_no, sought_end}
+use Rattle.element_types.proofs.Places.{run_all, found_among, found_place, unfound_place, place-alike}
 
--- ---- finding a class
-
-module _ (w : List ℕ) (reps m : ℕ) (cells : List Float) (from : ℕ) where
-  pub length-cells : length (rep_cells w reps m cells from) ≡ m
-  unfolding rep_cells
-  length-cells = length_table (λ j. cell_at cells from (get_or w (reps + j) 0)) m
-
-  pub rep_at : (j : ℕ) → j < m → get_or (rep_cells w reps m cells from) j nan ≡ cell_at cells from (get_or w (reps + j) 0)
-  unfolding rep_cells
-  rep_at j h = get_d_table (λ j. cell_at cells from (get_or w (reps + j) 0)) nan m j h
-
-  module _ (x : Float) where
-    pub class-first : PlaceSought same_class x (rep_cells w reps m cells from) 0
-    class-first = omega arith
-
-    module _ (j : ℕ) (s : PlaceSought same_class x (rep_cells w reps m cells from) j) where
-      pub class_yes : j < m → same_class (cell_at cells from (get_or w (reps + j) 0)) x ≡ true → j ≡ place same_class x (rep_cells w reps m cells from)
-      class_yes h e = sought_yes same_class x nan (rep_cells w reps m cells from) j s (rw length-cells h) (rw (rep_at j h) e)
-
-      pub class_no : j < m → same_class (cell_at cells from (get_or w (reps + j) 0)) x ≡ false → PlaceSought same_class x (rep_cells w reps m cells from) (j + 1)
-      class_no h e = sought_no same_class x nan (rep_cells w reps m cells from) j s (rw length-cells h) (rw (rep_at j h) e)
-
-      pub class-end : m ≤ j → j ≡ place same_class x (rep_cells w reps m cells from)
-      class-end h = sought_end same_class x nan (rep_cells w reps m cells from) j s (rw length-cells h)
+pub length-cells : (w : List ℕ) (reps m : ℕ) (cells : List Float) (from : ℕ) → length (rep_cells w reps m cells from) ≡ m
+unfolding rep_cells
+length-cells w reps m cells from = length_table (λ j. cell_at cells from (get_or w (reps + j) 0)) m
 
 -- ---- the loop
 
@@ -81,16 +60,26 @@ module _ (w : List ℕ) (to reps n : ℕ) (cells : List Float) (from : ℕ) (f :
 
   -- This is what finding the class asks, and what a turn writes.
   module _ (v : List ℕ) (m e : ℕ) (s : ClassesScan w v to reps n cells from m e) (h : e < n) where
-    pub reps_in : (reps + m ≤ length v) × ((j : ℕ) → j < m → from + get_or v (reps + j) 0 < length cells)
-    reps_in = (omega (arith, s.long, s.few, f.room), λ j k. omega (arith, s.slots j k, f.inside))
+    pub reps_in : All (λ g. from + g < length cells) (take (reps + m - reps) (drop reps v))
+    reps_in = run_all (λ g. from + g < length cells) v reps m (omega (arith, s.long, s.few, f.room)) (λ j k. omega (arith, s.slots j k, f.inside))
 
     pub cells_in_lem : (to + e < length v) × (reps + m < length v)
     cells_in_lem = (omega (arith, s.long, f.room, f.apart), omega (arith, s.long, s.few, f.room))
 
-  module _ (v : List ℕ) (m e : ℕ) (s : ClassesScan w v to reps n cells from m e) (h : e < n) (p : ℕ) (found : p ≡ place same_class (cell_at cells from e) (rep_cells v reps m cells from)) where
-    pub number-within : p ≤ m
-    number-within = omega (arith, found, length-cells v reps m cells from, place-within same_class (cell_at cells from e) (rep_cells v reps m cells from))
+    module _ (found : Option ℕ) (g : found ≡ position (λ g. same_class (cell_at cells from g) (cell_at cells from e)) (take (reps + m - reps) (drop reps v))) where
+      among : found ≡ position (λ c. same_class c (cell_at cells from e)) (rep_cells v reps m cells from)
+      unfolding rep_cells
+      among = g ∙ found_among same_class (cell_at cells from e) (cell_at cells from) v reps m (omega (arith, s.long, s.few, f.room))
 
+      pub class_old : (p : ℕ) → found ≡ Some p → (p ≡ place same_class (cell_at cells from e) (rep_cells v reps m cells from)) × (p < m)
+      class_old p k =
+          let both = found_place same_class (cell_at cells from e) (rep_cells v reps m cells from) found among p k in
+          (both.0, rw length-cells at both.1)
+
+      pub class_new : found ≡ None → m ≡ place same_class (cell_at cells from e) (rep_cells v reps m cells from)
+      class_new k = sym (unfound_place same_class (cell_at cells from e) (rep_cells v reps m cells from) found among k ∙ length-cells v reps m cells from)
+
+  module _ (v : List ℕ) (m e : ℕ) (s : ClassesScan w v to reps n cells from m e) (h : e < n) (p : ℕ) (found : p ≡ place same_class (cell_at cells from e) (rep_cells v reps m cells from)) where
     abbrev u : List ℕ
     u = set v (to + e) p
 

@@ -4,32 +4,24 @@ ghost use Rattle.element_types.specs.Settle.{Started, Settles};
 use crate::counting::type_count;
 use crate::sweeping::sweep;
 use ranked::Shape;
-
-// This says how the sweeps ended: one of them left the number of types unchanged, or all that are allowed were done and the types were still
-// changing.
-#[derive(Clone, Copy)]
-pub enum Ending {
-    Settled,
-    Changing,
-}
+use spec::Refusal;
 
 // Goes on with sweeps from the start until one leaves the number of types unchanged. If they are still changing, that is refusal 15, "E + 2 sweeps
 // done, still changing".
-pub fn settle(words: &mut [u32], sh: Shape) -> Ending
+pub fn settle(words: &mut [u32], sh: Shape) -> Result<(), Refusal>
     requires { Started sh words.old }
     ensures { Settles sh words.old words.new result }
 {
     sweep(words, sh);
     let mut count = type_count(words, sh);
-    let mut left = sh.proper() + 1;
-    while 0 < left {
+    let all = sh.proper() + 1;
+    for _ in 0..all {
         sweep(words, sh);
         let next = type_count(words, sh);
         if next == count {
-            return Ending::Settled;
+            return Ok(());
         }
         count = next;
-        left -= 1;
     }
-    Ending::Changing
+    Err(Refusal::Unsettled)
 }

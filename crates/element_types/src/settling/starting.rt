@@ -15,12 +15,10 @@ pub fn start(words: &mut [u32], sh: Shape, cells: &[f64])
     let out = sh.scratch();
     words[least] = 0;
     words[last] = 0;
-    let mut r: usize = 1;
-    while r < rank {
+    for r in 1..rank {
         let to = sh.types(r);
         let n = sh.size(r);
         let from = sh.proper_number(r, 0);
         number_classes(words, to, out, n, cells, from);
-        r += 1;
     }
 }

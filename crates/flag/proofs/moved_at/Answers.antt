@@ -6,71 +6,32 @@ use mathlib.Core.Path.{◌≡◌}
 use Prim.Native.Nat.{suc}
 use lib.ListN.{length}
 use Rattle.spec.specs.Limits.{max_rank}
-use Rattle.ranked.specs.Reading.{Lies}
-use Rattle.flag.specs.Reading.{more_of}
-use Rattle.flag.proofs.Iterate.{word_fits, above_lies, place-fits, moved_in, moved_yes, moved_no}
+use Rattle.flag.proofs.Iterate.{Under, place-fits, moved_in, moved-some, moved-none}
 use Rattle.flag.proofs.moved_at.Goals.{After-subs-above, Start}
 use Rattle.flag.proofs.moved_at.Goals as goal
 
 long : (s : Start) → length s.args.elements ≡ suc max_rank
 long s = search rules
 
--- The subs of the element above lie within the words.
-lies : (c : After-subs-above) → Lies c.args.lists.now c.subs-above.result
-lies c = let a = c.args in above_lies a.sh a.lists.now c.requires.held a.elements a.r c.requires.r_lt_rank.0 c.requires.r_lt_rank.1 c.subs-above.result c.subs-above.ensures
-
-pub subs-above-requires : goal.subs-above-requires
-unfolding more_of
-subs-above-requires c =
-    let a = c.args in
-    let f = word_fits a.sh a.lists.now c.requires.held a.elements a.r c.requires.r_lt_rank.0 c.requires.r_lt_rank.1 in (f.0, omega (arith, f.1))
-
-pub count_at-n-requires : goal.count_at-n-requires
-unfolding more_of
-count_at-n-requires c = lies c
-
-pub place_at-k-requires : goal.place_at-k-requires
-unfolding more_of
-place_at-k-requires c = lies (goal.at.place_at-k-requires c).After-subs-above
+under : (c : After-subs-above) → Under c.args.sh c.args.lists.now c.args.elements c.args.r c.subs-above.result
+under c = record { held = c.requires.held; low = c.requires.r_lt_rank.0; above = c.requires.r_lt_rank.1; word = c.subs-above.ensures }
 
 pub overflow_add-k : goal.overflow_add-k
-unfolding more_of
-overflow_add-k c =
-    let a = c.args in
-    omega (
-      arith,
-      place-fits a.sh a.lists.now c.requires.held a.elements a.r c.requires.r_lt_rank.0 c.requires.r_lt_rank.1 c.subs-above.result c.subs-above.ensures c.place_at-k.result c.count_at-n.result c.place_at-k.ensures c.count_at-n.ensures,
-    )
+overflow_add-k c = omega (arith, place-fits (under (goal.at.overflow_add-k c).After-subs-above) c.place_at-k.result c.place_at-k.ensures)
 
-pub entry_at-requires : goal.entry_at-requires
-unfolding more_of
-entry_at-requires c = record {
-  lies = lies (goal.at.entry_at-requires c).After-subs-above;
-  k_in_bounds = omega (arith, c.count_at-n.ensures);
-}
+pub returns-then-count_at-k : goal.returns-then-count_at-k
+returns-then-count_at-k c =
+    moved-none (under (goal.at.returns-then-count_at-k c).After-subs-above) c.place_at-k.result c.place_at-k.ensures
+    c.count_at.result c.count_at.ensures c.if-count_at-k.true
 
-pub down-lower-requires : goal.down-lower-requires
-unfolding more_of
-down-lower-requires c =
-    let a = c.args in record {
-      held = c.requires.held;
-      from_le_rank = (
-        omega (arith, c.requires.r_lt_rank.0),
-        moved_in a.sh a.lists.now c.requires.held a.elements a.r c.requires.r_lt_rank.0 c.requires.r_lt_rank.1 c.subs-above.result c.subs-above.ensures c.place_at-k.result c.count_at-n.result c.place_at-k.ensures c.count_at-n.ensures
-            c.entry_at.result c.entry_at.ensures c.if-k-n.true (long (goal.at.down-lower-requires c).Start),
-      );
-    }
-
-pub returns-then-k-n : goal.returns-then-k-n
-unfolding more_of
-returns-then-k-n c =
-    let a = c.args in
-    moved_yes a.sh a.lists.now c.requires.held a.elements a.r c.requires.r_lt_rank.0 c.requires.r_lt_rank.1 c.subs-above.result c.subs-above.ensures c.place_at-k.result c.count_at-n.result c.place_at-k.ensures c.count_at-n.ensures
-    c.entry_at.result c.entry_at.ensures c.if-k-n.true (long (goal.at.returns-then-k-n c).Start) c.down-lower.result c.down-lower.ensures
+pub down-requires-clause-from_le_rank : goal.down-requires-clause-from_le_rank
+down-requires-clause-from_le_rank c = (
+  omega (arith, c.requires.r_lt_rank.0),
+  moved_in (under (goal.at.down-requires-clause-from_le_rank c).After-subs-above) c.place_at-k.result c.place_at-k.ensures
+      c.count_at.result c.count_at.ensures c.entry_at.result c.entry_at.ensures c.if-count_at-k.false (long (goal.at.down-requires-clause-from_le_rank c).Start),
+)
 
 pub returns : goal.returns
-unfolding more_of
 returns c =
-    let a = c.args in
-    moved_no a.sh a.lists.now c.requires.held a.elements a.r c.requires.r_lt_rank.0 c.requires.r_lt_rank.1 c.subs-above.result c.subs-above.ensures c.place_at-k.result c.count_at-n.result c.place_at-k.ensures c.count_at-n.ensures
-    c.if-k-n.false a.elements
+    moved-some (under (goal.at.returns c).After-subs-above) c.place_at-k.result c.place_at-k.ensures
+    c.count_at.result c.count_at.ensures c.entry_at.result c.entry_at.ensures c.if-count_at-k.false (long (goal.at.returns c).Start) _ c.down.ensures

@@ -3,7 +3,7 @@
 use mathlib.Core.Path.{◌≡◌}
 use mathlib.Core.Bool.{Bool}
 use mathlib.Core.List.{List}
-use Prim.Native.Nat.{ℕ, ◌+◌, ◌*◌, ◌≤◌, ◌-◌}
+use Prim.Native.Nat.{ℕ, ◌+◌, ◌*◌}
 use lib.ListN.{length}
 use lib.Dec.{eqb}
 use Rattle.spec.specs.Lists.{holds}
@@ -15,7 +15,4 @@ abbrev pub p : List ℕ → ℕ → ℕ → ℕ → Bool
 p w base x y = holds eqb x (list_at w (base + 4 * y))
 
 abbrev pub invariant-loop-k : goal.invariant-loop-k
-invariant-loop-k l = (l.k ≤ l.n) × (l.n ≡ length (list_at l.lists l.word)) × OtherFrom l.e (p l.lists l.base l.x) (list_at l.lists l.word) l.k
-
-abbrev pub decreases-loop-k : goal.decreases-loop-k
-decreases-loop-k l = l.n - l.k
+invariant-loop-k l = (l.n ≡ length (list_at l.lists l.word)) × OtherFrom l.e (p l.lists l.base l.x) (list_at l.lists l.word) l.k

@@ -1,6 +1,5 @@
 -- Either list gives the same, since they hold the same elements between in the same order.
 -- Assumes nothing.
-use native.Mathlib.Omega.{arith}
 use native.Mathlib.Numerals.{add-one}
 use mathlib.Core.Path.{◌≡◌, sym, ap, ◌∙◌}
 use Prim.Native.Nat.{suc, ◌-◌}
@@ -21,35 +20,11 @@ found : (s : Start) → let a = s.args in holding a.lists.now (subs_word (first_
     ≡ between (abs_in a.sh a.lists.now) a.r a.g a.h
 found s = let a = s.args in between_is a.sh a.lists.now s.requires.held a.r s.requires.r_nonzero.0 s.requires.r_nonzero.1 _ s.requires.r_nonzero.2 a.h
 
-pub subs-above-requires : goal.subs-above-requires
-subs-above-requires c = (omega (arith, c.requires.held.tall, c.requires.r_nonzero.1), rw (add-one c.args.r) (omega (arith, (both (goal.at.subs-above-requires c).Start).up.head)))
+pub other_at-requires-clause-each : goal.other_at-requires-clause-each
+other_at-requires-clause-each c = rw (c.subs-above.ensures, c.subs.ensures, add-one c.args.r) (both (goal.at.other_at-requires-clause-each c).Start).ups
 
-pub sups-below-requires : goal.sups-below-requires
-sups-below-requires c = (omega (arith, c.requires.held.tall, c.requires.r_nonzero.1), omega (arith, (both (goal.at.sups-below-requires c).Start).down.head))
-
-pub count_at-requires : goal.count_at-requires
-count_at-requires c = rw (c.subs-above.ensures, add-one c.args.r) (both (goal.at.count_at-requires c).Start).up
-
-pub count_at-requires-2 : goal.count_at-requires-2
-count_at-requires-2 c = rw c.sups-below.ensures (both (goal.at.count_at-requires-2 c).Start).down
-
-pub subs-requires : goal.subs-requires
-subs-requires c = (omega (arith, c.requires.held.tall, c.requires.r_nonzero.1), omega (arith, (both (goal.at.subs-requires c).Start).fits))
-
-pub other_at-requires : goal.other_at-requires
-other_at-requires c = rw (c.subs-above.ensures, c.subs.ensures, add-one c.args.r) (record {
-  lies = (both (goal.at.other_at-requires c).Start).up;
-  each = (both (goal.at.other_at-requires c).Start).ups;
-})
-
-pub sups-requires : goal.sups-requires
-sups-requires c = (omega (arith, c.requires.held.tall, c.requires.r_nonzero.1), omega (arith, (both (goal.at.sups-requires c).Start).fits))
-
-pub other_at-requires-else-count_at : goal.other_at-requires-else-count_at
-other_at-requires-else-count_at c = rw (c.sups-below.ensures, c.sups.ensures) (record {
-  lies = (both (goal.at.other_at-requires-else-count_at c).Start).down;
-  each = (both (goal.at.other_at-requires-else-count_at c).Start).downs;
-})
+pub other_at-requires-else-count_at-clause-each : goal.other_at-requires-else-count_at-clause-each
+other_at-requires-else-count_at-clause-each c = rw (c.sups-below.ensures, c.sups.ensures) (both (goal.at.other_at-requires-else-count_at-clause-each c).Start).downs
 
 pub returns-then-count_at : goal.returns-then-count_at
 returns-then-count_at c =

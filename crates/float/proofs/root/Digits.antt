@@ -1,8 +1,8 @@
 -- The whole part of a root is found digit by digit and by one division. Everything here is about whole numbers.
 -- Assumes nothing.
 use mathlib.Core.Path.{◌≡◌, refl, sym, ap, ◌∙◌, subst}
-use Prim.Native.Nat.{ℕ, zero, suc, ◌+◌, ◌-◌, ◌*◌, ◌/◌, ◌%◌, ◌^◌, ◌≤◌, ◌<◌}
-use native.Mathlib.Nat.{le_refl, le_trans, lt_irrefl, lt_of_lt_of_le, lt_of_not-le, mul_comm, mul_assoc, mul_left_comm, add_comm, add_assoc, add_left_comm, mul-add, add-mul, mod-lt, div-add-mod', div-lt_iff_lt-mul}
+use Prim.Native.Nat.{ℕ, suc, ◌+◌, ◌-◌, ◌*◌, ◌/◌, ◌%◌, ◌^◌, ◌≤◌, ◌<◌}
+use native.Mathlib.Nat.{le_trans, lt_irrefl, lt_of_lt_of_le, lt_of_not-le, mul_comm, mul_assoc, mul_left_comm, add_comm, add_assoc, add_left_comm, mul-add, add-mul, mod-lt, div-add-mod', div-lt_iff_lt-mul}
 use native.Mathlib.Omega.{arith}
 use mathlib.Core.Bool.{Bool, true, false}
 use lib.Dec.{leb, le→leb}
@@ -48,17 +48,6 @@ digit-zero i a q c h l =
     (sym (pick_same (2 * q) a (omega arith)) ∙ down_step i a q h.0, omega arith)
 
 -- ---- bounds
-
-below-square : (q : ℕ) → q ≤ q * q
-below-square zero = le_refl 0
-below-square (suc q) = let p = sq_suc q in omega arith
-
--- Both parts are at most the number.
-pub parts-le : (i a q c : ℕ) → Root i a q c → (q ≤ a) × (c ≤ a)
-parts-le i a q c h =
-    let b = below-square q in
-    let v = h.1 in
-    (omega arith, omega arith)
 
 pub rest_le : (i a q c : ℕ) → a < 4 ^ i → Root i a q c → c ≤ 2 * q
 rest_le i a q c l h =

@@ -6,8 +6,8 @@ use mathlib.Core.List.{List, [], ◌∷◌, ◌++◌, map}
 use Prim.Native.Nat.{ℕ, zero, suc, ◌+◌, ◌-◌, ◌*◌, ◌≤◌, ◌<◌}
 use native.Mathlib.Nat.{mul-le-mul_right, le_trans}
 use native.Mathlib.Omega.{arith}
-use lib.ListN.{length, get_or, take, drop, length-append}
-use lib.Seq.{take_at, get_or-take}
+use lib.ListN.{length, get_or, take, drop}
+use lib.Seq.{take_at}
 use lib.Dec.{eqb}
 use lib.Ieee.{Float}
 use Rattle.spec.specs.Lists.{In, range, holds, join, in_order}
@@ -92,20 +92,15 @@ module _ (sh : Shape) (w : List ℕ) (h : Held sh w) (fs : List Float) (r e n : 
       ap (λ (l : List Vector). distance d (hull_of d l))
       (ap (map (point_at d fs)) listed ∙ map_same _ _ (vertices (abs_in sh w) r e) (λ v m. point_is v (vertex_in v m)))
 
-  pub list_long : n ≤ length list
-  list_long = omega (arith, f.many, ap length f.cells, length-append (vertices (abs_in sh w) r e) (drop n old))
-
-  pub some_listed : 1 ≤ r → e < size_at sh r → 0 < n
+  pub some_listed : 1 ≤ r → e < size_at sh r → 0 < length (take n list)
   some_listed low i =
       let q : suc (r - 1) ≡ r = omega arith in
       let k : e < size (abs_in sh w) (suc (r - 1)) = rw (q, sizes_are sh w h r) i in
       let z : 0 < length (vertices (abs_in sh w) (suc (r - 1)) e) = some_vertex (abs_in sh w) h.sound h.filled (r - 1) e k in
-      let y : 0 < length (vertices (abs_in sh w) r e) = rw q at z in
-      omega (arith, f.many)
+      rw (listed, ← q) z
 
-  pub point_lies : coordinates sh ≤ length fs → (j : ℕ) → j < n → (get_or list j 0 + 1) * d ≤ length fs
+  pub point_lies : coordinates sh ≤ length fs → (j : ℕ) → j < length (take n list) → (get_or (take n list) j 0 + 1) * d ≤ length fs
   point_lies room j k =
-      let a : get_or list j 0 ≡ get_or (vertices (abs_in sh w) r e) j 0 = sym (get_or-take n list j 0 k) ∙ ap (λ (l : List ℕ). get_or l j 0) listed in
-      let b = vertex_in (get_or (vertices (abs_in sh w) r e) j 0) (in_get_d 0 (vertices (abs_in sh w) r e) j (omega (arith, f.many))) in
-      let c : get_or list j 0 + 1 ≤ size_at sh 1 = omega (arith, a, b) in
+      let m : In (get_or (take n list) j 0) (vertices (abs_in sh w) r e) = rw listed (in_get_d 0 (vertices (abs_in sh w) r e) j (rw listed at k)) in
+      let c : get_or (take n list) j 0 + 1 ≤ size_at sh 1 = omega (arith, vertex_in (get_or (take n list) j 0) m) in
       le_trans (mul-le-mul_right d c) room

@@ -7,7 +7,6 @@ use native.Mathlib.Numerals.{add-one}
 use native.Mathlib.Omega.{arith}
 use lib.ListN.{length, take, drop, length-append}
 use lib.Ieee.{Float}
-use Rattle.spec.specs.Limits.{max_rank}
 use Rattle.spec.specs.Lists.{range, join}
 use Rattle.spec.specs.Types.{size, proper_ranks}
 use Rattle.spec.specs.Hull.{classes}
@@ -26,20 +25,14 @@ use Rattle.geometry.proofs.elements.Grown.{grown_none, grown_more}
 
 -- A rank's loop knows these bounds of the offsets.
 module _ {sh : Shape} {w : List ℕ} {floats : List Float} {n r : ℕ} (a : Classable sh w floats n r) where
-  pub rank-fits : r ≤ max_rank
-  rank-fits = omega (arith, a.high, a.held.tall)
-
-  pub start-below : first_at sh 1 ≤ first_at sh r
+  start-below : first_at sh 1 ≤ first_at sh r
   start-below = in_order_lem sh w a.held 1 r a.low (omega (arith, a.high))
 
-  pub some_here : first_at sh r < first_at sh (suc r)
+  some_here : first_at sh r < first_at sh (suc r)
   some_here = a.held.some r (omega (arith, a.high))
 
   end_below : first_at sh (suc r) ≤ first_at sh sh.rank
   end_below = in_order_lem sh w a.held (suc r) sh.rank (omega (arith, a.high)) (omega arith)
-
-  pub before_in_lem : before sh r ≤ proper sh
-  before_in_lem = omega (arith, start-below, some_here, end_below)
 
 -- The first e elements of rank r were taken.
 pub record RankTurn (sh : Shape) (w : List ℕ) (floats₀ : List Float) (n r from cell done many : ℕ) (floats : List Float) (m e : ℕ) : Type 0 where
@@ -67,13 +60,10 @@ module _ {sh : Shape} {w : List ℕ} {floats₀ : List Float} {n r from cell don
   taken : length (map (distance_of (solid_on sh w floats₀) r) (range 0 e)) ≡ e
   taken = length_table (distance_of (solid_on sh w floats₀) r) e
 
-  pub points_fit : coordinates sh ≤ length floats
-  points_fit = omega (arith, t.grown.long, a.room)
-
-  pub in_rank : e < many → e < size_at sh r
+  in_rank : e < many → e < size_at sh r
   in_rank h = omega (arith, t.many_is)
 
-  pub here : e < many → before sh r + e < proper sh
+  here : e < many → before sh r + e < proper sh
   here h = let s = some_here a in let q = start-below a in let p = end_below a in omega (arith, in_rank h)
 
   pub apart : e < many → from + m < cell
@@ -154,15 +144,6 @@ first_round sh w floats =
     }
 
 module _ {sh : Shape} {w : List ℕ} {floats₀ floats : List Float} {n r : ℕ} (t : Round sh w floats₀ floats n r) (h : Held sh w) where
-  pub classable : classes_at sh + proper sh ≤ length floats₀ → r < sh.rank → Classable sh w floats n r
-  classable room k = record {
-    held = h;
-    low = t.low;
-    high = k;
-    few = omega (arith, t.grown.few, t.many);
-    room = omega (arith, t.grown.long);
-  }
-
   pub next_round : r < sh.rank → (new : List Float) (p : ℕ)
       → ListGrown (coordinates sh) (classes_at sh) (before sh r) floats new n p (rank_distances (solid_on sh w floats) r) → Round sh w floats₀ new p (r + 1)
   next_round k new p g =

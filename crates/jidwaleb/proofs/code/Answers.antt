@@ -9,11 +9,11 @@ use Rattle.jidwaleb.proofs.code.Goals as goal
 
 pub overflow_add-result : goal.overflow_add-result
 overflow_add-result c =
-    omega (arith, ap answer_count c.in-Refused.is, c.requires)
+    omega (arith, ap answer_count c.in-Err.is, c.requires)
 
-pub returns-in-Done : goal.returns-in-Done
-returns-in-Done c = omega (arith, ap code_of c.in-Done.is)
+pub returns-in-Ok : goal.returns-in-Ok
+returns-in-Ok c = omega (arith, ap code_of c.in-Ok.is)
 
-pub returns-in-Refused : goal.returns-in-Refused
-returns-in-Refused c =
-    ap (λ (x : ℕ). x * 2 ^ 32 + c.in-Refused.n) c.number-refusal.ensures ∙ sym (ap code_of c.in-Refused.is)
+pub returns-in-Err : goal.returns-in-Err
+returns-in-Err c =
+    ap (λ (x : ℕ). x * 2 ^ 32 + c.in-Err.refused.kept) c.number-refusal.ensures ∙ sym (ap code_of c.in-Err.is)

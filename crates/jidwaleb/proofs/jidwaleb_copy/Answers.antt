@@ -4,8 +4,7 @@ use mathlib.Core.Path.{ap, ◌∙◌}
 use mathlib.Core.List.{List}
 use Prim.Native.Nat.{ℕ, ◌^◌, ◌<◌}
 use lib.Ieee.{Float}
-use Rattle.spec.specs.declared.Answer.{Answer}
-use Rattle.spec.specs.Refusal.{answer_count}
+use Rattle.spec.specs.Refusal.{answer_count, Answer}
 use Rattle.spec.specs.Copying.{copy_call}
 use Rattle.jidwaleb.specs.Code.{code_of, coded}
 use Rattle.jidwaleb.proofs.Coded.{decoded}
@@ -31,6 +30,6 @@ code-requires c =
 pub returns : goal.returns
 returns c =
     let p = c.code.ensures in record {
-      table_after = ap (λ (n : ℕ). (n, c.copy.new.copies, c.copy.new.table)) p ∙ ap coded c.copy.ensures;
+      as_defined = ap (λ (n : ℕ). (n, c.copy.new.copies, c.copy.new.table)) p ∙ ap coded c.copy.ensures;
       decoded = decoded _ (counted (goal.at.returns c).After-copy) _ (p ∙ ap (λ (x : Answer × List Float × List ℕ). code_of x.0) c.copy.ensures);
     }

@@ -6,7 +6,7 @@ use Rattle.jidwaleb.proofs.Members.{rotations-count}
 use Rattle.jidwaleb.proofs.jidwaleb_rotations.Goals as goal
 
 pub code-requires : goal.code-requires
-code-requires c = fits _ _ _ c.rotations.ensures.marks_after (rotations-count _ _ _ _)
+code-requires c = fits _ _ _ c.rotations.ensures.as_defined (rotations-count _ _ _ _)
 
 pub returns : goal.returns
 returns c =
@@ -14,8 +14,8 @@ returns c =
     let k = rotations-count _ _ _ _ in
     let p = c.code.ensures in
     record {
-      marks_after = handed _ _ _ s.marks_after k _ p;
-      decoded = told _ _ _ s.marks_after k _ p;
-      demand3told = rw (counted _ _ _ s.marks_after k _ p) at s.demand3told;
+      as_defined = handed _ _ _ s.as_defined k _ p;
+      decoded = told _ _ _ s.as_defined k _ p;
+      types_kept = rw (counted _ _ _ s.as_defined k _ p) at s.types_kept;
       free = record { words = search rules; floats = search rules };
     }

@@ -6,15 +6,15 @@ use Rattle.jidwaleb.proofs.Counted.{types-count}
 use Rattle.jidwaleb.proofs.jidwaleb_types.Goals as goal
 
 pub code-requires : goal.code-requires
-code-requires c = fits _ _ _ c.element_types.ensures.table_after (types-count _ _ _ _)
+code-requires c = fits _ _ _ c.element_types.ensures.as_defined (types-count _ _ _ _)
 
 pub returns : goal.returns
 returns c =
     let t = c.element_types.ensures in
     let k = types-count _ _ _ _ in
     let p = c.code.ensures in record {
-      table_after = handed _ _ _ t.table_after k _ p;
-      decoded = told _ _ _ t.table_after k _ p;
-      demand3cells = λ z. let d = done _ _ _ t.table_after k _ p z in t.by_index d.0 d.1;
+      as_defined = handed _ _ _ t.as_defined k _ p;
+      decoded = told _ _ _ t.as_defined k _ p;
+      types_kept = λ z. let d = done _ _ _ t.as_defined k _ p z in t.types_kept d.0 d.1;
       free = record { words = search rules; floats = search rules };
     }

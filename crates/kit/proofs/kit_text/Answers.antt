@@ -16,22 +16,22 @@ returns-then-sheet-gt-LONGEST c = puts_is c.refused.ensures (cut_text _ c.if-she
 
 pub put_types-end-requires : goal.put_types-end-requires
 put_types-end-requires c =
-    let d = done_text _ _ _ _ _ _ c.element_types-answer.ensures.table_after c.if-sheet-gt-LONGEST.false refl refl refl refl _ c.in-Done.is in
+    let d = done_text _ _ _ _ _ _ c.element_types-answer.ensures.as_defined c.if-sheet-gt-LONGEST.false refl refl refl refl _ c.in-Ok.is in
     (omega arith, d.0)
 
 pub last_line-requires : goal.last_line-requires
 last_line-requires c = c.put_types-end.ensures.1
 
-pub refused-requires-in-Refused : goal.refused-requires-in-Refused
-refused-requires-in-Refused c = omega (arith, refused_long c.in-Refused.why)
+pub refused-requires-in-Err : goal.refused-requires-in-Err
+refused-requires-in-Err c = omega (arith, refused_long c.in-Err.refused.why)
 
-pub returns-in-Done : goal.returns-in-Done
-returns-in-Done c =
-    let d = done_text _ _ _ _ _ _ c.element_types-answer.ensures.table_after c.if-sheet-gt-LONGEST.false refl refl refl refl _ c.in-Done.is in
+pub returns-in-Ok : goal.returns-in-Ok
+returns-in-Ok c =
+    let d = done_text _ _ _ _ _ _ c.element_types-answer.ensures.as_defined c.if-sheet-gt-LONGEST.false refl refl refl refl _ c.in-Ok.is in
     puts_is (puts_then c.put_types-end.ensures.0 c.last_line.ensures) d.1
 
-pub returns-in-Refused : goal.returns-in-Refused
-returns-in-Refused c =
-    let e = c.element_types-answer.ensures.table_after in
-    let l = refused_text _ _ _ _ _ _ e c.if-sheet-gt-LONGEST.false refl refl refl refl _ _ c.in-Refused.is in
-    puts_is c.refused-in-Refused.ensures l
+pub returns-in-Err : goal.returns-in-Err
+returns-in-Err c =
+    let e = c.element_types-answer.ensures.as_defined in
+    let l = refused_text _ _ _ _ _ _ e c.if-sheet-gt-LONGEST.false refl refl refl refl _ c.in-Err.is in
+    puts_is c.refused-in-Err.ensures l

@@ -8,34 +8,34 @@ use Rattle.kit.proofs.Last.{accepted, flat, marks_hold, matrices-hold, done-last
 use Rattle.kit.proofs.last_line.Goals as goal
 
 pub dimension-d-requires : goal.dimension-d-requires
-dimension-d-requires c = accepted _ _ _ _ _ _ c.search-answer.ensures.marks_after refl refl refl refl refl _ c.in-Done.is
+dimension-d-requires c = accepted _ _ _ _ _ _ c.search-answer.ensures.as_defined refl refl refl refl refl _ c.in-Ok.is
 
 pub confirmed-confirmed-requires : goal.confirmed-confirmed-requires
 confirmed-confirmed-requires c =
-    let h = marks_hold _ _ _ _ _ _ c.search-answer.ensures.marks_after refl refl refl refl refl _ c.in-Done.is _ c.dimension-d.ensures in
+    let h = marks_hold _ _ _ _ _ _ c.search-answer.ensures.as_defined refl refl refl refl refl _ c.in-Ok.is _ c.dimension-d.ensures in
     (omega (arith, h), omega (arith, h))
 
 pub rotations-rotations-requires : goal.rotations-rotations-requires
 rotations-rotations-requires c =
-    let e = c.search-answer.ensures.marks_after in (
-      flat _ _ _ _ _ _ e refl refl refl refl refl _ c.in-Done.is _ c.dimension-d.ensures,
-      omega (arith, matrices-hold _ _ _ _ _ _ e refl refl refl refl refl _ c.in-Done.is _ c.dimension-d.ensures),
+    let e = c.search-answer.ensures.as_defined in (
+      flat _ _ _ _ _ _ e refl refl refl refl refl _ c.in-Ok.is _ c.dimension-d.ensures,
+      omega (arith, matrices-hold _ _ _ _ _ _ e refl refl refl refl refl _ c.in-Ok.is _ c.dimension-d.ensures),
     )
 
 pub members-requires : goal.members-requires
 members-requires c =
-    let l = members_long c.in-Done.n c.confirmed-confirmed.result c.rotations-rotations.result (omega arith) (omega arith) (omega arith) in
+    let l = members_long c.in-Ok.n c.confirmed-confirmed.result c.rotations-rotations.result (omega arith) (omega arith) (omega arith) in
     omega (arith, c.requires, l)
 
 pub refused-requires : goal.refused-requires
-refused-requires c = omega (arith, c.requires, refused_long c.in-Refused.why)
+refused-requires c = omega (arith, c.requires, refused_long c.in-Err.refused.why)
 
-pub returns-in-Done : goal.returns-in-Done
-returns-in-Done c =
-    let l = done-last _ _ _ _ _ _ c.search-answer.ensures.marks_after refl refl refl refl refl _ c.in-Done.is _ c.dimension-d.ensures in
+pub returns-in-Ok : goal.returns-in-Ok
+returns-in-Ok c =
+    let l = done-last _ _ _ _ _ _ c.search-answer.ensures.as_defined refl refl refl refl refl _ c.in-Ok.is _ c.dimension-d.ensures in
     puts_is (rw (c.confirmed-confirmed.ensures, c.rotations-rotations.ensures) at c.members.ensures) l
 
-pub returns-in-Refused : goal.returns-in-Refused
-returns-in-Refused c =
-    let l = refused-last _ _ _ _ _ _ c.search-answer.ensures.marks_after refl refl refl refl refl _ _ c.in-Refused.is in
+pub returns-in-Err : goal.returns-in-Err
+returns-in-Err c =
+    let l = refused-last _ _ _ _ _ _ c.search-answer.ensures.as_defined refl refl refl refl refl _ c.in-Err.is in
     puts_is c.refused.ensures l

@@ -1,18 +1,17 @@
 use native.Mathlib.Omega.{arith}
 use mathlib.Core.Path.{subst}
 use mathlib.Core.Bool.{false≢true}
-use Prim.Native.Nat.{suc, ◌+◌, ◌-◌, ◌≤◌, ◌<◌}
+use Prim.Native.Nat.{ℕ, suc, ◌+◌, ◌-◌, ◌≤◌, ◌<◌}
 use lib.ListN.{length, take, drop}
 use Rattle.spec.specs.Limits.{max_rank, max_count}
 use Rattle.spec.specs.Types.{Classes}
-use Rattle.points.specs.declared.Found.{Found}
-use Rattle.points.specs.declared.Found.TheVariants.{At}
+use Rattle.std.specs.Prelude.{Option, Some}
 use Rattle.ranked.specs.Words.{first_at, size_at, abs_in}
 use Rattle.ranked.specs.Layout.{class_at}
 use Rattle.marks.specs.Rises.{Landed}
 use Rattle.marks.specs.Rows.{classes_on, ClassesOf}
 use Rattle.marks.proofs.Carried.{ranks_lie, cells_long, cells_share, fewer_left, elements-first, cell_in, elements_in, elements_stop, elements-next, elements-end}
-use Rattle.marks.proofs.carry_rank.Goals.{In-At, In-loop-e, Start}
+use Rattle.marks.proofs.carry_rank.Goals.{In-Some, In-loop-e, Start}
 use Rattle.marks.proofs.carry_rank.Goals as goal
 
 -- The rank's classes lie in the floats.
@@ -32,19 +31,19 @@ share c =
     cells_share a.sh a.lists.now a.floats.now c.requires.row.0.held c.requires.row.1 a.r c.requires.rank.low c.requires.rank.high _ c.class-from.ensures
 
 -- The cell to write lies in the cells, and what is written is where the element goes.
-lies : (c : In-At) → c.start-base.result + c.loop-e.e < length c.loop-e.goes
+lies : (c : In-Some) → c.start-base.result + c.loop-e.e < length c.loop-e.goes
 lies c =
     omega (arith, cell_in c.loop-e.invariant c.requires.row.0.held c.loop-e-test.true)
 
-carried : (c : In-At) →
+carried : (c : In-Some) →
     (let a = c.args in
-    Landed (abs_in a.sh a.lists.now) (classes_here (goal.at.overflow_cast-goes c).In-loop-e) a.row.now a.r c.loop-e.e (At c.in-At.x))
+    Landed (abs_in a.sh a.lists.now) (classes_here (goal.at.overflow_cast-goes c).In-loop-e) a.row.now a.r c.loop-e.e (Some c.in-Some.x))
 carried c =
     let a = c.args in
-    subst (λ (x : Found). Landed (abs_in a.sh a.lists.now) (classes_here (goal.at.overflow_cast-goes c).In-loop-e) a.row.now a.r c.loop-e.e x) c.in-At.is
+    subst (λ (x : Option ℕ). Landed (abs_in a.sh a.lists.now) (classes_here (goal.at.overflow_cast-goes c).In-loop-e) a.row.now a.r c.loop-e.e x) c.in-Some.is
     (c.image_of.ensures (classes_here (goal.at.overflow_cast-goes c).In-loop-e) (share (goal.at.overflow_cast-goes c).In-loop-e))
 
-small : (c : In-At) → c.in-At.x < max_count
+small : (c : In-Some) → c.in-Some.x < max_count
 small c =
     omega (arith, elements_in c.loop-e.invariant c.requires.row.0.held (carried c).1, c.requires.row.0.held.few c.args.r (omega (arith, c.loop-e.invariant.rank.high)))
 

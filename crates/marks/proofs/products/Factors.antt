@@ -3,11 +3,11 @@
 use mathlib.Core.Path.{◌≡◌, sym, ap, ◌∙◌}
 use Prim.Native.Nat.{ℕ, ◌+◌, ◌*◌, ◌≤◌, ◌<◌}
 use mathlib.Core.List.{List, [], map}
-use native.Mathlib.Nat.{not-suc-le-zero}
 use native.Mathlib.Omega.{arith}
-use borrow.Author.Count.{below_more}
 use lib.ListN.{length, get_or, drop, length-map, length-drop}
 use lib.Seq.{ext_get_or, length-take-le}
+use Rattle.std.specs.List.{AllWithin, zip}
+use Rattle.std.proofs.lemmas.Slice.Zip.{length-zip, get_or-zip}
 use Rattle.spec.specs.Types.{Solid, Classes}
 use Rattle.spec.specs.Demand.{Sound}
 use Rattle.spec.specs.Lists.{parts}
@@ -25,23 +25,13 @@ pub row_long : (v k : ℕ) (rows : List ℕ) → k * v + v ≤ length rows → l
 unfolding row_at
 row_long v k rows h = length-take-le v (drop (k * v) rows) (omega (arith, length-drop (k * v) rows))
 
--- ---- entry by entry
-
-module _ (row a g : List ℕ) where
-  -- The first i entries are the product's.
-  abbrev pub SameTo : ℕ → Type 0
-  SameTo i = (j : ℕ) → j < i → get_or row j 0 ≡ get_or a (get_or g j 0) 0
-
-  pub same_none : SameTo 0
-  same_none j h = absurd (not-suc-le-zero h)
-
-  pub same_next : (i : ℕ) → SameTo i → get_or row i 0 ≡ get_or a (get_or g i 0) 0 → SameTo (i + 1)
-  same_next i s e = below_more (λ j. get_or row j 0 ≡ get_or a (get_or g j 0) 0) i s e
-
-  pub same_end : (i : ℕ) → length row ≡ length g → length row ≤ i → SameTo i → row ≡ composed a g
-  unfolding composed
-  same_end i l h s =
-      ext_get_or 0 row (composed a g) (l ∙ sym (length-map g _)) (λ j k. s j (omega arith) ∙ sym (get_or-map (λ v. get_or a v 0) 0 0 g j (omega arith)))
+-- Each pair of an entry of the row and one of g holds what a takes the latter to, so the row is the product.
+pub product_is : (row a g : List ℕ) → length row ≡ length g → AllWithin (λ (p : ℕ × ℕ). p.0 ≡ get_or a p.1 0) (zip row g) 0 (length (zip row g)) → row ≡ composed a g
+unfolding composed
+product_is row a g l h =
+    let n : length (zip row g) ≡ length row = omega (arith, length-zip row g) in
+    ext_get_or 0 row (composed a g) (l ∙ sym (length-map g _)) (λ j k.
+    rw (get_or-zip row g j (0, 0) k (omega arith)) at (h j (0, 0) (omega arith) (omega arith)) ∙ sym (get_or-map (λ v. get_or a v 0) 0 0 g j (omega arith)))
 
 -- ---- the mark
 

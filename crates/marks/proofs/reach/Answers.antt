@@ -6,11 +6,11 @@ use Prim.Native.Nat.{suc, ◌-◌, ◌≤◌}
 use Rattle.marks.proofs.Carried.{row-cell, vertex_lands, cells_low, element-lands}
 use Rattle.marks.proofs.reach.Goals as goal
 
-pub cell-requires : goal.cell-requires
-cell-requires c = row-cell c.requires.row c.requires.rank.0 c.args.e c.requires.rank.1 c.if-r-eq1.true
+pub bounds-row-e : goal.bounds-row-e
+bounds-row-e c = row-cell c.requires.row c.requires.rank.0 c.args.e c.requires.rank.1 c.if-r-eq1.true
 
 pub returns-then-r-eq1 : goal.returns-then-r-eq1
-returns-then-r-eq1 c = vertex_lands c.requires.row c.requires.rank.0 c.args.e c.requires.rank.1 c.if-r-eq1.true _ c.cell.ensures
+returns-then-r-eq1 c = vertex_lands c.requires.row c.requires.rank.0 c.args.e c.requires.rank.1 c.if-r-eq1.true _ c.from.ensures
 
 pub rise-requires : goal.rise-requires
 rise-requires c =
@@ -23,7 +23,7 @@ rise-requires c =
       by_index = cells_low c.requires.row b c.args.e c.requires.rank.1 two;
     }
 
-pub returns : goal.returns
-returns c =
+pub returns-else-r-eq1 : goal.returns-else-r-eq1
+returns-else-r-eq1 c =
     let b = c.requires.rank.0 in
     element-lands c.requires.row b (omega (arith, b.low, c.if-r-eq1.false)) c.args.e c.requires.rank.1 _ c.rise.ensures

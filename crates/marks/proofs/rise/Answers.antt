@@ -9,7 +9,7 @@ use Rattle.ranked.specs.Words.{first_at, list_at, subs_word}
 use Rattle.ranked.proofs.Solids.{subs_lie}
 use Rattle.ranked.proofs.Turns.{entry_in}
 use Rattle.marks.proofs.Found.{some_sub, sub-cell, over_lie, each_lie, rises}
-use Rattle.marks.proofs.rise.Goals.{After-cell-y, After-entry_at-f, Start}
+use Rattle.marks.proofs.rise.Goals.{After-from-y, After-entry_at-f, Start}
 use Rattle.marks.proofs.rise.Goals as goal
 
 -- The subs of an element of the rank above stand at the word that the program has for them.
@@ -28,8 +28,8 @@ lies c =
     (entry_in (list_at a.lists.now (subs_word (first_at a.sh (suc a.r)) a.e)) 0 _ (some_sub a.sh a.lists.now c.requires.held a.goes.now a.r a.e p.0 p.1 p.2 c.requires.by_index) (first c))
 
 -- It goes where its cell says.
-goes : (c : After-cell-y) → let a = c.args in c.cell-y.result ≡ get_or a.goes.now (first_at a.sh a.r + c.entry_at-f.result) 0
-goes c = rw c.start-base.ensures at c.cell-y.ensures
+goes : (c : After-from-y) → let a = c.args in c.from-y.result ≡ get_or a.goes.now (first_at a.sh a.r + c.entry_at-f.result) 0
+goes c = rw c.start-base.ensures at c.from-y.ensures
 
 pub start-base-requires : goal.start-base-requires
 start-base-requires c = omega (arith, c.requires.r_bound.0, c.requires.held.tall)
@@ -54,8 +54,11 @@ entry_at-f-requires c =
 pub overflow_add-base : goal.overflow_add-base
 overflow_add-base c = omega (arith, lies c, c.start-base.ensures)
 
-pub cell-y-requires : goal.cell-y-requires
-cell-y-requires c = omega (arith, lies c, c.start-base.ensures)
+pub offset_bounds-goes-base : goal.offset_bounds-goes-base
+offset_bounds-goes-base c = omega (arith, lies c, c.start-base.ensures)
+
+pub bounds-goes-base : goal.bounds-goes-base
+bounds-goes-base c = rw c.start-base.ensures (lies (goal.at.bounds-goes-base c).After-entry_at-f)
 
 pub sups-j-requires : goal.sups-j-requires
 sups-j-requires c =
@@ -78,8 +81,8 @@ first_onto-requires c =
     rw (c.subs-i.ensures, word (goal.at.first_onto-requires c).Start a.e, c.sups-j.ensures, c.subs-up.ensures, word (goal.at.first_onto-requires c).Start 0, c.start-base.ensures) (record {
       lies = (
         subs_lie a.sh a.lists.now c.requires.held (suc a.r) a.e p.0 p.1,
-        over_lie a.sh a.lists.now c.requires.held a.goes.now a.r a.e p.0 p.1 p.2 c.requires.by_index _ _ (first (goal.at.first_onto-requires c).After-entry_at-f) (goes (goal.at.first_onto-requires c).After-cell-y),
-        each_lie a.sh a.lists.now c.requires.held a.goes.now a.r a.e p.0 p.1 p.2 c.requires.by_index _ _ (first (goal.at.first_onto-requires c).After-entry_at-f) (goes (goal.at.first_onto-requires c).After-cell-y),
+        over_lie a.sh a.lists.now c.requires.held a.goes.now a.r a.e p.0 p.1 p.2 c.requires.by_index _ _ (first (goal.at.first_onto-requires c).After-entry_at-f) (goes (goal.at.first_onto-requires c).After-from-y),
+        each_lie a.sh a.lists.now c.requires.held a.goes.now a.r a.e p.0 p.1 p.2 c.requires.by_index _ _ (first (goal.at.first_onto-requires c).After-entry_at-f) (goes (goal.at.first_onto-requires c).After-from-y),
       );
       by_index = sub-cell a.sh a.lists.now c.requires.held a.goes.now a.r a.e p.0 p.1 p.2 c.requires.by_index;
     })
@@ -88,5 +91,5 @@ pub returns : goal.returns
 returns c =
     let a = c.args in
     let p = c.requires.r_bound in
-    rises a.sh a.lists.now c.requires.held a.goes.now a.r a.e p.0 p.1 p.2 c.requires.by_index _ _ (first (goal.at.returns c).After-entry_at-f) (goes (goal.at.returns c).After-cell-y) _
+    rises a.sh a.lists.now c.requires.held a.goes.now a.r a.e p.0 p.1 p.2 c.requires.by_index _ _ (first (goal.at.returns c).After-entry_at-f) (goes (goal.at.returns c).After-from-y) _
     (rw (c.subs-i.ensures, word (goal.at.returns c).Start a.e, c.sups-j.ensures, c.subs-up.ensures, word (goal.at.returns c).Start 0, c.start-base.ensures) at c.first_onto.ensures)

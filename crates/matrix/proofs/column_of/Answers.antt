@@ -17,24 +17,22 @@ use Rattle.matrix.proofs.column_of.Goals.{Start}
 use Rattle.matrix.proofs.column_of.Goals as goal
 
 pub loop-i-init : goal.loop-i-init
-loop-i-init c = (search rules, none)
+loop-i-init c = none
 
 pub loop-i-preserved : goal.loop-i-preserved
 loop-i-preserved c =
     let l = c.loop-i in
-    let s = (goal.at.loop-i-preserved c).Start in
-    let row = get_or s.args.c l.i [] in
-    let k : length row ≡ max_dimension = wide (FloatOf binary64) max_dimension max_dimension s.args.c _ l.i s.well_formed.0 (omega arith) in
-    let e : get_or row s.args.j nan ≡ get_or (take s.args.d row) s.args.j zero_f =
-    get_d_any row s.args.j nan zero_f (omega arith) ∙ sym (get_or-take s.args.d row s.args.j zero_f (omega arith)) in
-    (search rules, next _ (omega arith) e l.invariant.1)
+    let row = get_or c.args.c l.i [] in
+    let k : length row ≡ max_dimension = wide (FloatOf binary64) max_dimension max_dimension c.args.c _ l.i c.well_formed.0 (omega arith) in
+    let e : get_or row c.args.j nan ≡ get_or (take c.args.d row) c.args.j zero_f =
+    get_d_any row c.args.j nan zero_f (omega arith) ∙ sym (get_or-take c.args.d row c.args.j zero_f (omega arith)) in
+    next _ (omega arith) e l.invariant
 
 pub returns : goal.returns
 unfolding of_bits zero_f
 returns c =
-    let s = (goal.at.returns c).Start in
-    let m = s.args.c in
-    let d = s.args.d in
+    let m = c.args.c in
+    let d = c.args.d in
     let h : length m ≡ max_dimension = search rules in
-    padded_table _ _ _ d c.loop-i.invariant.0 c.loop-i-test.false c.loop-i.invariant.1
-    ∙ ap padded (over-corner (λ x. get_or x s.args.j zero_f) d m (omega arith))
+    padded_table _ _ _ d c.loop-i.auto.i-end c.loop-i-test.false c.loop-i.invariant
+    ∙ ap padded (over-corner (λ x. get_or x c.args.j zero_f) d m (omega arith))

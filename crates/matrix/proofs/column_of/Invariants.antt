@@ -1,14 +1,10 @@
--- The loop's invariant is that the cells below i hold the rows' entries at j. The measure is what is left of d.
+-- The loop's invariant is that the cells below i hold the rows' entries at j.
 -- Assumes nothing.
 use mathlib.Core.List.{[]}
-use Prim.Native.Nat.{◌≤◌, ◌-◌}
 use lib.ListN.{get_or, take}
 use Rattle.spec.specs.Float.{zero_f}
 use Rattle.float.proofs.Written.{Written}
 use Rattle.matrix.proofs.column_of.Given as goal
 
 abbrev pub invariant-loop-i : goal.invariant-loop-i
-invariant-loop-i l = (l.i ≤ l.d) × Written (λ x. x) (λ k. get_or (take l.d (get_or l.c k [])) l.j zero_f) l.initial.r l.r l.i
-
-abbrev pub decreases-loop-i : goal.decreases-loop-i
-decreases-loop-i l = l.d - l.i
+invariant-loop-i l = Written (λ x. x) (λ k. get_or (take l.d (get_or l.c k [])) l.j zero_f) l.initial.r l.r l.i

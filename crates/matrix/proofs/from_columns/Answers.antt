@@ -12,15 +12,14 @@ use Rattle.matrix.proofs.Padded.{padded-rows_table}
 use Rattle.matrix.proofs.from_columns.Goals as goal
 
 pub loop-i-init : goal.loop-i-init
-loop-i-init c = (search rules, none)
+loop-i-init c = none
 
 pub loop-i-preserved : goal.loop-i-preserved
-loop-i-preserved c = (search rules, next _ (omega arith) c.column_of.ensures c.loop-i.invariant.1)
+loop-i-preserved c = next _ (omega arith) c.column_of.ensures c.loop-i.invariant
 
 pub returns : goal.returns
 unfolding of_bits zero_f
 returns c =
-    let s = c.before.before in
-    let h : length s.args.c ≡ max_dimension = search rules in
-    padded-rows_table _ _ _ s.args.d c.loop-i.invariant.0 c.loop-i-test.false c.loop-i.invariant.1
-    ∙ ap padded_rows (columns-corner s.args.d s.args.c (omega arith))
+    let h : length c.args.c ≡ max_dimension = search rules in
+    padded-rows_table _ _ _ c.args.d c.loop-i.auto.i-end c.loop-i-test.false c.loop-i.invariant
+    ∙ ap padded_rows (columns-corner c.args.d c.args.c (omega arith))

@@ -1,7 +1,6 @@
--- The loop's invariant is that the rows below i hold the columns. The measure is what is left of d.
+-- The loop's invariant is that the rows below i hold the columns.
 -- Assumes nothing.
 use mathlib.Core.List.{map}
-use Prim.Native.Nat.{◌≤◌, ◌-◌}
 use lib.ListN.{get_or}
 use Rattle.spec.specs.Float.{zero_f}
 use Rattle.float.specs.Reading.{padded}
@@ -10,7 +9,4 @@ use Rattle.float.proofs.Written.{Written}
 use Rattle.matrix.proofs.from_columns.Given as goal
 
 abbrev pub invariant-loop-i : goal.invariant-loop-i
-invariant-loop-i l = (l.i ≤ l.d) × Written (λ x. x) (λ j. padded (map (λ row. get_or row j zero_f) (corner l.d l.c))) l.initial.r l.r l.i
-
-abbrev pub decreases-loop-i : goal.decreases-loop-i
-decreases-loop-i l = l.d - l.i
+invariant-loop-i l = Written (λ x. x) (λ j. padded (map (λ row. get_or row j zero_f) (corner l.d l.c))) l.initial.r l.r l.i

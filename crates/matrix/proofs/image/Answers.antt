@@ -14,19 +14,17 @@ use Rattle.matrix.proofs.image.Goals.{At-loop-i, Start}
 use Rattle.matrix.proofs.image.Goals as goal
 
 pub loop-i-init : goal.loop-i-init
-loop-i-init c = (search rules, none)
+loop-i-init c = none
 
 pub loop-i-preserved : goal.loop-i-preserved
 loop-i-preserved c =
-    let s = (goal.at.loop-i-preserved c).At-loop-i in
-    (search rules, next _ (omega arith) c.dot_of.ensures s.loop-i.invariant.1)
+    next _ (omega arith) c.dot_of.ensures c.loop-i.invariant
 
 pub returns : goal.returns
 unfolding mul_vec of_bits zero_f
 returns c =
-    let s = (goal.at.returns c).Start in
-    let m = s.args.m in
-    let d = s.args.d in
+    let m = c.args.m in
+    let d = c.args.d in
     let h : length m ≡ max_dimension = search rules in
-    padded_table _ _ _ d c.loop-i.invariant.0 c.loop-i-test.false c.loop-i.invariant.1
-    ∙ ap padded (over-corner (λ x. dot x (take d s.args.v)) d m (omega arith))
+    padded_table _ _ _ d c.loop-i.auto.i-end c.loop-i-test.false c.loop-i.invariant
+    ∙ ap padded (over-corner (λ x. dot x (take d c.args.v)) d m (omega arith))

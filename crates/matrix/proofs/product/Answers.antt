@@ -16,21 +16,20 @@ use Rattle.matrix.proofs.product.Goals.{After-from_columns-t}
 use Rattle.matrix.proofs.product.Goals as goal
 
 pub loop-i-init : goal.loop-i-init
-loop-i-init c = (search rules, none)
+loop-i-init c = none
 
 pub loop-i-preserved : goal.loop-i-preserved
-loop-i-preserved c = (search rules, next _ (omega arith) (c.image.ensures ∙ ap padded (image_dots _ _)) c.loop-i.invariant.1)
+loop-i-preserved c = next _ (omega arith) (c.image.ensures ∙ ap padded (image_dots _ _)) c.loop-i.invariant
 
 pub returns : goal.returns
 unfolding mul_mat of_bits zero_f
 returns c =
-    let s = (goal.at.returns c).After-from_columns-t in
-    let a = s.args.a in
-    let b = s.args.b in
-    let d = s.args.d in
+    let a = c.args.a in
+    let b = c.args.b in
+    let d = c.args.d in
     let h : length a ≡ max_dimension = search rules in
     let k : length b ≡ max_dimension = search rules in
-    padded-rows_table _ _ _ d c.loop-i.invariant.0 c.loop-i-test.false c.loop-i.invariant.1
+    padded-rows_table _ _ _ d c.loop-i.auto.i-end c.loop-i-test.false c.loop-i.invariant
     ∙ ap padded_rows
-    (over-corner (λ x. map (dot x) (corner d s.from_columns-t.result)) d a (omega arith)
-    ∙ rw (corner-columns d (corner d b) (length-corner d b (omega arith)) s.from_columns-t.result s.from_columns-t.ensures))
+    (over-corner (λ x. map (dot x) (corner d c.from_columns-t.result)) d a (omega arith)
+    ∙ rw (corner-columns d (corner d b) (length-corner d b (omega arith)) c.from_columns-t.result c.from_columns-t.ensures))

@@ -1,7 +1,6 @@
--- The loop's invariant is that the rows below i hold the product's. The measure is what is left of d.
+-- The loop's invariant is that the rows below i hold the product's.
 -- Assumes nothing.
 use mathlib.Core.List.{[], map}
-use Prim.Native.Nat.{◌≤◌, ◌-◌}
 use lib.ListN.{get_or, take}
 use Rattle.spec.specs.Float.{dot}
 use Rattle.float.specs.Reading.{padded}
@@ -10,7 +9,4 @@ use Rattle.float.proofs.Written.{Written}
 use Rattle.matrix.proofs.product.Given as goal
 
 abbrev pub invariant-loop-i : goal.invariant-loop-i
-invariant-loop-i l = (l.i ≤ l.d) × Written (λ x. x) (λ k. padded (map (dot (take l.d (get_or l.a k []))) (corner l.d l.t))) l.initial.r l.r l.i
-
-abbrev pub decreases-loop-i : goal.decreases-loop-i
-decreases-loop-i l = l.d - l.i
+invariant-loop-i l = Written (λ x. x) (λ k. padded (map (dot (take l.d (get_or l.a k []))) (corner l.d l.t))) l.initial.r l.r l.i

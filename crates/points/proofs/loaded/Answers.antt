@@ -14,8 +14,5 @@ long c =
     let a = c.args in
     ap length c.point.ensures ∙ length-take-le _ _ (omega (arith, length-drop (a.v * a.d) a.points.now, c.requires))
 
-pub load-requires : goal.load-requires
-load-requires c = omega (arith, long c, c.requires)
-
 pub returns : goal.returns
 returns c = take-padded _ _ _ (long (goal.at.returns c).After-point) c.load.ensures ∙ c.point.ensures

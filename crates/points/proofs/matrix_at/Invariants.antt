@@ -1,7 +1,7 @@
--- The loop's invariant is that the rows before i are the slice's. The measure is what is left of d.
+-- The loop's invariant is that the rows before i are the slice's.
 -- Assumes nothing.
 use mathlib.Core.List.{List}
-use Prim.Native.Nat.{ℕ, ◌*◌, ◌≤◌, ◌-◌}
+use Prim.Native.Nat.{ℕ, ◌*◌}
 use lib.ListN.{take, drop}
 use lib.Ieee.{Float}
 use Rattle.float.proofs.Written.{Written}
@@ -11,7 +11,4 @@ abbrev pub row : List Float → ℕ → ℕ → ℕ → List Float
 row matrices d j i = take d (drop (i * d) (drop (j * (d * d)) matrices))
 
 abbrev pub invariant-loop-i : goal.invariant-loop-i
-invariant-loop-i l = (l.i ≤ l.d) × Written (take l.d) (row l.matrices l.d l.j) l.initial.m l.m l.i
-
-abbrev pub decreases-loop-i : goal.decreases-loop-i
-decreases-loop-i l = l.d - l.i
+invariant-loop-i l = Written (take l.d) (row l.matrices l.d l.j) l.initial.m l.m l.i

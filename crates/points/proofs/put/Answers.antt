@@ -13,14 +13,14 @@ long : (c : Start) → length c.args.q ≡ max_dimension
 long c = search rules
 
 pub loop-i-init : goal.loop-i-init
-loop-i-init c = (search rules, none)
+loop-i-init c = none
 
 pub loop-i-preserved : goal.loop-i-preserved
-loop-i-preserved c = (search rules, next _ (omega arith) refl c.loop-i.invariant.1)
+loop-i-preserved c = next _ (omega arith) refl c.loop-i.invariant
 
 pub returns : goal.returns
 returns c =
     let s = (goal.at.returns c).Start in
     let l = c.loop-i in
     let k = long s in
-    front_copied s.args.d l.invariant.0 c.loop-i-test.false s.args.q nan (omega arith) l.invariant.1
+    front_copied s.args.d l.auto.i-end c.loop-i-test.false s.args.q nan (omega arith) l.invariant

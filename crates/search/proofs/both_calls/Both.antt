@@ -1,13 +1,12 @@
 -- The promises of both calls are put together here. The workspace keeps its lengths from the first call to the second.
 -- Assumes nothing.
+use Rattle.std.specs.Prelude.{Ok}
 use mathlib.Core.Path.{◌≡◌, sym, ap, ◌∙◌}
 use mathlib.Core.List.{List}
 use Prim.Native.Nat.{ℕ}
 use lib.ListN.{length}
 use lib.Ieee.{Float}
-use Rattle.spec.specs.declared.Answer.{Answer}
-use Rattle.spec.specs.declared.Answer.TheVariants.{Done}
-use Rattle.spec.specs.Refusal.{answer_count}
+use Rattle.spec.specs.Refusal.{answer_count, Answer}
 use Rattle.spec.specs.Mark.{goes}
 use Rattle.spec.specs.Calls.{TypesOut, types_call, SearchOut}
 use Rattle.spec.specs.Demand3Calls.{row_at}
@@ -20,13 +19,13 @@ use Rattle.search.specs.Both.{BothCalls}
 -- The words and floats are ws and fs before the first call, and ws' and fs' between the two.
 pub both : (call : List ℕ → ℕ → ℕ → SearchOut → Answer × SearchOut) (b ws ws' : List ℕ) (fs fs' : List Float) (old new : TypesOut) (before after : SearchOut) (t m : Answer)
     → (t, new) ≡ types_call b (length ws) (length fs) old
-    → ((n : ℕ) → t ≡ Done n → Demand3Cells b (length ws) (length fs) new.elements)
+    → ((n : ℕ) → t ≡ Ok n → Demand3Cells b (length ws) (length fs) new.elements)
     → Free ws ws' fs fs'
     → (m, after) ≡ call b (length ws') (length fs') before
     → Demand3Told b (answer_count m) after.rows after.marks
     → BothCalls call b (length ws) (length fs) (record { types = t; members = m }) old new before after
 both call b ws ws' fs fs' old new before after t m p cells free q told =
-    let rows : (n : ℕ) → t ≡ Done n → Demand3Rows b (length ws) (length fs) old n (answer_count m) after.rows after.marks =
+    let rows : (n : ℕ) → t ≡ Ok n → Demand3Rows b (length ws) (length fs) old n (answer_count m) after.rows after.marks =
     λ n d. told _ _ _ n (sym (ap (λ (x : Answer × TypesOut). x.0) p) ∙ d) in
     record {
       types = p;

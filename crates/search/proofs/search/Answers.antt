@@ -9,7 +9,7 @@ pub returns : goal.returns
 returns c =
     let t = told false _ _ _ _ _ _ c.run.ensures in
     record {
-      marks_after = t.0;
-      demand3told = t.1;
+      as_defined = t.0;
+      types_kept = t.1;
       free = record { words = search rules; floats = search rules };
     }

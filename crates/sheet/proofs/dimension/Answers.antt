@@ -1,6 +1,5 @@
 -- The three bits behind R are whole, because the sheet is accepted.
 -- Assumes nothing.
-use mathlib.Core.Path.{◌∙◌}
 use native.Mathlib.Omega.{arith}
 use Rattle.sheet.proofs.Laws.{dimension-field}
 use Rattle.sheet.proofs.dimension.Goals as goal
@@ -9,4 +8,4 @@ pub field-requires : goal.field-requires
 field-requires c = let h = dimension-field _ c.requires in omega (arith, h.0)
 
 pub returns : goal.returns
-returns c = c.field.ensures ∙ (dimension-field _ c.requires).1
+returns c = rw c.field.ensures (dimension-field _ c.requires).1

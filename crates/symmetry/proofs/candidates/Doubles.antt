@@ -1,7 +1,8 @@
 -- No point is near a later one exactly if that holds of what is left, and the later points are the parts of what is left of the slice.
 -- Assumes nothing.
+use Rattle.std.specs.Prelude.{Option, None, Some, is_some}
 use mathlib.Core.Path.{◌≡◌, refl, sym, ap, ◌∙◌}
-use mathlib.Core.Bool.{Bool, true, false, not, ◌&&◌}
+use mathlib.Core.Bool.{Bool, true, false, not, ◌&&◌, false≢true}
 use mathlib.Core.List.{List, []}
 use Prim.Native.Nat.{ℕ, zero, suc, ◌+◌, ◌-◌, ◌*◌, ◌≤◌, ◌<◌}
 use native.Mathlib.Nat.{zero-add, suc-add, zero-mul, suc-mul, add_comm}
@@ -13,8 +14,6 @@ use lib.Ieee.{Float}
 use Rattle.spec.specs.Matrix.{Vector}
 use Rattle.spec.specs.Lists.{no_repeats, parts}
 use Rattle.spec.specs.Points.{near, found, find}
-use Rattle.points.specs.declared.Found.{Found}
-use Rattle.points.specs.declared.Found.TheVariants.{At, Nothing}
 use Rattle.points.specs.Finding.{found_at}
 use Rattle.points.proofs.Parts.{length-parts, part_at, part_end}
 use Rattle.points.proofs.Finding.{is_found, is_missing}
@@ -78,7 +77,7 @@ module _ (n d i : ℕ) (l : List Float) (h : i < n) (f : n * d ≤ length l) whe
       go k e = rw (add-one i) (later (suc i) k d l ∙ ap (λ (x : ℕ). drop (suc i) (parts x d l)) e)
 
   -- The code's answer for point i among the later ones is that of `find`.
-  module _ (q : Vector) (is : take d q ≡ take d (drop (i * d) l)) (r : Found) (e : r ≡ found_at (n - (i + 1)) (find (parts (n - (i + 1)) d rest) (take d q))) where
+  module _ (q : Vector) (is : take d q ≡ take d (drop (i * d) l)) (r : Option ℕ) (e : r ≡ found_at (n - (i + 1)) (find (parts (n - (i + 1)) d rest) (take d q))) where
     same : found_at (n - (i + 1)) (find (drop (suc i) (parts n d l)) (get_or (parts n d l) i [])) ≡ r
     same =
         sym
@@ -89,8 +88,16 @@ module _ (n d i : ℕ) (l : List Float) (h : i < n) (f : n * d ≤ length l) whe
     many : length (drop (suc i) (parts n d l)) ≡ n - (i + 1)
     many = length-drop (suc i) (parts n d l) ∙ omega (arith, length-parts n d l)
 
-    pub double_not : Apart (parts n d l) i → {k : ℕ} → r ≡ At k → false ≡ no_repeats near (parts n d l)
-    double_not inv z = apart_not (parts n d l) i (omega (arith, length-parts n d l)) inv (is_found _ _ many (same ∙ z))
+    pub double_not : Apart (parts n d l) i → is_some r ≡ true → false ≡ no_repeats near (parts n d l)
+    double_not inv z = go r refl z
+      where
+        go : (o : Option ℕ) → r ≡ o → is_some o ≡ true → false ≡ no_repeats near (parts n d l)
+        go (Some k) q y = apart_not (parts n d l) i (omega (arith, length-parts n d l)) inv (is_found _ _ many (same ∙ q))
+        go None q y = absurd (false≢true y)
 
-    pub double_next : Apart (parts n d l) i → r ≡ Nothing → Apart (parts n d l) (i + 1)
-    double_next inv z = apart_next (parts n d l) i (omega (arith, length-parts n d l)) inv (is_missing _ _ many (same ∙ z))
+    pub double_next : Apart (parts n d l) i → is_some r ≡ false → Apart (parts n d l) (i + 1)
+    double_next inv z = go r refl z
+      where
+        go : (o : Option ℕ) → r ≡ o → is_some o ≡ false → Apart (parts n d l) (i + 1)
+        go (Some k) q y = absurd (false≢true (sym y))
+        go None q y = apart_next (parts n d l) i (omega (arith, length-parts n d l)) inv (is_missing _ _ many (same ∙ q))

@@ -1,14 +1,12 @@
 -- This file has sums of squares: the loop that makes one, and that an element's fingerprint fits a word.
 -- Assumes nothing.
-use mathlib.Core.Path.{◌≡◌, refl, ap}
+use Rattle.std.specs.List.{sum_by}
+use Rattle.std.proofs.lemmas.List.Recursion.{is_sum_by}
+use mathlib.Core.Path.{◌≡◌, refl}
 use mathlib.Core.Bool.{Bool, true, false}
 use mathlib.Core.List.{List, [], ◌∷◌}
 use Prim.Native.Nat.{ℕ, zero, suc, ◌+◌, ◌-◌, ◌*◌, ◌^◌, ◌≤◌, ◌<◌}
-use native.Mathlib.Numerals.{add-one}
-use native.Mathlib.Nat.{mul-le-mul}
 use native.Mathlib.Omega.{arith}
-use lib.ListN.{length, get_or, drop, drop_of_length-le}
-use lib.Seq.{drop-cons}
 use lib.Dec.{eqb, ltb}
 use borrow.Author.Tests.{ltb-true}
 use Rattle.spec.specs.Limits.{max_count}
@@ -16,40 +14,11 @@ use Rattle.spec.specs.Lists.{range, keep, holds, in_order}
 use Rattle.spec.specs.Types.{Solid, size, reach, vertices}
 use Rattle.symmetry.specs.Fingerprints.{fingerprint_of}
 
--- ---- the loop
+-- ---- a list's fingerprint
 
--- The number p is the sum over the first k entries.
-pub record Summed (l : List ℕ) (p k : ℕ) : Type 0 where
-  pub bound : k ≤ length l
-  pub few : p ≤ k * 2 ^ 32
-  pub rest : p + fingerprint_of (drop k l) ≡ fingerprint_of l
-
-pub summed_first : (l : List ℕ) → Summed l 0 0
-summed_first l = record { bound = omega arith; few = omega arith; rest = omega arith }
-
-pub square-fits : (v : ℕ) → v < 2 ^ 16 → v * v < 2 ^ 32
-square-fits v h = let m : v * v ≤ 65535 * 65535 = mul-le-mul {n₂ = 65535} {m₂ = 65535} (omega arith) (omega arith) in omega arith
-
-module _ {l : List ℕ} {p k : ℕ} (s : Summed l p k) (h : k < length l) where
-  opened : fingerprint_of (drop k l) ≡ get_or l k 0 * get_or l k 0 + fingerprint_of (drop (suc k) l)
-  unfolding fingerprint_of
-  opened = ap fingerprint_of (drop-cons l k 0 h)
-
-  pub sum_fits : length l ≤ max_count → get_or l k 0 < 2 ^ 16 → p + get_or l k 0 * get_or l k 0 < 2 ^ 64
-  sum_fits a b = omega (arith, square-fits (get_or l k 0) b, s.few)
-
-  pub summed_next : get_or l k 0 < 2 ^ 16 → Summed l (p + get_or l k 0 * get_or l k 0) (k + 1)
-  summed_next b = record {
-    bound = omega arith;
-    few = omega (arith, square-fits (get_or l k 0) b, s.few);
-    rest = rw (add-one k) (omega (arith, opened, s.rest));
-  }
-
-pub summed_end : {l : List ℕ} {p k : ℕ} → Summed l p k → length l ≤ k → p ≡ fingerprint_of l
+pub squares_summed : (l : List ℕ) → fingerprint_of l ≡ sum_by (λ v. v * v) l
 unfolding fingerprint_of
-summed_end {l} {p} {k} s h =
-    let z : fingerprint_of (drop k l) ≡ 0 = ap fingerprint_of (drop_of_length-le l {i = k} h) in
-    omega (arith, s.rest)
+squares_summed = is_sum_by fingerprint_of (λ v. v * v) refl (λ v l. refl)
 
 -- ---- an element's fingerprint
 

@@ -29,13 +29,10 @@ fn rank_apart(words: &[u32], sh: Shape, r: usize) -> bool
     requires le_r { (1 ≤ r) × (r < sh.rank) }
     ensures { result ≡ no_repeats eq_list (vertex_sets (abstract_in sh words.now) r) }
 {
-    let many = sh.size(r);
-    let mut e: usize = 0;
-    while e < many {
+    for e in 0..sh.size(r) {
         if is_repeated(words, sh, r, e) {
             return false;
         }
-        e += 1;
     }
     true
 }
@@ -45,13 +42,10 @@ pub fn are_apart(words: &[u32], sh: Shape) -> bool
     requires { Fingerprinted sh words.now }
     ensures { result ≡ sets_apart (abstract_in sh words.now) }
 {
-    let rank = sh.rank;
-    let mut r: usize = 1;
-    while r < rank {
+    for r in 1..sh.rank {
         if !rank_apart(words, sh, r) {
             return false;
         }
-        r += 1;
     }
     true
 }

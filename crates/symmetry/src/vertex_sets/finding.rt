@@ -13,24 +13,6 @@ use ranked::lists::get;
 use ranked::vertices::vertex_list;
 use spec::MAX_COUNT;
 
-// Tells whether two lists are the same.
-fn same_list(a: &[u16], b: &[u16]) -> bool
-    ensures { result ≡ eq_list a.now b.now }
-{
-    let n = a.len();
-    if b.len() != n {
-        return false;
-    }
-    let mut k: usize = 0;
-    while k < n {
-        if a[k] != b[k] {
-            return false;
-        }
-        k += 1;
-    }
-    true
-}
-
 // Tells whether the list is that of the vertices of element e of rank r.
 fn same_vertices(lists: &[u32], sh: Shape, r: usize, e: usize, list: &[u16]) -> bool
     requires held { Held sh lists.now }
@@ -39,7 +21,7 @@ fn same_vertices(lists: &[u32], sh: Shape, r: usize, e: usize, list: &[u16]) -> 
 {
     let mut own = [0u16; MAX_COUNT];
     let n = vertex_list(lists, sh, r, e, &mut own);
-    same_list(&own[..n], list)
+    &own[..n] == list
 }
 
 // Tells whether the list is the vertex set of some element of rank r from number `from` on. An element's vertices are listed only where the fingerprints
@@ -52,15 +34,9 @@ pub fn is_vertex_set(words: &[u32], sh: Shape, r: usize, from: usize, list: &[u1
 {
     let p = fingerprint_of(list);
     let first = sh.fingerprints(r);
-    let many = sh.size(r);
-    let mut e = from;
-    while e < many {
-        let i = e;
-        e += 1;
-        if get(words, first + i) == p {
-            if same_vertices(sh.lists(words), sh, r, i, list) {
-                return true;
-            }
+    for e in from..sh.size(r) {
+        if get(words, first + e) == p && same_vertices(sh.lists(words), sh, r, e, list) {
+            return true;
         }
     }
     false

@@ -7,7 +7,6 @@ ghost use Rattle.ranked.specs.Words.{size_at, lists_of, abs_in, Held};
 ghost use Rattle.ranked.specs.Layout.{scratch_at, fingerprints_at};
 ghost use Rattle.symmetry.specs.Fingerprints.{fingerprint_of, Stands, Fingerprinted, ProperElement};
 
-use points::wide;
 use ranked::Shape;
 use ranked::vertices::vertex_list;
 use spec::MAX_COUNT;
@@ -17,15 +16,7 @@ pub fn fingerprint_of(list: &[u16]) -> usize
     requires { length list.now ≤ max_count }
     ensures { result ≡ fingerprint_of list.now }
 {
-    let n = list.len();
-    let mut p: usize = 0;
-    let mut k: usize = 0;
-    while k < n {
-        let v = wide(list[k]);
-        p += v * v;
-        k += 1;
-    }
-    p
+    list.iter().map(|&v| usize::from(v) * usize::from(v)).sum()
 }
 
 // Returns the fingerprint of element e of rank r.
@@ -48,12 +39,8 @@ fn write_rank(words: &mut [u32], sh: Shape, r: usize)
     ensures by_index { (e : ℕ) → e < size_at sh r → Stands sh (lists_of sh words.old) words.new r e }
 {
     let first = sh.fingerprints(r);
-    let many = sh.size(r);
-    let mut e: usize = 0;
-    while e < many {
-        let p = element_fingerprint(sh.lists(words), sh, r, e);
-        words[first + e] = p;
-        e += 1;
+    for e in 0..sh.size(r) {
+        words[first + e] = element_fingerprint(sh.lists(words), sh, r, e);
     }
 }
 
@@ -64,10 +51,7 @@ pub fn write_fingerprints(words: &mut [u32], sh: Shape)
     ensures words_unchanged { take (scratch_at sh) words.new ≡ take (scratch_at sh) words.old }
     ensures fingerprinted { Fingerprinted sh words.new }
 {
-    let rank = sh.rank;
-    let mut r: usize = 1;
-    while r < rank {
+    for r in 1..sh.rank {
         write_rank(words, sh, r);
-        r += 1;
     }
 }

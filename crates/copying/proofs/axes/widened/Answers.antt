@@ -3,22 +3,16 @@ use mathlib.Core.List.{[], map-id}
 use native.Mathlib.Omega.{arith}
 use lib.ListN.{get_or, length}
 use lib.Seq.{take_all}
-use lib.Ieee.{binary64, of_bits}
-use denote.Floats.{FloatOf}
+use lib.Ieee.{of_bits}
 use borrow.Author.Rules.{rules}
 use Rattle.spec.specs.Float.{zero_f}
 use Rattle.float.proofs.Written.{none, next, table_map}
 use Rattle.matrix.specs.Reading.{padded_rows}
 use Rattle.matrix.proofs.Padded.{padded-rows_table}
-use Rattle.matrix.proofs.Sized.{wide}
 use Rattle.copying.proofs.axes.widened.Goals as goal
 
 pub loop-i-init : goal.loop-i-init
 loop-i-init c = (search rules, none)
-
-pub load-requires : goal.load-requires
-load-requires c =
-    omega (arith, wide (FloatOf binary64) 3 3 c.args.m _ c.loop-i.i c.well_formed.0 (omega arith))
 
 pub loop-i-preserved : goal.loop-i-preserved
 loop-i-preserved c = (search rules, next _ (omega arith) c.load.ensures c.loop-i.invariant.1)

@@ -1,7 +1,7 @@
--- The loop's invariant is that the rows below i are widened. The measure is what is left of the three.
+-- The loop's invariant is that the rows below i are widened.
 -- Assumes nothing.
 use mathlib.Core.List.{[]}
-use Prim.Native.Nat.{◌≤◌, ◌-◌}
+use Prim.Native.Nat.{◌≤◌}
 use lib.ListN.{get_or}
 use Rattle.float.specs.Reading.{padded}
 use Rattle.float.proofs.Written.{Written}
@@ -9,6 +9,3 @@ use Rattle.copying.proofs.axes.widened.Given as goal
 
 abbrev pub invariant-loop-i : goal.invariant-loop-i
 invariant-loop-i l = (l.i ≤ 3) × Written (λ x. x) (λ k. padded (get_or l.m k [])) l.initial.r l.r l.i
-
-abbrev pub decreases-loop-i : goal.decreases-loop-i
-decreases-loop-i l = 3 - l.i

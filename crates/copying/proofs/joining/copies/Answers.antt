@@ -1,7 +1,6 @@
 use mathlib.Core.Path.{◌≡◌, refl, sym, ◌∙◌}
 use mathlib.Core.List.{List, []}
 use Prim.Native.Nat.{◌<◌}
-use native.Mathlib.Nat.{div-le_self}
 use native.Mathlib.Omega.{arith}
 use lib.ListN.{length, get_or, take}
 use borrow.Author.Rules.{rules}
@@ -11,7 +10,6 @@ use Rattle.spec.specs.Lists.{parts}
 use Rattle.laws.proofs.CopyLaws.{copies-add}
 use Rattle.copying.specs.Post.{CopiesKept, with_point}
 use Rattle.copying.proofs.Growth.{grown_first, grown_next, grown_full, grown_end, done_first, done_next, done_longer, done_end, copies_nothing, copies_turn, point_is, length-points, point_longer}
-use Rattle.copying.proofs.Squares.{point-end}
 use Rattle.copying.proofs.joining.copies.Goals.{After-point_copied, Start}
 use Rattle.copying.proofs.joining.copies.Goals as goal
 
@@ -39,45 +37,27 @@ below c =
     let a = c.args in
     rw (length-points a.d a.from.now) c.loop-k-test.true
 
-short : (c : Start) → length c.args.from.now < 0x1_0000_0000_0000_0000
-short c = omega arith
-
 pub loop-k-init : goal.loop-k-init
 unfolding parts
 loop-k-init c = (search rules, grown_first (omega arith) c.requires.2, done_first)
 
-pub loaded-p-requires : goal.loaded-p-requires
-loaded-p-requires c =
-    (c.requires.1, point-end c.args.d (length c.args.from.now) c.loop-k.k c.loop-k-test.true)
-
-pub point_copied-requires : goal.point_copied-requires
-point_copied-requires c =
-    let l = c.loop-k in
-    (c.requires.0, c.requires.1, l.invariant.1.room, omega (arith, c.requires.2, l.invariant.1.long))
-
-pub returns-in_default : goal.returns-in_default
+pub returns-in_err-n : goal.returns-in_err-n
 unfolding copies
-returns-in_default c =
+returns-in_err-n c =
     let a = c.args in
     let l = c.loop-k in
     let ms = matrices a.d a.turns.now in
-    grown_full l.invariant.1 (point_longer ms _ _)
-    (done_longer (with_point ms) (copies_turn ms) [] (copies-add ms) (below (goal.at.returns-in_default c).After-point_copied) refl l.invariant.2)
-    (rw c.in_default.is at (kept (goal.at.returns-in_default c).After-point_copied))
-
-pub overflow_add-k : goal.overflow_add-k
-overflow_add-k c =
-    omega (arith, c.loop-k-test.true, div-le_self (length c.args.from.now) c.args.d, short (goal.at.overflow_add-k c).Start)
-
-pub loop-k-smaller : goal.loop-k-smaller
-loop-k-smaller c = omega (arith, c.loop-k-test.true)
+    rw c.from_residual.ensures
+    (grown_full l.invariant.1 (point_longer ms _ _)
+    (done_longer (with_point ms) (copies_turn ms) [] (copies-add ms) (below (goal.at.returns-in_err-n c).After-point_copied) refl l.invariant.2)
+    (rw c.in_err-n.was at (kept (goal.at.returns-in_err-n c).After-point_copied)))
 
 pub loop-k-preserved : goal.loop-k-preserved
 loop-k-preserved c =
     let a = c.args in
     let l = c.loop-k in
     let ms = matrices a.d a.turns.now in
-    let f = rw c.in-Fits.is at (kept (goal.at.loop-k-preserved c).After-point_copied) in (
+    let f = rw c.in_ok-n.was at (kept (goal.at.loop-k-preserved c).After-point_copied) in (
       omega (arith, c.loop-k-test.true),
       grown_next l.invariant.1 (point_longer ms _ _) c.point_copied.auto.out f,
       done_next (with_point ms) (copies_turn ms) [] (below (goal.at.loop-k-preserved c).After-point_copied) f.read l.invariant.2,

@@ -1,7 +1,7 @@
--- The loop's invariant is that the copies so far, with those of the points that are left, are the whole. The measure is what is left of the points.
+-- The loop's invariant is that the copies so far, with those of the points that are left, are the whole.
 -- Assumes nothing.
 use mathlib.Core.List.{[]}
-use Prim.Native.Nat.{◌≤◌, ◌-◌}
+use Prim.Native.Nat.{◌≤◌}
 use Rattle.spec.specs.Copying.{copies_from, points, matrices}
 use Rattle.spec.specs.Lists.{parts}
 use Rattle.copying.proofs.Growth.{CopiesGrown, Done}
@@ -9,6 +9,3 @@ use Rattle.copying.proofs.joining.copies.Given as goal
 
 abbrev pub invariant-loop-k : goal.invariant-loop-k
 invariant-loop-k l = (l.k ≤ l.count) × CopiesGrown l.d l.limit l.initial.out l.out l.n × Done (copies_from (matrices l.d l.turns)) (points l.d l.from) [] l.k (parts l.n l.d l.out)
-
-abbrev pub decreases-loop-k : goal.decreases-loop-k
-decreases-loop-k l = l.count - l.k

@@ -1,7 +1,6 @@
 use mathlib.Core.Path.{◌≡◌, refl, sym, ap, ◌∙◌}
 use mathlib.Core.List.{List, []}
-use Prim.Native.Nat.{◌<◌, ◌*◌}
-use native.Mathlib.Nat.{div-le_self}
+use Prim.Native.Nat.{◌<◌}
 use native.Mathlib.Omega.{arith}
 use lib.ListN.{length, get_or, take}
 use borrow.Author.Rules.{rules}
@@ -13,7 +12,6 @@ use Rattle.matrix.proofs.Padded.{take-image}
 use Rattle.copying.proofs.Growth.{grown_first, grown_next, grown_full, grown_end, done_first, done_next, done_longer, done_end, spread_nothing, spread_turn, matrix_is, length-matrices, image_longer}
 use Rattle.laws.proofs.CopyLaws.{spread_adds}
 use Rattle.copying.specs.Post.{CopiesKept, with_image}
-use Rattle.copying.proofs.Squares.{square, square_pos, point-end}
 use Rattle.copying.proofs.joining.spread.Goals.{After-add, Start}
 use Rattle.copying.proofs.joining.spread.Goals as goal
 
@@ -45,48 +43,24 @@ below c =
     let a = c.args in
     rw (length-matrices a.d a.turns.now) c.loop-j-test.true
 
-short : (c : Start) → length c.args.turns.now < 0x1_0000_0000_0000_0000
-short c = omega arith
-
-pub overflow_mul-count : goal.overflow_mul-count
-overflow_mul-count c = omega (arith, square c.args.d c.requires.1)
-
-pub nonzero_div-count : goal.nonzero_div-count
-nonzero_div-count c = square_pos c.args.d c.requires.0
-
 pub loop-j-init : goal.loop-j-init
 loop-j-init c = (search rules, grown_first c.requires.2 c.requires.3, done_first)
 
-pub matrix_at-requires : goal.matrix_at-requires
-matrix_at-requires c =
-    (c.requires.1, point-end (c.args.d * c.args.d) (length c.args.turns.now) c.loop-j.j c.loop-j-test.true)
-
-pub add-requires : goal.add-requires
-add-requires c =
-    let l = c.loop-j in
-    (c.requires.0, c.requires.1, l.invariant.1.room, omega (arith, c.requires.3, l.invariant.1.long))
-
-pub returns-in_default : goal.returns-in_default
-returns-in_default c =
+pub returns-in_err-held : goal.returns-in_err-held
+returns-in_err-held c =
     let a = c.args in
     let l = c.loop-j in
-    grown_full l.invariant.1 (image_longer _ _)
-    (done_longer (step (take a.d a.p)) (spread_turn (take a.d a.p)) [] (λ ms cs. spread_adds ms (take a.d a.p) cs) (below (goal.at.returns-in_default c).After-add) refl l.invariant.2)
-    (rw c.in_default.is at (kept (goal.at.returns-in_default c).After-add))
-
-pub overflow_add-j : goal.overflow_add-j
-overflow_add-j c =
-    omega (arith, c.loop-j-test.true, div-le_self (length c.args.turns.now) (c.args.d * c.args.d), short (goal.at.overflow_add-j c).Start)
-
-pub loop-j-smaller : goal.loop-j-smaller
-loop-j-smaller c = omega (arith, c.loop-j-test.true)
+    rw c.from_residual.ensures
+    (grown_full l.invariant.1 (image_longer _ _)
+    (done_longer (step (take a.d a.p)) (spread_turn (take a.d a.p)) [] (λ ms cs. spread_adds ms (take a.d a.p) cs) (below (goal.at.returns-in_err-held c).After-add) refl l.invariant.2)
+    (rw c.in_err-held.was at (kept (goal.at.returns-in_err-held c).After-add)))
 
 pub loop-j-preserved : goal.loop-j-preserved
 loop-j-preserved c =
     let a = c.args in
     let l = c.loop-j in
     let p = take a.d a.p in
-    let f = rw c.in-Fits.is at (kept (goal.at.loop-j-preserved c).After-add) in (
+    let f = rw c.in_ok-held.was at (kept (goal.at.loop-j-preserved c).After-add) in (
       omega (arith, c.loop-j-test.true),
       grown_next l.invariant.1 (image_longer _ _) c.add.auto.out f,
       done_next (step p) (spread_turn p) [] (below (goal.at.loop-j-preserved c).After-add) f.read l.invariant.2,

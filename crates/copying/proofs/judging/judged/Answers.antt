@@ -1,5 +1,6 @@
 -- The tests come in the order of the judgements.
 -- Assumes nothing.
+use Rattle.std.specs.Prelude.{Ok}
 use mathlib.Core.Path.{◌≡◌, sym, ◌∙◌}
 use Prim.Native.Nat.{ℕ, ◌*◌, ◌%◌, ◌<◌}
 use native.Mathlib.Omega.{arith}
@@ -10,9 +11,7 @@ use Rattle.spec.specs.declared.Refusal.TheVariants.{CutSheet, Format, OffTheBoar
 use Rattle.spec.specs.Limits.{max_dimension}
 use Rattle.spec.specs.Lists.{every}
 use Rattle.spec.specs.Float.{in_range}
-use Rattle.spec.specs.Judged.{passed}
 use Rattle.spec.specs.Copying.{judge_copy}
-use Rattle.copying.proofs.Squares.{square, square_pos}
 use Rattle.copying.proofs.Judgements.{first_fails, second_fails, both_pass, blank, off_the_board, cut_sheet, judgements}
 use Rattle.copying.proofs.judging.judged.Goals.{Else-d-gt-DIMENSION, Else-not-all_in_range-2, Else-turns-d-ne0}
 use Rattle.copying.proofs.judging.judged.Goals as goal
@@ -67,12 +66,6 @@ returns-then-from-d-ne0 c =
     first_fails CutSheet (eqb (length a.from.now % a.d) 0) (eqb (length a.turns.now % (a.d * a.d)) 0) (off_the_board a.d a.from.now a.turns.now) (ne_eqb _ _ c.if-from-d-ne0.true)
     ∙ upto2 (goal.at.returns-then-from-d-ne0 c).Else-d-gt-DIMENSION
 
-pub overflow_mul-d : goal.overflow_mul-d
-overflow_mul-d c = omega (arith, square c.args.d c.if-d-gt-DIMENSION.false)
-
-pub nonzero_rem-turns : goal.nonzero_rem-turns
-nonzero_rem-turns c = square_pos c.args.d c.if-d-lt1.false
-
 pub returns-then-turns-d-ne0 : goal.returns-then-turns-d-ne0
 returns-then-turns-d-ne0 c =
     let a = c.args in
@@ -94,17 +87,17 @@ returns-then-not-all_in_range-2 c =
 pub returns-then-from-eq0 : goal.returns-then-from-eq0
 returns-then-from-eq0 c =
     let a = c.args in
-    first_fails Blank (ltb 0 (length a.from.now)) (ltb 0 (length a.turns.now)) (passed tt) (le-ltb 0 (length a.from.now) (omega (arith, c.if-from-eq0.true)))
+    first_fails Blank (ltb 0 (length a.from.now)) (ltb 0 (length a.turns.now)) (Ok tt) (le-ltb 0 (length a.from.now) (omega (arith, c.if-from-eq0.true)))
     ∙ upto6 (goal.at.returns-then-from-eq0 c).Else-not-all_in_range-2
 
 pub returns-then-turns-eq0 : goal.returns-then-turns-eq0
 returns-then-turns-eq0 c =
     let a = c.args in
-    second_fails Blank (ltb 0 (length a.from.now)) (ltb 0 (length a.turns.now)) (passed tt) (lt-ltb _ _ (above _ c.if-from-eq0.false)) (le-ltb 0 (length a.turns.now) (omega (arith, c.if-turns-eq0.true)))
+    second_fails Blank (ltb 0 (length a.from.now)) (ltb 0 (length a.turns.now)) (Ok tt) (lt-ltb _ _ (above _ c.if-from-eq0.false)) (le-ltb 0 (length a.turns.now) (omega (arith, c.if-turns-eq0.true)))
     ∙ upto6 (goal.at.returns-then-turns-eq0 c).Else-not-all_in_range-2
 
 pub returns : goal.returns
 returns c =
     let a = c.args in
-    both_pass Blank (ltb 0 (length a.from.now)) (ltb 0 (length a.turns.now)) (passed tt) (lt-ltb _ _ (above _ c.if-from-eq0.false)) (lt-ltb _ _ (above _ c.if-turns-eq0.false))
+    both_pass Blank (ltb 0 (length a.from.now)) (ltb 0 (length a.turns.now)) (Ok tt) (lt-ltb _ _ (above _ c.if-from-eq0.false)) (lt-ltb _ _ (above _ c.if-turns-eq0.false))
     ∙ upto6 (goal.at.returns c).Else-not-all_in_range-2

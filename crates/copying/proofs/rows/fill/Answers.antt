@@ -1,23 +1,15 @@
-use mathlib.Core.Path.{◌≡◌, refl, ◌∙◌}
-use native.Mathlib.Omega.{arith}
-use lib.ListN.{length-set}
+-- The cells that are filled hold the number, and those behind them what they held. Assumes nothing.
+use mathlib.Core.Path.{◌≡◌, ap, ◌∙◌}
+use Prim.Native.Nat.{ℕ}
+use lib.ListN.{replicate}
+use lib.Seq.{length-take-le}
 use borrow.Author.Rules.{rules}
-use borrow.Author.Fill.{fill_more}
 use Rattle.spec.specs.Copying.{no_image}
 use Rattle.copying.proofs.Tables.{filled_is}
 use Rattle.copying.proofs.rows.fill.Goals as goal
 
-pub loop-i-init : goal.loop-i-init
-loop-i-init c = (search rules, refl, refl)
-
-pub loop-i-preserved : goal.loop-i-preserved
-loop-i-preserved c =
-    let l = c.loop-i in
-    (search rules, simp length-set l.invariant.1, rw l.invariant.2 (fill_more l.i no_image c.args.out.now (omega arith)))
-
 pub returns : goal.returns
 returns c =
-    let l = c.loop-i in
-    let n = c.args.cells in
-    let e : l.i ≡ n = omega arith in
-    l.invariant.2 ∙ rw e (filled_is n no_image _)
+    let e : c.fill.new.self ≡ replicate c.args.cells no_image =
+    c.fill.ensures.after (λ y h. search rules) ∙ ap (λ (k : ℕ). replicate k no_image) (length-take-le c.args.cells c.args.out.now c.requires) in
+    rw e (filled_is c.args.cells no_image c.args.out.now)

@@ -1,10 +1,10 @@
 use mathlib.Core.Path.{◌≡◌, refl, sym, ap₂, ◌∙◌}
 use mathlib.Core.List.{List, []}
-use Prim.Native.Nat.{ℕ, ◌+◌, ◌≤◌, ◌<◌, ◌-◌, ◌*◌, ◌/◌}
-use native.Mathlib.Nat.{zero-mul, suc-mul, div-le_self}
+use Prim.Native.Nat.{ℕ, ◌+◌, ◌≤◌, ◌-◌, ◌*◌, ◌/◌}
+use native.Mathlib.Nat.{zero-mul, suc-mul}
 use native.Mathlib.Numerals.{add-one}
 use native.Mathlib.Omega.{arith}
-use lib.ListN.{length, get_or, length-drop}
+use lib.ListN.{length, get_or}
 use borrow.Author.Rules.{rules}
 use borrow.Rule.Slice.PartMut.{same_len_mid}
 use Rattle.spec.specs.Points.{row_of}
@@ -13,9 +13,7 @@ use Rattle.spec.specs.Lists.{parts}
 use Rattle.laws.proofs.CopyLaws.{table_length}
 use Rattle.matrix.specs.Reading.{corner}
 use Rattle.points.proofs.Parts.{length-parts, part_end}
-use Rattle.copying.proofs.Squares.{square, square_pos, point-end}
 use Rattle.copying.proofs.Growth.{matrix_is, length-matrices}
-use Rattle.points.proofs.Tails.{tail_is}
 use Rattle.points.proofs.Filled.{Piece, filled_none, filled_next, filled_open, filled_end, length-row}
 use Rattle.copying.proofs.Tables.{row-piece, closed_back, opened_back}
 use Rattle.copying.proofs.rows.write.Goals.{After-row_of, In-loop-j, Start}
@@ -26,9 +24,6 @@ row-end : (c : In-loop-j) → c.loop-j.j * c.args.n + c.args.n ≤ length c.loop
 row-end c =
     let l = c.loop-j in
     omega (arith, part_end (length c.args.turns.now / (c.args.d * c.args.d)) c.args.n l.j c.loop-j-test.true, c.requires.4, l.invariant.1)
-
-short : (c : Start) → (length c.args.turns.now < 0x1_0000_0000_0000_0000) × (length c.args.out.now < 0x4000_0000_0000_0000)
-short c = (omega arith, omega arith)
 
 -- This is row j of the table over the copies.
 abbrev line : (c : After-row_of) → List ℕ
@@ -52,45 +47,8 @@ piece c =
     let e : get_or ms l.j [] ≡ corner a.d c.matrix_at-m.result = matrix_is a.d a.turns.now l.j h ∙ sym c.matrix_at-m.ensures in
     rw e at (row-piece (parts a.n a.d a.copies.now) ms a.n l.j (length-parts a.n a.d a.copies.now) (omega (arith, h, length-matrices a.d a.turns.now)))
 
-pub overflow_mul-count : goal.overflow_mul-count
-overflow_mul-count c = omega (arith, square c.args.d c.requires.1)
-
-pub nonzero_div-count : goal.nonzero_div-count
-nonzero_div-count c = square_pos c.args.d c.requires.0
-
 pub loop-j-init : goal.loop-j-init
 loop-j-init c = (search rules, refl, rw zero-mul filled_none)
-
-pub overflow_mul-at : goal.overflow_mul-at
-overflow_mul-at c = omega (arith, row-end c, c.loop-j.invariant.1, (short (goal.at.overflow_mul-at c).Start).1)
-
-pub matrix_at-m-requires : goal.matrix_at-m-requires
-matrix_at-m-requires c =
-    (c.requires.1, point-end (c.args.d * c.args.d) (length c.args.turns.now) c.loop-j.j c.loop-j-test.true)
-
-pub offset_bounds-out-at : goal.offset_bounds-out-at
-offset_bounds-out-at c = omega (arith, row-end (goal.at.offset_bounds-out-at c).In-loop-j, c.loop-j.invariant.1, (short (goal.at.offset_bounds-out-at c).Start).1)
-
-pub slice_bounds-row_of-count : goal.slice_bounds-row_of-count
-slice_bounds-row_of-count c = omega (arith, row-end (goal.at.slice_bounds-row_of-count c).In-loop-j)
-
-pub slice_bounds-row_of-start : goal.slice_bounds-row_of-start
-slice_bounds-row_of-start c = omega (arith, row-end (goal.at.slice_bounds-row_of-start c).In-loop-j)
-
-pub row_of-requires : goal.row_of-requires
-row_of-requires c =
-    let l = c.loop-j in
-    let e = row-end (goal.at.row_of-requires c).In-loop-j in record {
-      le_d = (c.requires.0, c.requires.1, c.requires.2, c.requires.3, rw (tail_is l.out [] (l.j * c.args.n) (omega (arith, e))) (omega (arith, e, length-drop (l.j * c.args.n) l.out)));
-      guesses = c.places-places.ensures;
-    }
-
-pub overflow_add-j : goal.overflow_add-j
-overflow_add-j c =
-    omega (arith, c.loop-j-test.true, div-le_self (length c.args.turns.now) (c.args.d * c.args.d), (short (goal.at.overflow_add-j c).Start).0)
-
-pub loop-j-smaller : goal.loop-j-smaller
-loop-j-smaller c = omega (arith, c.loop-j-test.true)
 
 pub loop-j-preserved : goal.loop-j-preserved
 loop-j-preserved c =
@@ -98,21 +56,21 @@ loop-j-preserved c =
     let l = c.loop-j in
     let at = l.j * a.n in
     let end = row-end (goal.at.loop-j-preserved c).In-loop-j in
-    let closed = rw c.if-row_of.true at c.row_of.ensures in
+    let closed = rw c.if-not-row_of.false at c.row_of.ensures in
     let e : (l.j + 1) * a.n ≡ at + a.n = rw add-one (suc-mul l.j a.n) in (
       omega (arith, c.loop-j-test.true),
       same_len_mid at (length l.out - at) l.out c.row_of.new.row c.row_of.auto.row ∙ l.invariant.1,
       rw e (filled_next l.invariant.2 (piece (goal.at.loop-j-preserved c).After-row_of) closed.none (closed_back l.out c.row_of.new.row at (omega (arith, end)) a.n (line-long (goal.at.loop-j-preserved c).After-row_of) closed)),
     )
 
-pub returns-else-row_of : goal.returns-else-row_of
-returns-else-row_of c =
+pub returns-then-not-row_of : goal.returns-then-not-row_of
+returns-then-not-row_of c =
     let a = c.args in
     let l = c.loop-j in
     let at = l.j * a.n in
-    let end = row-end (goal.at.returns-else-row_of c).In-loop-j in
-    let opened = rw c.if-row_of.false at c.row_of.ensures in
-    filled_open l.invariant.2 (piece (goal.at.returns-else-row_of c).After-row_of) opened.some (opened_back l.out c.row_of.new.row at (omega (arith, end)) a.n (line-long (goal.at.returns-else-row_of c).After-row_of) opened)
+    let end = row-end (goal.at.returns-then-not-row_of c).In-loop-j in
+    let opened = rw c.if-not-row_of.true at c.row_of.ensures in
+    filled_open l.invariant.2 (piece (goal.at.returns-then-not-row_of c).After-row_of) opened.some (opened_back l.out c.row_of.new.row at (omega (arith, end)) a.n (line-long (goal.at.returns-then-not-row_of c).After-row_of) opened)
 
 pub returns : goal.returns
 returns c =

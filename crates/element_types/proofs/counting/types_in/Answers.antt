@@ -1,28 +1,19 @@
-use native.Mathlib.Omega.{arith}
-use Rattle.element_types.proofs.Tallied.{past_first, past_new, past_old, past_end, type_low, types_few}
+-- The greatest type tells how many there are.
+-- Assumes nothing.
+use Rattle.std.proofs.Common.{◌≡◌, max, ap, sym, ◌∙◌}
+use Rattle.std.specs.Option.{option_map}
+use Rattle.std.specs.List.{reduce}
+use Rattle.std.proofs.lemmas.Iterator.{YieldsList-from_slice}
+use Rattle.std.proofs.lemmas.Iterator.Consumers.{max_from_yields_List}
+use Rattle.element_types.proofs.Tallied.{types_some, types_none}
+use Rattle.element_types.proofs.counting.types_in.Goals.{After-max}
 use Rattle.element_types.proofs.counting.types_in.Goals as goal
 
-pub loop-e-init : goal.loop-e-init
-loop-e-init c = (omega arith, past_first _ _)
+greatest : (c : After-max) → option_map (λ x. x.now) c.max.result ≡ reduce max c.args.types.now
+greatest c = max_from_yields_List _ _ c.max.ensures.ran (YieldsList-from_slice c.args.types.now cc)
 
-pub overflow_add-m : goal.overflow_add-m
-overflow_add-m c =
-    let a = c.args in
-    omega (
-      arith,
-      c.get-t.ensures,
-      type_low a.words.now a.from a.n c.requires.n_in_bounds c.requires.words_value c.loop-e.e c.loop-e-test.true,
-      types_few a.words.now a.from a.n c.requires.n_in_bounds,
-      c.requires.n_in_bounds,
-    )
+pub returns-in-Some : goal.returns-in-Some
+returns-in-Some c = types_some _ c.requires _ (sym (greatest (goal.at.returns-in-Some c).After-max) ∙ ap (option_map (λ x. x.now)) c.in-Some.is)
 
-pub loop-e-preserved-then-m-t : goal.loop-e-preserved-then-m-t
-loop-e-preserved-then-m-t c = (omega (arith, c.loop-e-test.true), past_new _ _ _ _ c.loop-e.invariant.1 _ c.get-t.ensures (omega (arith, c.if-m-t.true)))
-
-pub loop-e-preserved : goal.loop-e-preserved
-loop-e-preserved c = (omega (arith, c.loop-e-test.true), past_old _ _ _ _ c.loop-e.invariant.1 _ c.get-t.ensures c.if-m-t.false)
-
-pub returns : goal.returns
-returns c =
-    let a = c.args in
-    past_end a.words.now a.from a.n c.requires.n_in_bounds c.requires.words_value _ _ c.loop-e.invariant.0 c.loop-e-test.false c.loop-e.invariant.1
+pub returns-in-None : goal.returns-in-None
+returns-in-None c = types_none _ (sym (greatest (goal.at.returns-in-None c).After-max) ∙ ap (option_map (λ x. x.now)) c.in-None.is)

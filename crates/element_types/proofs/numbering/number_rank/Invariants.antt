@@ -1,11 +1,7 @@
 -- The elements are numbered one after another, as `KeysScan` says.
 -- Assumes nothing.
-use Prim.Native.Nat.{◌-◌}
 use Rattle.element_types.proofs.Scanned.{KeysScan}
 use Rattle.element_types.proofs.numbering.number_rank.Given as goal
 
 abbrev pub invariant-loop-e : goal.invariant-loop-e
 invariant-loop-e l = KeysScan l.initial.words l.lists l.n l.base l.from l.out l.words l.m l.q l.e
-
-abbrev pub decreases-loop-e : goal.decreases-loop-e
-decreases-loop-e l = l.n - l.e

@@ -1,6 +1,5 @@
 -- The classes come first, and then the start.
 -- Assumes nothing.
-use borrow.Author.Rules.{rules}
 use native.Mathlib.Omega.{arith}
 use Prim.Native.Nat.{◌≤◌}
 use lib.ListN.{length}
@@ -26,12 +25,6 @@ all_classes-requires c = record {
   held = rw c.lists.ensures c.requires.held;
   sh_in_bounds = roomy-floats _ _ c.requires.held _ c.requires.floats;
 }
-
-pub classes-cell-requires : goal.classes-cell-requires
-classes-cell-requires c = let p = c.requires in (p.held.tall, omega (arith, roomy-floats _ _ p.held _ p.floats))
-
-pub offset_bounds-floats-cell : goal.offset_bounds-floats-cell
-offset_bounds-floats-cell c = let k = inside (goal.at.offset_bounds-floats-cell c).After-classes-cell in search rules
 
 pub slice_bounds-start-count : goal.slice_bounds-start-count
 slice_bounds-start-count c = inside (goal.at.slice_bounds-start-count c).After-classes-cell

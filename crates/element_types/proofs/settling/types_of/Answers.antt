@@ -3,8 +3,5 @@
 use Rattle.element_types.proofs.settling.Benched.{typed}
 use Rattle.element_types.proofs.settling.types_of.Goals as goal
 
-pub settle-requires : goal.settle-requires
-settle-requires c = c.begin.ensures.started
-
 pub returns : goal.returns
 returns c = typed _ _ _ _ _ _ _ c.begin.ensures c.settle.auto.words c.settle.ensures

@@ -5,9 +5,6 @@ use native.Mathlib.Omega.{arith}
 use Rattle.element_types.proofs.States.{down_starts, down_ready, down_stepped}
 use Rattle.element_types.proofs.stepping.step_down.Goals as goal
 
-pub sups-lists-requires : goal.sups-lists-requires
-sups-lists-requires c = (search rules, omega (arith, down_starts _ _ _ c.requires))
-
 pub types-base-requires : goal.types-base-requires
 types-base-requires c = (search rules, omega (arith, down_starts _ _ _ c.requires))
 

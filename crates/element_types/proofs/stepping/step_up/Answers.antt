@@ -5,9 +5,6 @@ use native.Mathlib.Omega.{arith}
 use Rattle.element_types.proofs.States.{up_starts, up_ready, up_stepped}
 use Rattle.element_types.proofs.stepping.step_up.Goals as goal
 
-pub subs-lists-requires : goal.subs-lists-requires
-subs-lists-requires c = (search rules, omega (arith, up_starts _ _ _ c.requires))
-
 pub types-base-requires : goal.types-base-requires
 types-base-requires c = (search rules, omega (arith, up_starts _ _ _ c.requires))
 

@@ -8,15 +8,6 @@ use Rattle.spec.specs.Limits.{max_rank}
 use Rattle.flag.proofs.Flags.{top-down}
 use Rattle.flag.proofs.Flag.first.Goals as goal
 
-pub down-requires : goal.down-requires
-down-requires c =
-    let a = c.args in
-    let z = get_or-replicate {A = ℕ} (suc max_rank) a.sh.rank 0 0 (omega (arith, c.requires.tall)) in
-    record {
-      held = c.requires;
-      from_le_rank = (omega arith, omega (arith, z, c.requires.some a.sh.rank (omega arith)));
-    }
-
 pub returns : goal.returns
 returns c =
     let a = c.args in

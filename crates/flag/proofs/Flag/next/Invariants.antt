@@ -1,6 +1,6 @@
 -- Below r no element can move on, so the elements up to r are the last flag of the one there.
 -- Assumes nothing.
-use Prim.Native.Nat.{suc, ◌-◌, ◌≤◌}
+use Prim.Native.Nat.{suc}
 use lib.ListN.{get_or, take}
 use Rattle.spec.specs.Flags.{flags_to}
 use Rattle.ranked.specs.Words.{abs_in}
@@ -8,7 +8,4 @@ use Rattle.flag.proofs.Order.{Last}
 use Rattle.flag.proofs.Flag.next.Given as goal
 
 abbrev pub invariant-loop-r : goal.invariant-loop-r
-invariant-loop-r l = (l.r ≤ l.rank) × Last (take (suc l.r) l.elements) (flags_to (abs_in l.sh l.lists) l.r (get_or l.elements l.r 0))
-
-abbrev pub decreases-loop-r : goal.decreases-loop-r
-decreases-loop-r l = l.rank - l.r
+invariant-loop-r l = Last (take (suc l.r) l.self.elements) (flags_to (abs_in l.sh l.lists) l.r (get_or l.self.elements l.r 0))

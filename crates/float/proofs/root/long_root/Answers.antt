@@ -9,12 +9,6 @@ known : (c : After-short_root-upper) → Divided c.args.n c.short_root-upper.res
     (c.short_root-upper.result.rest * 2 ^ 26 / (2 * c.short_root-upper.result.root)) (c.short_root-upper.result.rest * 2 ^ 26 % (2 * c.short_root-upper.result.root))
 known c = divided _ _ _ c.requires.0 c.requires.1 c.short_root-upper.ensures
 
-pub short_root-upper-requires : goal.short_root-upper-requires
-short_root-upper-requires c = c.requires.1
-
-pub overflow_mul-twice : goal.overflow_mul-twice
-overflow_mul-twice c = omega (arith, known c.before)
-
 pub overflow_mul-part : goal.overflow_mul-part
 overflow_mul-part c = omega (arith, known c.before.before)
 
@@ -30,20 +24,11 @@ overflow_mul-over c = omega (arith, known c.before.before)
 pub overflow_mul-square : goal.overflow_mul-square
 overflow_mul-square c = omega (arith, known c.before.before)
 
-pub overflow_mul-root : goal.overflow_mul-root
-overflow_mul-root c = omega (arith, known c.before.before.before)
-
 pub overflow_add-root : goal.overflow_add-root
 overflow_add-root c = omega (arith, known c.before.before.before)
 
-pub overflow_sub-result-else-square-over : goal.overflow_sub-result-else-square-over
-overflow_sub-result-else-square-over c = omega (arith, known c.before.before.before.before)
-
 pub overflow_mul-result : goal.overflow_mul-result
 overflow_mul-result c = omega (arith, known c.before.before.before.before)
-
-pub overflow_sub-result-else-square-over-2 : goal.overflow_sub-result-else-square-over-2
-overflow_sub-result-else-square-over-2 c = omega (arith, known c.before.before.before.before)
 
 pub overflow_add-result : goal.overflow_add-result
 overflow_add-result c = omega (arith, known c.before.before.before.before)

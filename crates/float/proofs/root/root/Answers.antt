@@ -3,7 +3,7 @@ use mathlib.Core.Path.{sym, ◌∙◌, subst}
 use lib.Dec.{T}
 use lib.Ieee.{binary64, fits}
 use lib.Ieee.Positive.{positive}
-use Rattle.float.proofs.root.Cases.{below, neither, nan_is, no_nan, finite_is, infinite_is, pattern_some, pattern_is, pattern_no_nan}
+use Rattle.float.proofs.root.Cases.{below, neither, nan_is, finite_is, infinite_is, pattern_some, pattern_is, pattern_no_nan}
 use Rattle.float.proofs.root.root.Goals.{Start, Then-b-lt-INFINITY}
 use Rattle.float.proofs.root.root.Goals as goal
 
@@ -13,9 +13,6 @@ held c = subst T (sym c.well_formed.0.1) tt
 
 finite : (c : Then-b-lt-INFINITY) → T (positive c.args.x)
 finite c = finite_is _ c.if-x.true c.if-b-lt-INFINITY.true
-
-pub float_to_bits-b : goal.float_to_bits-b
-float_to_bits-b c = no_nan _ c.if-x.true
 
 pub root_bits-requires : goal.root_bits-requires
 root_bits-requires c = (pattern_some _ (held c.before.before) (finite c), c.if-b-lt-INFINITY.true)

@@ -32,17 +32,8 @@ rounded c =
       | else-w w ↦ rw w.nearest-is (omega arith, rounded_down _ _ _ _ _ a.0 a.1 a.2 a.3 a.4 (rooted l) w.if-w.false)
     ]
 
-pub argument-s-requires : goal.argument-s-requires
-argument-s-requires c = c.requires
-
 pub long_root-w-requires : goal.long_root-w-requires
 long_root-w-requires c = let e = evened c.before.before in subst (λ (n : ℕ). (2 ^ 52 ≤ n) × (n < 2 ^ 54)) (sym e.whole) (e.least, e.short)
-
-pub overflow_add-nearest : goal.overflow_add-nearest
-overflow_add-nearest c = omega (arith, short c.before.before.before.before)
-
-pub overflow_add-result : goal.overflow_add-result
-overflow_add-result c = omega (arith, rounded c.before)
 
 pub returns : goal.returns
 returns c = (rounded c.before).1

@@ -14,17 +14,17 @@ long : (c : Start) → length c.args.b ≡ max_dimension
 long c = search rules
 
 pub loop-i-init : goal.loop-i-init
-loop-i-init c = (search rules, none)
+loop-i-init c = none
 
 pub loop-i-preserved : goal.loop-i-preserved
 loop-i-preserved c =
     let k = long (goal.at.loop-i-preserved c).Start in
-    (search rules, next _ (omega arith) refl c.loop-i.invariant.1)
+    next _ (omega arith) refl c.loop-i.invariant
 
 pub returns : goal.returns
 returns c =
     let a = c.args in
     let k = long (goal.at.returns c).Start in
-    end_plain (length a.a.now) c.loop-i.invariant.0 c.loop-i-test.false c.loop-i.invariant.1
+    end_plain (length a.a.now) c.loop-i.auto.i-end c.loop-i-test.false c.loop-i.invariant
     ∙ table_zip minus nan nan a.a.now a.b (length a.a.now) (omega arith) (omega arith)
     ∙ rw take-length

@@ -3,7 +3,6 @@ use native.Mathlib.Omega.{arith}
 use lib.ListN.{length}
 use lib.Seq.{take-length}
 use lib.Ieee.{nan, of_bits}
-use borrow.Author.Rules.{rules}
 use Rattle.spec.specs.Limits.{max_dimension}
 use Rattle.spec.specs.Float.{zero_f}
 use Rattle.float.specs.Reading.{padded}
@@ -12,17 +11,17 @@ use Rattle.float.proofs.vector.load.Goals as goal
 
 pub loop-i-init : goal.loop-i-init
 unfolding of_bits zero_f
-loop-i-init c = (search rules, none)
+loop-i-init c = none
 
 pub loop-i-preserved : goal.loop-i-preserved
 loop-i-preserved c =
     let l = c.loop-i in
-    (search rules, next _ (omega arith) refl l.invariant.1)
+    next _ (omega arith) refl l.invariant
 
 pub returns : goal.returns
 unfolding padded
 returns c =
     let l = c.loop-i in
     let p = c.args.p.now in
-    copied p l.r nan zero_f max_dimension l.i (length p) (omega arith) l.invariant.0 c.loop-i-test.false l.invariant.1
+    copied p l.r nan zero_f max_dimension l.i (length p) (omega arith) l.auto.i-end c.loop-i-test.false l.invariant
     ∙ rw take-length

@@ -1,20 +1,15 @@
-use mathlib.Core.Path.{sym, ◌∙◌}
-use borrow.Author.Rules.{rules}
-use Rattle.geometry.specs.Classes.{nearest_of}
-use Rattle.geometry.proofs.Nearest.{first, near, far, end}
+use mathlib.Core.Path.{refl, sym, ap, ◌∙◌}
+use Rattle.spec.specs.Hull.{listed_for, smaller}
+use Rattle.geometry.proofs.Nearest.{near, far}
 use Rattle.geometry.proofs.classes.listed_for.Goals as goal
 
-pub loop-i-init : goal.loop-i-init
-unfolding nearest_of
-loop-i-init c = (search rules, first c.requires)
+pub loop-y-init : goal.loop-y-init
+unfolding listed_for
+loop-y-init c = refl
 
-pub loop-i-preserved-then-nearer : goal.loop-i-preserved-then-nearer
-loop-i-preserved-then-nearer c =
-    (search rules, near c.requires c.loop-i-test.true c.loop-i.invariant.0 (sym c.nearer.ensures ∙ c.if-nearer.true) c.smaller-next.ensures c.loop-i.invariant.1)
+pub loop-y-preserved-then-nearer : goal.loop-y-preserved-then-nearer
+loop-y-preserved-then-nearer c =
+    c.smaller-found.ensures ∙ ap (smaller c.in-Some.y.now) c.loop-y.invariant ∙ near (λ y. y.now) c.args.x c.loop-y.yielded c.in-Some.y (sym c.nearer.ensures ∙ c.if-nearer.true)
 
-pub loop-i-preserved : goal.loop-i-preserved
-loop-i-preserved c =
-    (search rules, far c.requires c.loop-i-test.true c.loop-i.invariant.0 (sym c.nearer.ensures ∙ c.if-nearer.false) c.loop-i.invariant.1)
-
-pub returns : goal.returns
-returns c = end c.requires c.loop-i-test.false c.loop-i.invariant.1
+pub loop-y-preserved : goal.loop-y-preserved
+loop-y-preserved c = c.loop-y.invariant ∙ far (λ y. y.now) c.args.x c.loop-y.yielded c.in-Some.y (sym c.nearer.ensures ∙ c.if-nearer.false)

@@ -1,87 +1,61 @@
 use mathlib.Core.Path.{◌≡◌, sym, ap, ◌∙◌}
-use mathlib.Core.List.{[]}
-use Prim.Native.Nat.{◌≤◌}
+use mathlib.Core.List.{[], map}
+use Prim.Native.Nat.{◌+◌, ◌-◌, ◌≤◌, ◌<◌}
 use native.Mathlib.Omega.{arith}
-use lib.ListN.{length, get_or}
-use borrow.Author.Rules.{rules}
+use lib.ListN.{length, length-map, take, drop}
 use Rattle.spec.specs.Matrix.{Vector}
-use Rattle.spec.specs.Hull.{Hull, add, distance}
+use Rattle.spec.specs.Hull.{Hull, add_all, distance}
+use Rattle.laws.proofs.Lists.{get_or-map}
 use Rattle.geometry.specs.Reading.{hull_in, point_at}
-use Rattle.geometry.proofs.Gathered.{length_basis, count-far, count-near, part_is, first, stop, next, end}
-use Rattle.geometry.proofs.distance.distance_of.Goals.{After-point, After-point-in-loop-i}
-use Rattle.geometry.proofs.distance.distance_of.Goals.{in-Length, in-Nothing}
+use Rattle.geometry.proofs.Gathered.{length_basis, point-wide, item-is, whole, stop, next, end}
+use Rattle.geometry.proofs.distance.distance_of.Goals.{else-loop-v-test, then-loop-v-test+then-k-d, then-is_some, else-is_some}
 use Rattle.geometry.proofs.distance.distance_of.Goals as goal
 
-abbrev one-point : Vector → Hull
-one-point x = record { offset = x; basis = [] }
-
--- These are the parts that are handed back for the first point, and for the point of the turn.
-part-first : (c : After-point) →
+pub add-joined-requires : goal.add-joined-requires
+add-joined-requires c =
     let a = c.args in
-    (c.point.result.now ≡ point_at a.d a.points.now (get_or a.list.now 0 0)) × (length c.point.result.now ≡ a.d)
-part-first c =
-    part_is c.args.d c.args.n c.args.points.now c.args.list.now 0 c.cell-first.result _ c.requires.3 c.requires.1 c.cell-first.ensures c.point.ensures
-
-part-next : (c : After-point-in-loop-i) →
-    let a = c.args in
-    (c.point-in-loop-i.result.now ≡ point_at a.d a.points.now (get_or a.list.now c.loop-i.i 0)) × (length c.point-in-loop-i.result.now ≡ a.d)
-part-next c =
-    part_is c.args.d c.args.n c.args.points.now c.args.list.now c.loop-i.i c.cell-v.result _ c.requires.3 c.loop-i-test.true c.cell-v.ensures c.point-in-loop-i.ensures
-
-pub point-requires : goal.point-requires
-point-requires c = rw c.cell-first.ensures (omega (arith, c.requires.3 0 (omega arith)))
-
-pub empty-hull-requires : goal.empty-hull-requires
-empty-hull-requires c = omega (arith, (part-first c).1, c.requires.0)
-
-pub loop-i-init : goal.loop-i-init
-loop-i-init c =
-    let a = c.args in
-    let o = part-first (goal.at.loop-i-init c).After-point in
-    let h = (rw o.1 at c.empty-hull.ensures) ∙ ap one-point o.0 in
-    let n = sym (length_basis a.d c.empty-hull.result) ∙ ap (λ x. length x.basis) h in
-    (search rules, search rules, sym n, search rules, first c.requires.2 c.requires.1 h)
-
-pub returns-then-k-d : goal.returns-then-k-d
-returns-then-k-d c =
-    let n = length_basis c.args.d c.loop-i.hull ∙ sym c.loop-i.invariant.2 ∙ c.if-k-d.true in
-    c.distance.ensures ∙ ap (distance c.args.d) (stop c.requires.2 n c.loop-i.invariant.4)
-
-pub point-requires-in-loop-i : goal.point-requires-in-loop-i
-point-requires-in-loop-i c =
-    rw c.cell-v.ensures (omega (arith, c.requires.3 c.loop-i.i c.loop-i-test.true))
-
-pub add-added-requires : goal.add-added-requires
-add-added-requires c =
-    (omega (arith, (part-next c).1, c.requires.0), omega (arith, c.if-k-d.false, c.loop-i.invariant.2, c.loop-i.invariant.3, c.requires.0))
+    let l = c.loop-v in
+    let vs = take (length a.list.now - 1) (drop 1 a.list.now) in
+    let v = item-is a.list.now l.v-index c.from-in-loop-v.result c.loop-v-test.true c.from-in-loop-v.ensures in
+    let wide = point-wide a.d c.from-in-loop-v.result a.points.now _ (rw v.1 (c.requires.2 (l.v-index + 1) v.0)) c.point-in-loop-v.ensures in
+    (omega (arith, wide, c.requires.0), omega (arith, c.if-k-d.false, l.invariant.0, l.invariant.1, c.requires.0))
 
 pub overflow_add-k : goal.overflow_add-k
-overflow_add-k c =
-    omega (arith, c.loop-i.invariant.3, c.requires.0)
+overflow_add-k c = omega (arith, c.loop-v.invariant.1, c.requires.0)
 
-pub overflow_add-i : goal.overflow_add-i
-overflow_add-i c =
-    omega (arith, c.loop-i-test.true, c.ranges.n.fits)
-
-pub loop-i-preserved : goal.loop-i-preserved
-loop-i-preserved c =
+pub loop-v-preserved : goal.loop-v-preserved
+loop-v-preserved c =
     let a = c.args in
-    let p = c.point-in-loop-i.result.now in
-    let o = part-next (goal.at.loop-i-preserved c).After-point-in-loop-i in
-    let r = rw o.1 at c.add-added.ensures in
-    let h = r.0 in
+    let l = c.loop-v in
+    let vs = take (length a.list.now - 1) (drop 1 a.list.now) in
+    let f = point_at a.d a.points.now in
+    let p = c.point-in-loop-v.result.now in
+    let v = item-is a.list.now l.v-index c.from-in-loop-v.result c.loop-v-test.true c.from-in-loop-v.ensures in
+    let wide = point-wide a.d c.from-in-loop-v.result a.points.now p (rw v.1 (c.requires.2 (l.v-index + 1) v.0)) c.point-in-loop-v.ensures in
+    let here = c.point-in-loop-v.ensures ∙ ap f c.from-in-loop-v.ensures ∙ sym (get_or-map f 0 [] vs l.v-index c.loop-v-test.true) in
+    let more : l.v-index < length (map f vs) = omega (arith, length-map vs f, c.loop-v-test.true) in
     let full = c.if-k-d.false in
-    let n = length_basis a.d c.loop-i.hull ∙ sym c.loop-i.invariant.2 in
-    let g = next c.requires.2 c.loop-i-test.true (λ e. full (sym n ∙ e)) (h ∙ ap (add (hull_in a.d c.loop-i.hull)) o.0) c.loop-i.invariant.4 in
-    let m : (c.match-joined.k ≡ c.add-added.result.hull.count) × (c.match-joined.k ≤ a.d) =
-    elim c.match-joined.branch [
-      | in-Length w ↦ let q = count-far a.d c.loop-i.hull c.add-added.result.hull p h w.in-Length.is r.1 in
-          (omega (arith, w.k-is, q, c.loop-i.invariant.2), omega (arith, w.k-is, full, c.loop-i.invariant.3))
-      | in-Nothing w ↦ let q = count-near a.d c.loop-i.hull c.add-added.result.hull p h w.in-Nothing.is r.1 in
-          (omega (arith, w.k-is, q, c.loop-i.invariant.2), omega (arith, w.k-is, c.loop-i.invariant.3))
+    let n = length_basis a.d l.hull ∙ sym l.invariant.0 in
+    let g = next p more here (λ e. full (sym n ∙ e)) (rw wide at c.add-joined.ensures.hull) l.invariant.2 in
+    let m : (c.if-is_some.k ≡ c.add-joined.result.0.count) × (c.if-is_some.k ≤ a.d) =
+    elim c.if-is_some.branch [
+      | then-is_some w ↦ let q = (rw (sym c.is_some.ensures ∙ w.if-is_some.true) at c.add-joined.ensures.counted) in
+          (omega (arith, w.k-is, q, l.invariant.0), omega (arith, w.k-is, full, l.invariant.1))
+      | else-is_some w ↦ let q = (rw (sym c.is_some.ensures ∙ w.if-is_some.false) at c.add-joined.ensures.counted) in
+          (omega (arith, w.k-is, q, l.invariant.0), omega (arith, w.k-is, l.invariant.1))
     ] in
-    (omega arith, omega (arith, c.loop-i-test.true), m.0, m.1, g)
+    (m.0, m.1, g)
 
 pub returns : goal.returns
 returns c =
-    c.distance-2.ensures ∙ ap (distance c.args.d) (end c.requires.2 c.loop-i-test.false c.loop-i.invariant.4)
+    let a = c.args in
+    let l = c.loop-v in
+    let vs = take (length a.list.now - 1) (drop 1 a.list.now) in
+    let f = point_at a.d a.points.now in
+    let all : hull_in a.d l.hull ≡ add_all a.d (hull_in a.d c.empty-hull.result) (map f vs) = elim c.loop-v-test.branch [
+      | else-loop-v-test w ↦ end (omega (arith, length-map vs f, w.loop-v-test.false)) l.invariant.2
+      | then-loop-v-test+then-k-d w ↦ stop (length_basis a.d l.hull ∙ sym l.invariant.0 ∙ w.if-k-d.true) l.invariant.2
+    ] in
+    let wide = point-wide a.d c.from.result a.points.now c.point.result.now (rw c.from.ensures (c.requires.2 0 c.requires.1)) c.point.ensures in
+    let one = (rw wide at c.empty-hull.ensures.hull) ∙ ap {B = Hull} (λ (p : Vector). record { offset = p; basis = [] }) (c.point.ensures ∙ ap f c.from.ensures) in
+    c.distance.ensures ∙ ap (distance a.d) (all ∙ ap (λ h. add_all a.d h (map f vs)) one ∙ whole a.d f a.list.now c.requires.1)

@@ -1,11 +1,7 @@
 -- In the loop over the proper ranks, each rank's elements take their classes behind those of the ranks below.
 -- Assumes nothing.
-use Prim.Native.Nat.{◌-◌}
 use Rattle.geometry.proofs.elements.Ranks.{Round}
 use Rattle.geometry.proofs.elements.all_classes.Given as goal
 
 abbrev pub invariant-loop-r : goal.invariant-loop-r
 invariant-loop-r l = Round l.sh l.lists l.initial.floats l.floats l.n l.r
-
-abbrev pub decreases-loop-r : goal.decreases-loop-r
-decreases-loop-r l = l.rank - l.r

@@ -3,18 +3,13 @@
 use mathlib.Core.Path.{◌∙◌}
 use native.Mathlib.Omega.{arith}
 use Rattle.ranked.proofs.Solids.{sizes_are}
-use Rattle.geometry.proofs.elements.Elements.{distance_is, list_long, some_listed, point_lies}
+use Rattle.geometry.proofs.elements.Elements.{distance_is, some_listed, point_lies}
 use Rattle.geometry.proofs.elements.element_distance.Goals as goal
 
-pub vertex_list-n-requires : goal.vertex_list-n-requires
-vertex_list-n-requires c =
+pub vertex_list-n-requires-clause-lists_in_bounds : goal.vertex_list-n-requires-clause-lists_in_bounds
+vertex_list-n-requires-clause-lists_in_bounds c =
     let a = c.args in
-    let q = c.requires.le_r in
-    record {
-      held = c.requires.held;
-      r_le_rank = (q.1, q.2);
-      lists_in_bounds = rw (sizes_are a.sh a.lists.now c.requires.held 1) (c.requires.held.few 1 (omega arith));
-    }
+    rw (sizes_are a.sh a.lists.now c.requires.held 1) (c.requires.held.few 1 (omega arith))
 
 pub distance_of-requires : goal.distance_of-requires
 distance_of-requires c =
@@ -23,7 +18,6 @@ distance_of-requires c =
     let q = c.requires.le_r in (
       c.requires.held.wide,
       some_listed a.sh a.lists.now c.requires.held a.floats.now a.r a.e _ _ _ f q.0 q.2,
-      list_long a.sh a.lists.now c.requires.held a.floats.now a.r a.e _ _ _ f,
       point_lies a.sh a.lists.now c.requires.held a.floats.now a.r a.e _ _ _ f c.requires.sh_in_bounds,
     )
 

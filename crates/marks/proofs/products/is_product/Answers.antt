@@ -1,28 +1,13 @@
-use borrow.Author.Rules.{rules}
-use native.Mathlib.Omega.{arith}
-use mathlib.Core.Path.{◌≡◌}
-use mathlib.Core.Bool.{false≢true}
-use lib.ListN.{get_or}
-use Rattle.marks.proofs.products.Factors.{same_none, same_next, same_end}
+-- Each entry of the row is what a has at the entry of g.
+-- Assumes nothing.
+use Rattle.std.proofs.Common.{rules, tests, ◌≡◌, ℕ, get_or}
+use Rattle.std.proofs.lemmas.Iterator.{cases_from_all, YieldsList-from_slice, YieldsList-from_zip}
+use Rattle.marks.proofs.products.Factors.{product_is}
 use Rattle.marks.proofs.products.is_product.Goals as goal
-
-pub loop-p-init : goal.loop-p-init
-loop-p-init c = (search rules, search rules, same_none c.args.row.now c.args.a.now c.args.g.now)
-
-pub returns-then-v-x : goal.returns-then-v-x
-returns-then-v-x c e = absurd (false≢true e)
-
-pub returns-then-row-p : goal.returns-then-row-p
-returns-then-row-p c e = absurd (false≢true e)
-
-pub loop-p-preserved : goal.loop-p-preserved
-loop-p-preserved c =
-    let l = c.loop-p in
-    let a = c.args in
-    let e : get_or a.row.now l.p 0 ≡ get_or a.a.now (get_or a.g.now l.p 0) 0 = rw c.wide-x.ensures at c.if-row-p.false in
-    (search rules, search rules, same_next a.row.now a.a.now a.g.now l.p l.invariant.2 e)
 
 pub returns : goal.returns
 returns c e =
-    let l = c.loop-p in
-    same_end c.args.row.now c.args.a.now c.args.g.now l.p c.requires.0 (omega (arith, c.loop-p-test.false, l.invariant.0)) l.invariant.2
+    let a = c.args in
+    let same = cases_from_all c.all.new.self _ _ (λ (p : ℕ × ℕ). p.0 ≡ get_or a.a.now p.1 0) (λ _. Unit {0}) c.all.ensures.ran
+    (YieldsList-from_zip (YieldsList-from_slice a.row.now cc) (YieldsList-from_slice a.g.now cc)) (λ x q k. search (rules, tests)) (λ x q k. tt) in
+    product_is a.row.now a.a.now a.g.now c.requires.0 (rw e at same)

@@ -2,7 +2,7 @@
 -- Assumes nothing.
 use mathlib.Core.Path.{refl, sym}
 use lib.ListN.{length}
-use Rattle.marks.proofs.products.Marked.{row_in, row_known, row-full, row_few, row-mark}
+use Rattle.marks.proofs.products.Marked.{row_in, row_known, row-full, row_few}
 use Rattle.marks.proofs.products.mark_next.Goals as goal
 
 pub is_known-requires : goal.is_known-requires
@@ -16,11 +16,6 @@ returns-then-is_known c =
     row_known a.sh a.lists.now a.floats.now a.rows.now _ (length a.done.now) c.vertices-v.ensures c.requires.sh_in_bounds c.requires.markable.0.held a.done.now refl c.requires.done_value
     (c.is_known.ensures c.if-is_known.true)
 
-pub row_at-row-requires : goal.row_at-row-requires
-row_at-row-requires c =
-    let a = c.args in
-    row_in a.sh a.lists.now a.floats.now a.rows.now _ (length a.done.now) c.vertices-v.ensures c.requires.sh_in_bounds
-
 pub mark-m-requires : goal.mark-m-requires
 mark-m-requires c =
     let a = c.args in
@@ -28,15 +23,10 @@ mark-m-requires c =
     record {
       held = (p.0.held, p.0.classes);
       apart_value = sym p.1;
-      row_len = (row-full a.sh a.lists.now a.floats.now a.rows.now _ _ c.vertices-v.ensures c.requires.sh_in_bounds _ c.row_at-row.ensures, p.0.room);
+      row_len = (row-full a.sh a.lists.now a.floats.now a.rows.now _ _ c.vertices-v.ensures c.requires.sh_in_bounds _ c.row_at-row.ensures.value, p.0.room);
     }
 
 pub join-requires : goal.join-requires
 join-requires c =
     let a = c.args in
-    row_few a.sh a.lists.now a.floats.now a.rows.now _ _ c.vertices-v.ensures c.requires.sh_in_bounds _ c.row_at-row.ensures c.requires.markable.0.held
-
-pub returns : goal.returns
-returns c =
-    let a = c.args in
-    row-mark a.sh a.lists.now a.floats.now a.rows.now _ _ c.vertices-v.ensures c.requires.sh_in_bounds _ c.row_at-row.ensures _ c.mark-m.ensures
+    row_few a.sh a.lists.now a.floats.now a.rows.now _ _ c.vertices-v.ensures c.requires.sh_in_bounds _ c.row_at-row.ensures.value c.requires.markable.0.held

@@ -15,10 +15,10 @@ use Rattle.matrix.proofs.elimination.beside.Goals as goal
 
 pub loop-j-init : goal.loop-j-init
 unfolding of_bits zero_f
-loop-j-init c = (search rules, none)
+loop-j-init c = none
 
 pub loop-j-preserved : goal.loop-j-preserved
-loop-j-preserved c = (search rules, next _ (omega arith) refl c.loop-j.invariant.1)
+loop-j-preserved c = next _ (omega arith) refl c.loop-j.invariant
 
 pub returns : goal.returns
 unfolding of_bits one_f
@@ -26,6 +26,6 @@ returns c =
     let l = c.loop-j in
     let a = c.args in
     let k : length a.v ≡ max_dimension = search rules in
-    let e = copied a.v l.r nan zero_f width l.j a.d (omega arith) l.invariant.0 c.loop-j-test.false l.invariant.1 in
+    let e = copied a.v l.r nan zero_f width l.j a.d (omega arith) l.auto.j-end c.loop-j-test.false l.invariant in
     ap (λ (r : List Float). take (a.d + a.d) (set r (a.d + a.i) one_f)) e
     ∙ beside-row a.d (width - a.d) a.i (take a.d a.v) (length-take-le a.d a.v (omega arith)) (omega arith) (omega arith)

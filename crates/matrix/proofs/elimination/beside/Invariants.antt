@@ -1,6 +1,5 @@
--- The loop's invariant is that the cells below j hold the row's, the others 0. The measure is what is left of d.
+-- The loop's invariant is that the cells below j hold the row's, the others 0.
 -- Assumes nothing.
-use Prim.Native.Nat.{◌≤◌, ◌-◌}
 use lib.ListN.{get_or, replicate}
 use lib.Ieee.{nan}
 use Rattle.spec.specs.Float.{zero_f}
@@ -9,7 +8,4 @@ use Rattle.float.proofs.Written.{Written}
 use Rattle.matrix.proofs.elimination.beside.Given as goal
 
 abbrev pub invariant-loop-j : goal.invariant-loop-j
-invariant-loop-j l = (l.j ≤ l.d) × Written (λ x. x) (λ k. get_or l.v k nan) (replicate width zero_f) l.r l.j
-
-abbrev pub decreases-loop-j : goal.decreases-loop-j
-decreases-loop-j l = l.d - l.j
+invariant-loop-j l = Written (λ x. x) (λ k. get_or l.v k nan) (replicate width zero_f) l.r l.j

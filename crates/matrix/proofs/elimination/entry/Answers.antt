@@ -15,7 +15,6 @@ use Rattle.matrix.proofs.elimination.entry.Goals as goal
 
 pub returns : goal.returns
 returns c =
-    let s = (goal.at.returns c).Start in
-    let v = get_or s.args.rows s.args.r [] in
-    let k : length v ≡ width = wide (FloatOf binary64) width max_dimension s.args.rows _ s.args.r s.well_formed.0 (omega arith) in
-    get_d_any v s.args.c nan zero_f (omega arith)
+    let v = get_or c.args.rows c.args.r [] in
+    let k : length v ≡ width = wide (FloatOf binary64) width max_dimension c.args.rows _ c.args.r c.well_formed.0 (omega arith) in
+    get_d_any v c.args.c nan zero_f (omega arith)

@@ -14,7 +14,7 @@ pub loop-r-init : goal.loop-r-init
 loop-r-init c =
     let a = c.args in
     let k : length a.rows ≡ max_dimension = search rules in
-    (search rules, search rules, first (length-leading a.d (a.d + a.d) a.rows (omega arith)))
+    (search rules, first (length-leading a.d (a.d + a.d) a.rows (omega arith)))
 
 pub loop-r-preserved : goal.loop-r-preserved
 loop-r-preserved c =
@@ -26,9 +26,9 @@ loop-r-preserved c =
     let ev = c.magnitude-in-loop-r.ensures ∙ ap abs_f (c.entry-in-loop-r.ensures ∙ sym (view l.loop-r.r a.c (omega arith) (omega arith))) in
     let h : l.loop-r.r < a.d = n.loop-r-test.true in
     elim c.if-magnitude.branch [
-      | then-magnitude w ↦ rw w.p-is (omega arith, h, larger _ _ h eu ev l.loop-r.invariant.2 w.if-magnitude.true)
-      | else-magnitude w ↦ rw w.p-is (omega arith, l.loop-r.invariant.1, not_larger _ _ h eu ev l.loop-r.invariant.2 w.if-magnitude.false)
+      | then-magnitude w ↦ rw w.p-is (h, larger _ _ h eu ev l.loop-r.invariant.1 w.if-magnitude.true)
+      | else-magnitude w ↦ rw w.p-is (l.loop-r.invariant.0, not_larger _ _ h eu ev l.loop-r.invariant.1 w.if-magnitude.false)
     ]
 
 pub returns : goal.returns
-returns c = (end c.loop-r-test.false c.loop-r.invariant.2, search rules)
+returns c = (end c.loop-r-test.false c.loop-r.invariant.1, search rules)

@@ -14,20 +14,20 @@ use Rattle.matrix.proofs.elimination.right_half.Goals as goal
 
 pub loop-j-init : goal.loop-j-init
 unfolding of_bits zero_f
-loop-j-init c = (search rules, none)
+loop-j-init c = none
 
 pub loop-j-preserved : goal.loop-j-preserved
 loop-j-preserved c =
     let l = c.loop-j in
     let a = c.args in
-    (search rules, next _ (omega arith) (sym (get_or-drop a.d a.v l.j nan)) l.invariant.1)
+    next _ (omega arith) (sym (get_or-drop a.d a.v l.j nan)) l.invariant
 
 pub returns : goal.returns
 returns c =
     let a = c.args in
     let v = drop a.d a.v in
     let k : length a.v ≡ width = search rules in
-    padded_table _ _ _ a.d c.loop-j.invariant.0 c.loop-j-test.false c.loop-j.invariant.1
+    padded_table _ _ _ a.d c.loop-j.auto.j-end c.loop-j-test.false c.loop-j.invariant
     ∙ ap padded
     (table_map (λ x. x) nan v a.d (omega (arith, length-drop a.d a.v))
     ∙ map-id (take a.d v)

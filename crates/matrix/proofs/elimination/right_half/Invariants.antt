@@ -1,6 +1,5 @@
--- The loop's invariant is that the cells below j hold those from d on. The measure is what is left of d.
+-- The loop's invariant is that the cells below j hold those from d on.
 -- Assumes nothing.
-use Prim.Native.Nat.{◌≤◌, ◌-◌}
 use lib.ListN.{get_or, drop, replicate}
 use lib.Ieee.{nan}
 use Rattle.spec.specs.Limits.{max_dimension}
@@ -9,7 +8,4 @@ use Rattle.float.proofs.Written.{Written}
 use Rattle.matrix.proofs.elimination.right_half.Given as goal
 
 abbrev pub invariant-loop-j : goal.invariant-loop-j
-invariant-loop-j l = (l.j ≤ l.d) × Written (λ x. x) (λ k. get_or (drop l.d l.v) k nan) (replicate max_dimension zero_f) l.r l.j
-
-abbrev pub decreases-loop-j : goal.decreases-loop-j
-decreases-loop-j l = l.d - l.j
+invariant-loop-j l = Written (λ x. x) (λ k. get_or (drop l.d l.v) k nan) (replicate max_dimension zero_f) l.r l.j

@@ -19,20 +19,19 @@ use Rattle.matrix.proofs.elimination.right_halves.Invariants.{half}
 use Rattle.matrix.proofs.elimination.right_halves.Goals as goal
 
 pub loop-i-init : goal.loop-i-init
-loop-i-init c = (search rules, none)
+loop-i-init c = none
 
 pub loop-i-preserved : goal.loop-i-preserved
-loop-i-preserved c = (search rules, next _ (omega arith) c.right_half.ensures c.loop-i.invariant.1)
+loop-i-preserved c = next _ (omega arith) c.right_half.ensures c.loop-i.invariant
 
 pub returns : goal.returns
 unfolding of_bits zero_f
 returns c =
-    let s = (goal.at.returns c).Start in
-    let rows = s.args.rows in
-    let d = s.args.d in
+    let rows = c.args.rows in
+    let d = c.args.d in
     let k : length rows ≡ max_dimension = search rules in
     let long : (i : ℕ) → i < d → length (half rows d i) ≡ d =
-    λ i h. half_long d (row rows i) (omega (arith, wide (FloatOf binary64) width max_dimension rows _ i s.well_formed.0 (omega arith))) in
+    λ i h. half_long d (row rows i) (omega (arith, wide (FloatOf binary64) width max_dimension rows _ i c.well_formed.0 (omega arith))) in
     let e = over-leading (drop d) d (d + d) rows (omega arith) in
-    let z = padded-rows_table (half rows d) _ _ d c.loop-i.invariant.0 c.loop-i-test.false c.loop-i.invariant.1 in
+    let z = padded-rows_table (half rows d) _ _ d c.loop-i.auto.i-end c.loop-i-test.false c.loop-i.invariant in
     (z ∙ ap padded_rows e, corner-padded d _ _ (square_table (half rows d) d long) z ∙ e)

@@ -1,7 +1,7 @@
--- The loop's invariant is that the rows below i hold the right halves. The measure is what is left of d.
+-- The loop's invariant is that the rows below i hold the right halves.
 -- Assumes nothing.
 use mathlib.Core.List.{List}
-use Prim.Native.Nat.{ℕ, ◌+◌, ◌≤◌, ◌-◌}
+use Prim.Native.Nat.{ℕ, ◌+◌}
 use lib.ListN.{take, drop}
 use lib.Ieee.{Float}
 use Rattle.spec.specs.Matrix.{row}
@@ -14,7 +14,4 @@ abbrev pub half : List (List Float) → ℕ → ℕ → List Float
 half rows d k = drop d (take (d + d) (row rows k))
 
 abbrev pub invariant-loop-i : goal.invariant-loop-i
-invariant-loop-i l = (l.i ≤ l.d) × Written (λ x. x) (λ k. padded (half l.rows l.d k)) l.initial.r l.r l.i
-
-abbrev pub decreases-loop-i : goal.decreases-loop-i
-decreases-loop-i l = l.d - l.i
+invariant-loop-i l = Written (λ x. x) (λ k. padded (half l.rows l.d k)) l.initial.r l.r l.i

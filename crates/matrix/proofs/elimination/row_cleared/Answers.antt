@@ -16,7 +16,7 @@ long : (c : Start) → (length c.args.v ≡ width) × (length c.args.pivot ≡ w
 long c = (search rules, search rules)
 
 pub loop-j-init : goal.loop-j-init
-loop-j-init c = (search rules, none)
+loop-j-init c = none
 
 pub loop-j-preserved : goal.loop-j-preserved
 loop-j-preserved c =
@@ -24,10 +24,8 @@ loop-j-preserved c =
     let l = c.loop-j in
     let v = s.args.v in
     let k = long s in
-    let e = get_d_any v s.args.c nan zero_f (omega arith) in (
-      search rules,
-      next _ (omega arith) (ap (λ (x : Float). minus (get_or v l.j nan) (times x (get_or s.args.pivot l.j nan))) e) l.invariant.1,
-    )
+    let e = get_d_any v s.args.c nan zero_f (omega arith) in
+    next _ (omega arith) (ap (λ (x : Float). minus (get_or v l.j nan) (times x (get_or s.args.pivot l.j nan))) e) l.invariant
 
 pub returns : goal.returns
 unfolding cleared
@@ -36,6 +34,6 @@ returns c =
     let v = s.args.v in
     let pivot = s.args.pivot in
     let k = long s in
-    all width k.0 c.loop-j.invariant.0 c.loop-j-test.false c.loop-j.invariant.1
+    all width k.0 c.loop-j.auto.j-end c.loop-j-test.false c.loop-j.invariant
     ∙ table_zip (λ y z. minus y (times (get_or v s.args.c zero_f) z)) nan nan v pivot width (omega arith) (omega arith)
     ∙ rw (take_all width v (omega arith), take_all width pivot (omega arith))

@@ -1,24 +1,22 @@
-use mathlib.Core.Bool.{false≢true}
-use native.Mathlib.Omega.{arith}
+-- Where every point passes the test, each is clear of those before it.
+-- Assumes nothing.
+use mathlib.Core.Path.{refl}
+use Prim.Native.Nat.{ℕ}
+use native.Mathlib.Nat.{sub-zero}
 use borrow.Author.Rules.{rules}
-use Rattle.points.proofs.Parts.{part_end}
-use Rattle.points.proofs.Lone.{each_none, each_next, each-end}
-use Rattle.points.proofs.lookup.is_lone.Goals.{Start}
+use borrow.Author.Tests.{tests}
+use Rattle.std.proofs.lemmas.Iterator.{cases_from_all, YieldsList-from_range}
+use Rattle.points.specs.Guesses.{Clear}
+use Rattle.points.proofs.Lone.{all_below, each_lone}
 use Rattle.points.proofs.lookup.is_lone.Goals as goal
 
-pub loop-k-init : goal.loop-k-init
-loop-k-init c = (search rules, each_none)
-
-pub is_clear-requires : goal.is_clear-requires
-is_clear-requires c =
-    let s = (goal.at.is_clear-requires c).Start in
-    (s.requires.0, omega (arith, part_end s.args.n s.args.d c.loop-k.k c.loop-k-test.true, s.requires.2))
-
-pub loop-k-preserved : goal.loop-k-preserved
-loop-k-preserved c = (search rules, each_next c.loop-k.invariant.1 (c.is_clear.ensures c.if-is_clear.true))
-
-pub returns-else-is_clear : goal.returns-else-is_clear
-returns-else-is_clear c e = absurd (false≢true e)
-
 pub returns : goal.returns
-returns c e = each-end c.args.n c.loop-k-test.false c.loop-k.invariant.1
+returns c e =
+    let a = c.args in
+    let clear = λ (k : ℕ). Clear a.d a.points.now k k in
+    each_lone a.n
+    (all_below clear _ a.n
+    (cases_from_all _ _ c.all.result clear (λ (k : ℕ). Unit {0}) c.all.ensures.ran (YieldsList-from_range 0 a.n a.n refl (sub-zero a.n))
+    (λ x q k. search (rules, tests))
+    (λ x q k. tt))
+    e)

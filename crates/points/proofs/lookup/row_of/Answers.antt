@@ -13,10 +13,10 @@ use Rattle.matrix.specs.Reading.{corner}
 use Rattle.points.specs.Finding.{found_at}
 use Rattle.matrix.proofs.Corner.{length-corner}
 use Rattle.matrix.proofs.Padded.{take-image}
-use Rattle.points.proofs.Parts.{length-parts, part_at, part_end}
+use Rattle.points.proofs.Parts.{length-parts, part_at}
 use Rattle.points.proofs.Finding.{at-number, is_missing}
 use Rattle.points.proofs.Filled.{Piece, filled_none, filled_next, filled_open, filled_end, cell, cell_set, cell_is, length-row, one_held, one-other}
-use Rattle.points.proofs.lookup.row_of.Goals.{After-found, In-At, Start}
+use Rattle.points.proofs.lookup.row_of.Goals.{After-found, In-Some, Start}
 use Rattle.points.proofs.lookup.row_of.Goals as goal
 
 -- This is the row over the points.
@@ -58,45 +58,37 @@ piece c x e =
     cell (whole c) l.k x (omega (arith, h, n, length-row cs m)) (e ∙ sym (cell_is cs m l.k (omega (arith, h, n))))
 
 -- The number that is found is that of the image.
-number : (c : In-At) →
-    (let w = (goal.at.overflow_cast-row c).After-found in (image_of w ≡ c.in-At.at) × (c.in-At.at < w.args.n))
-number c = let w = (goal.at.overflow_cast-row c).After-found in at-number (image-is w ∙ c.in-At.is)
+number : (c : In-Some) →
+    (let w = (goal.at.overflow_cast-row c).After-found in (image_of w ≡ c.in-Some.at) × (c.in-Some.at < w.args.n))
+number c = let w = (goal.at.overflow_cast-row c).After-found in at-number (image-is w ∙ c.in-Some.is)
 
 pub loop-k-init : goal.loop-k-init
-loop-k-init c = (search rules, refl, filled_none)
+loop-k-init c = (refl, filled_none)
 
-pub loaded-requires : goal.loaded-requires
-loaded-requires c =
-    let s = (goal.at.loaded-requires c).Start in
-    (s.requires.le_d.1, omega (arith, part_end s.args.n s.args.d c.loop-k.k c.loop-k-test.true, s.requires.le_d.3))
-
-pub returns-in-Nothing : goal.returns-in-Nothing
-returns-in-Nothing c =
-    let w = (goal.at.returns-in-Nothing c).After-found in
+pub returns-in_default : goal.returns-in_default
+returns-in_default c =
+    let w = (goal.at.returns-in_default c).After-found in
     let a = w.args in
     let l = w.loop-k in
     let cs = parts a.n a.d a.points.now in
     let n = length-parts a.n a.d a.points.now in
     let q = mul_vec (corner a.d a.m) (get_or cs l.k []) in
-    let e : image_of w ≡ a.n = not_found cs q (is_missing cs q n (image-is w ∙ c.in-Nothing.is)) ∙ n in
-    filled_open l.invariant.2 (piece w (image_of w) refl) (one_held _ (image_of w) e) refl
+    let e : image_of w ≡ a.n = not_found cs q (is_missing cs q n (image-is w ∙ c.in_default.is)) ∙ n in
+    filled_open l.invariant.1 (piece w (image_of w) refl) (one_held _ (image_of w) e) refl
 
 pub overflow_cast-row : goal.overflow_cast-row
 overflow_cast-row c =
-    let s = (goal.at.overflow_cast-row c).Start in
-    omega (arith, number c, s.requires.le_d.2)
+    omega (arith, number c, c.requires.le_d.2)
 
 pub loop-k-preserved : goal.loop-k-preserved
 loop-k-preserved c =
     let w = (goal.at.loop-k-preserved c).After-found in
-    let s = (goal.at.loop-k-preserved c).Start in
     let l = w.loop-k in
     let h = w.loop-k-test.true in
-    let at = c.in-At.at in
+    let at = c.in-Some.at in
     let i = number c in (
-      omega (arith, h),
-      simp length-set l.invariant.1,
-      filled_next l.invariant.2 (piece w at (sym i.0)) (one-other _ at (λ z. omega (arith, i.1))) (cell_set l.row l.k at (omega (arith, h, l.invariant.1, s.requires.le_d.4))),
+      simp length-set l.invariant.0,
+      filled_next l.invariant.1 (piece w at (sym i.0)) (one-other _ at (λ z. omega (arith, i.1))) (cell_set l.row l.k at (omega (arith, h, l.invariant.0, c.requires.le_d.4))),
     )
 
 pub returns : goal.returns
@@ -105,4 +97,4 @@ returns c =
     let l = c.loop-k in
     filled_end
     (omega (arith, c.loop-k-test.false, length-row (parts a.n a.d a.points.now) (corner a.d a.m), length-parts a.n a.d a.points.now))
-    l.invariant.2
+    l.invariant.1

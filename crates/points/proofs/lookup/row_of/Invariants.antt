@@ -1,7 +1,6 @@
--- The loop's invariant is that the cells before k hold the numbers of their images, and none of them is n. The measure is what is left of n.
+-- The loop's invariant is that the cells before k hold the numbers of their images, and none of them is n.
 -- Assumes nothing.
 use mathlib.Core.Path.{◌≡◌}
-use Prim.Native.Nat.{◌≤◌, ◌-◌}
 use lib.ListN.{length}
 use Rattle.spec.specs.Points.{row_of}
 use Rattle.spec.specs.Lists.{parts}
@@ -10,7 +9,4 @@ use Rattle.points.proofs.Filled.{CellsFilled}
 use Rattle.points.proofs.lookup.row_of.Given as goal
 
 abbrev pub invariant-loop-k : goal.invariant-loop-k
-invariant-loop-k l = (l.k ≤ l.n) × (length l.row ≡ length l.initial.row) × CellsFilled l.n (row_of (parts l.n l.d l.points) (corner l.d l.m)) l.initial.row l.row l.k
-
-abbrev pub decreases-loop-k : goal.decreases-loop-k
-decreases-loop-k l = l.n - l.k
+invariant-loop-k l = (length l.row ≡ length l.initial.row) × CellsFilled l.n (row_of (parts l.n l.d l.points) (corner l.d l.m)) l.initial.row l.row l.k

@@ -1,34 +1,13 @@
-use borrow.Author.Rules.{rules}
-use native.Mathlib.Omega.{arith}
-use mathlib.Core.Path.{refl, sym, ◌∙◌}
-use Prim.Native.Nat.{◌+◌}
-use Rattle.ranked.proofs.Turns.{range_yes, range_no, range-end}
+-- Assumes nothing.
+use Rattle.std.proofs.Common.{rules, tests, arith, sym, ◌∙◌, ◌-◌}
+use Rattle.ranked.specs.Words.{first_at, size_at}
+use Rattle.ranked.proofs.Chains.{all_numbers}
+use Rattle.preflight.specs.Check.{bound_in}
 use Rattle.preflight.proofs.check.Refusals.{bound_is}
-use Rattle.preflight.proofs.check.is_bound.Invariants.{p}
 use Rattle.preflight.proofs.check.is_bound.Goals as goal
-
-pub loop-k-init : goal.loop-k-init
-loop-k-init c = (search rules, refl)
-
-pub bound_rank-requires : goal.bound_rank-requires
-bound_rank-requires c = (c.requires, omega (arith, c.loop-k-test.true))
-
-pub returns-then-not-bound_rank : goal.returns-then-not-bound_rank
-returns-then-not-bound_rank c =
-    let more = c.loop-k-test.true in
-    range_no (p c.args.sh c.args.lists.now) 1 _ c.loop-k.k (c.loop-k.k + 1) (omega arith) (omega arith) c.loop-k.invariant.1
-    (sym c.bound_rank.ensures ∙ c.if-not-bound_rank.true)
-    ∙ sym (bound_is c.args.sh c.args.lists.now c.requires)
-
-pub loop-k-preserved : goal.loop-k-preserved
-loop-k-preserved c =
-    let more = c.loop-k-test.true in (
-      omega arith,
-      range_yes (p c.args.sh c.args.lists.now) 1 _ c.loop-k.k (c.loop-k.k + 1) (omega arith) (omega arith) c.loop-k.invariant.1
-          (sym c.bound_rank.ensures ∙ c.if-not-bound_rank.false),
-    )
 
 pub returns : goal.returns
 returns c =
-    range-end (p c.args.sh c.args.lists.now) 1 _ c.loop-k.k (omega (arith, c.loop-k-test.false)) c.loop-k.invariant.1
-    ∙ sym (bound_is c.args.sh c.args.lists.now c.requires)
+    let a = c.args in
+    all_numbers (λ r. bound_in a.lists.now (first_at a.sh r) (size_at a.sh r)) 1 (a.sh.rank - 1) (a.sh.rank - 2) (cc) (omega arith) c.all.ensures.ran (λ r t q k. search (rules, tests))
+    ∙ sym (bound_is a.sh a.lists.now c.requires)

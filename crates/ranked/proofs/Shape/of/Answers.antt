@@ -2,12 +2,6 @@
 use Rattle.ranked.proofs.Shaping.{starts_fit, counted}
 use Rattle.ranked.proofs.Shape.of.Goals as goal
 
-pub starts_of-first-requires : goal.starts_of-first-requires
-starts_of-first-requires c = record {
-  rank_le_max_rank = c.requires.rank_le_max_rank.0;
-  counts_fit = c.requires.counts_fit;
-}
-
 pub sized-requires : goal.sized-requires
 sized-requires c =
     let a = c.args in

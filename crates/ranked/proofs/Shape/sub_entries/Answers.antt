@@ -4,7 +4,7 @@ use native.Mathlib.Omega.{arith}
 use Prim.Native.Nat.{◌+◌, ◌-◌, ◌^◌, ◌<◌}
 use Rattle.ranked.specs.Words.{size_at}
 use Rattle.ranked.specs.Layout.{sub_entries}
-use Rattle.ranked.proofs.Low.{entries_0, entries_1, entries_some, entries_small, last_fits}
+use Rattle.ranked.proofs.Low.{entries_0, entries_1, entries_some, entries_small}
 use Rattle.ranked.proofs.Shape.sub_entries.Goals.{After-vertices}
 use Rattle.ranked.proofs.Shape.sub_entries.Goals as goal
 
@@ -22,15 +22,6 @@ returns-then-self-eq0 c = sym (entries_0 c.args.self _ c.if-self-eq0.true)
 
 pub returns-then-self-eq1 : goal.returns-then-self-eq1
 returns-then-self-eq1 c = sym (entries_1 c.args.self _ c.if-self-eq1.true)
-
-pub overflow_add-result : goal.overflow_add-result
-overflow_add-result c = omega (arith, c.vertices.ensures, parts c, few c)
-
-pub size-requires : goal.size-requires
-size-requires c = last_fits c.args.self _ c.requires.rank_le_max_rank c.requires.by_index
-
-pub overflow_add-result-2 : goal.overflow_add-result-2
-overflow_add-result-2 c = omega (arith, c.vertices.ensures, c.size.ensures, parts (goal.at.overflow_add-result-2 c).After-vertices, few (goal.at.overflow_add-result-2 c).After-vertices)
 
 pub returns : goal.returns
 returns c = omega (arith, c.vertices.ensures, c.size.ensures, parts (goal.at.returns c).After-vertices)

@@ -1,13 +1,7 @@
 -- The list of subs lies within the words, and is the solid's.
 -- Assumes nothing.
-use native.Mathlib.Omega.{arith}
 use Rattle.ranked.proofs.Solids.{subs_lie, subs-listed}
 use Rattle.ranked.proofs.lists.sub.Goals as goal
-
-pub subs-requires : goal.subs-requires
-subs-requires c =
-    let a = c.args in
-    (omega (arith, c.requires.held.tall, c.requires.r_le_rank.0), omega (arith, (subs_lie a.sh a.lists.now c.requires.held a.r a.e c.requires.r_le_rank.0 c.requires.r_le_rank.1).head))
 
 pub entry_at-requires : goal.entry_at-requires
 entry_at-requires c = let a = c.args in rw c.subs.ensures (record {

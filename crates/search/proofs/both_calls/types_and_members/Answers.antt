@@ -1,15 +1,15 @@
 -- The promises of both calls hold together.
 -- Assumes nothing.
 use borrow.Author.Rules.{rules}
-use Rattle.spec.specs.Calls.{search_call}
+use Rattle.search.proofs.Demand3.{told}
 use Rattle.search.proofs.both_calls.Both.{both}
 use Rattle.search.proofs.both_calls.types_and_members.Goals as goal
 
 pub returns : goal.returns
-returns c =
+returns g c =
     let t = c.element_types-types.ensures in
-    let m = c.search-members.ensures in
+    let m = told _ _ _ _ _ _ _ c.run-members.ensures in
     record {
-      both_calls = both search_call _ _ _ _ _ _ _ _ _ _ _ t.table_after t.by_index t.free m.marks_after m.demand3told;
+      both_calls = both _ _ _ _ _ _ _ _ _ _ _ _ t.as_defined t.types_kept t.free m.0 m.1;
       free = record { words = search rules; floats = search rules };
     }

@@ -1,31 +1,28 @@
 -- The answer goes by whether one had no room, and by how many there are.
 -- Assumes nothing.
+use Rattle.std.specs.Prelude.{Ok}
 use mathlib.Core.Path.{◌≡◌, refl}
-use mathlib.Core.Bool.{Bool, true, false}
 use Prim.Native.Nat.{ℕ, zero, suc}
-use Rattle.spec.specs.declared.Refusal.TheVariants.{Blank, ShortSheet}
-use Rattle.spec.specs.declared.Answer.TheVariants.{Done, Refused}
+use mathlib.Core.Bool.{false}
 use Rattle.symmetry.specs.Listing.{answer_of}
 use Rattle.search.proofs.driver.answer_of.Goals as goal
 
-short-is : (b : Bool) (n : ℕ) → b ≡ true → Refused ShortSheet n ≡ answer_of b n
+done_is : (n : ℕ) → (n ≡ 0 → ⊥) → Ok n ≡ answer_of false n
 unfolding answer_of
-short-is b n e = rw e refl
+done_is zero z = absurd (z refl)
+done_is (suc n) z = refl
 
-blank-is : (b : Bool) (n : ℕ) → b ≡ false → n ≡ 0 → Refused Blank 0 ≡ answer_of b n
+pub returns-in-Err : goal.returns-in-Err
 unfolding answer_of
-blank-is b n e z = rw (e, z) refl
+returns-in-Err c = rw c.in-Err.is
 
-done_is : (b : Bool) (n : ℕ) → b ≡ false → (n ≡ 0 → ⊥) → Done n ≡ answer_of b n
+pub returns-in-Ok-eq0 : goal.returns-in-Ok-eq0
 unfolding answer_of
-done_is b zero e z = absurd (z refl)
-done_is b (suc n) e z = rw e refl
+returns-in-Ok-eq0 c =
+    let z : c.in-Ok-eq0.field-0 ≡ 0 = rw c.in-Ok-eq0.is at c.in-Ok-eq0.field-0-test in
+    rw (c.into.ensures, c.in-Ok-eq0.is, z)
 
-pub returns-then-members : goal.returns-then-members
-returns-then-members c = short-is _ _ c.if-members.true
-
-pub returns-then-n-eq0 : goal.returns-then-n-eq0
-returns-then-n-eq0 c = blank-is _ _ c.if-members.false c.if-n-eq0.true
-
-pub returns : goal.returns
-returns c = done_is _ _ c.if-members.false c.if-n-eq0.false
+pub returns-in-Ok : goal.returns-in-Ok
+returns-in-Ok c =
+    let z : c.in-Ok.n ≡ 0 → ⊥ = rw c.in-Ok.is at c.in-Ok.n-test.1 in
+    rw c.in-Ok.is (done_is c.in-Ok.n z)

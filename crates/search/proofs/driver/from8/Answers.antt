@@ -5,11 +5,11 @@ use Rattle.search.proofs.driver.from8.Goals as goal
 
 pub from9-requires : goal.from9-requires
 from9-requires c =
-    let both = tall c.args.sh _ c.is_full.ensures c.if-is_full.true in
+    let both = tall c.args.sh _ c.is_full.ensures c.if-not-is_full.false in
     record { bench = c.requires; le_rank = both.0; le_dimension = both.1 }
 
-pub returns-then-is_full : goal.returns-then-is_full
-returns-then-is_full c = is_full c.args.sh _ c.is_full.ensures c.args.words.now c.args.floats.now _ _ c.if-is_full.true _ c.from9.ensures
+pub returns-then-not-is_full : goal.returns-then-not-is_full
+returns-then-not-is_full c = rw c.into.ensures (not_full c.args.sh _ c.is_full.ensures c.args.words.now c.args.floats.now _ _ c.if-not-is_full.true)
 
 pub returns : goal.returns
-returns c = not_full c.args.sh _ c.is_full.ensures c.args.words.now c.args.floats.now _ _ c.if-is_full.false
+returns c = is_full c.args.sh _ c.is_full.ensures c.args.words.now c.args.floats.now _ _ c.if-not-is_full.false _ c.from9.ensures

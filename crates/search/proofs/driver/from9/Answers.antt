@@ -12,15 +12,15 @@ from10-requires c =
     record {
       bench = c.requires.bench;
       le_rank = c.requires.le_rank;
-      parted = parted c.args.sh c.args.words.now c.args.floats.now _ c.vertices.ensures _ c.no_double.ensures c.if-no_double.true c.requires.le_dimension;
+      parted = parted c.args.sh c.args.words.now c.args.floats.now _ c.vertices.ensures _ c.no_double.ensures c.if-not-no_double.false c.requires.le_dimension;
     }
 
-pub returns-then-no_double : goal.returns-then-no_double
-returns-then-no_double c =
+pub returns-then-not-no_double : goal.returns-then-not-no_double
+returns-then-not-no_double c =
     let a = c.args in
-    not_doubled a.sh a.words.now a.floats.now _ c.vertices.ensures _ c.no_double.ensures _ _ c.if-no_double.true _ c.from10.ensures
+    rw c.into.ensures (doubled a.sh a.words.now a.floats.now _ c.vertices.ensures _ c.no_double.ensures _ _ c.if-not-no_double.true)
 
 pub returns : goal.returns
 returns c =
     let a = c.args in
-    doubled a.sh a.words.now a.floats.now _ c.vertices.ensures _ c.no_double.ensures _ _ c.if-no_double.false
+    not_doubled a.sh a.words.now a.floats.now _ c.vertices.ensures _ c.no_double.ensures _ _ c.if-not-no_double.false _ c.from10.ensures

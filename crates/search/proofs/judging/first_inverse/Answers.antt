@@ -32,4 +32,4 @@ pub returns : goal.returns
 returns c =
     let a = c.args in
     let C = solid_on a.sh a.lists.now a.floats.now in
-    c.inverse.ensures.0 ∙ ap inverse (c.vertex_sequence.ensures ∙ ap (flag_columns C) c.first-first.ensures)
+    c.inverse.ensures.entries ∙ ap inverse (c.vertex_sequence.ensures ∙ ap (flag_columns C) c.first-first.ensures)

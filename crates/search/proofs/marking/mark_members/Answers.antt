@@ -28,7 +28,7 @@ slice_bounds-write_marks-end-2 c = sym (length-take-le c.args.n c.args.marks.now
 pub write_marks-requires : goal.write_marks-requires
 unfolding parts written
 write_marks-requires c = record {
-  marks_ready = c.restore.ensures.marks_ready_2;
+  marks_ready = c.restore.ensures.ready_after;
   sh_in_bounds = rw (length-take-le c.args.n c.args.marks.now c.requires.sh_in_bounds.1) c.requires.sh_in_bounds.0;
 }
 

@@ -10,12 +10,12 @@ use Rattle.search.proofs.marking.restore.Goals as goal
 
 -- After the exchange the solid as read lies in the workspace.
 back : (c : After-exchange) → Bench c.args.sh c.exchange.new.words c.args.floats.now
-back c = back_bench c.requires.marks_ready _ c.requires.le_rank _ c.exchange.ensures.words_after c.exchange.ensures.laid_2
+back c = back_bench c.requires.marks_ready _ c.requires.le_rank _ c.exchange.ensures.words_after c.exchange.ensures.laid_after
 
 pub returns-then-f-eq0 : goal.returns-then-f-eq0
 returns-then-f-eq0 c =
     record {
-      marks_ready_2 = c.requires.marks_ready;
+      ready_after = c.requires.marks_ready;
       floats_after = elim c.then-f-eq0.branch [
         | then-f-eq0-via-then-f-eq0 w ↦ exchanged-none _ _ w.if-f-eq0.true
         | then-f-eq0-via-else-f-eq0+then-sh-eq2 w ↦ exchanged-vertices c.requires.marks_ready.bench _ c.requires.le_rank w.if-sh-eq2.true
@@ -46,8 +46,8 @@ write_fingerprints-requires c = let b = back (goal.at.write_fingerprints-require
 }
 
 pub returns : goal.returns
-returns c = let both = restored c.requires.marks_ready _ c.requires.le_rank _ c.exchange.ensures.words_after c.exchange.ensures.laid_2 _ _ (rw c.lists.ensures at c.all_classes.ensures) _ c.write_fingerprints.auto.words c.write_fingerprints.ensures.words_unchanged c.write_fingerprints.ensures.fingerprinted in
+returns c = let both = restored c.requires.marks_ready _ c.requires.le_rank _ c.exchange.ensures.words_after c.exchange.ensures.laid_after _ _ (rw c.lists.ensures at c.all_classes.ensures) _ c.write_fingerprints.auto.words c.write_fingerprints.ensures.words_unchanged c.write_fingerprints.ensures.fingerprinted in
     record {
-      marks_ready_2 = both.0;
+      ready_after = both.0;
       floats_after = both.1;
     }

@@ -1,44 +1,18 @@
-use borrow.Author.Rules.{rules}
-use native.Mathlib.Omega.{arith}
-use mathlib.Core.Path.{◌≡◌, refl, sym, ap, ◌∙◌}
-use mathlib.Core.List.{[]}
-use lib.ListN.{length}
-use Rattle.spec.specs.Limits.{max_dimension}
-use Rattle.spec.specs.Lists.{every}
+-- Each of the first d rows is tested.
+-- Assumes nothing.
+use Rattle.std.proofs.Common.{rules, tests, ◌∙◌, take, List}
+use Rattle.std.specs.Prelude.{Float}
+use Rattle.std.proofs.lemmas.Iterator.{YieldsList-from_slice}
+use Rattle.std.proofs.lemmas.Iterator.Search.{all_from_yields_List}
 use Rattle.spec.specs.Float.{finite}
-use Rattle.spec.specs.Search.{all_finite}
-use Rattle.matrix.specs.Reading.{corner}
-use Rattle.matrix.proofs.Corner.{length-corner}
-use Rattle.ranked.proofs.Turns.{every_yes, every_no, every-end}
-use Rattle.symmetry.proofs.candidates.Finite.{row-corner}
-use Rattle.symmetry.proofs.candidates.all_finite.Goals.{Start}
+use Rattle.spec.specs.Lists.{every}
+use Rattle.ranked.proofs.Chains.{all_every}
+use Rattle.symmetry.proofs.candidates.Finite.{rows_finite}
 use Rattle.symmetry.proofs.candidates.all_finite.Goals as goal
 
-long : (c : Start) → length (corner c.args.d c.args.m) ≡ c.args.d
-long c = let h : length c.args.m ≡ max_dimension = search rules in length-corner c.args.d c.args.m (omega (arith, c.requires))
-
-pub loop-i-init : goal.loop-i-init
-unfolding all_finite
-loop-i-init c = (search rules, refl)
-
-pub loop-i-smaller : goal.loop-i-smaller
-unfolding all_finite
-loop-i-smaller c = search rules
-
-pub loop-i-preserved : goal.loop-i-preserved
-unfolding all_finite
-loop-i-preserved c =
-    let l = c.loop-i in let h = c.loop-i-test.true in (
-      omega (arith, h),
-      every_yes (every finite) [] _ l.i (omega (arith, h, long (goal.at.loop-i-preserved c).Start)) l.invariant.1 (ap (every finite) (row-corner c.args.d c.args.m l.i h) ∙ sym c.row_finite.ensures ∙ c.if-row_finite.true),
-    )
-
-pub returns-else-row_finite : goal.returns-else-row_finite
-unfolding all_finite
-returns-else-row_finite c =
-    let l = c.loop-i in let h = c.loop-i-test.true in
-    every_no (every finite) [] _ l.i (omega (arith, h, long (goal.at.returns-else-row_finite c).Start)) l.invariant.1 (ap (every finite) (row-corner c.args.d c.args.m l.i h) ∙ sym c.row_finite.ensures ∙ c.if-row_finite.false)
-
 pub returns : goal.returns
-unfolding all_finite
-returns c = every-end (every finite) _ c.loop-i.i (omega (arith, c.loop-i-test.false, long (goal.at.returns c).Start)) c.loop-i.invariant.1
+returns c =
+    let a = c.args in
+    let test = λ (row : List Float). every finite (take a.d row) in
+    let all = all_from_yields_List test c.all.new.self _ c.all.result c.all.ensures.ran (YieldsList-from_slice (take a.d a.m) cc) (λ x b q k. search (rules, tests)) in
+    all ∙ all_every test (take a.d a.m) ∙ rows_finite a.d a.m

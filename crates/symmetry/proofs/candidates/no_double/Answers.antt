@@ -1,6 +1,5 @@
-use borrow.Author.Rules.{rules}
 use native.Mathlib.Omega.{arith}
-use mathlib.Core.Path.{refl}
+use mathlib.Core.Path.{refl, sym}
 use Prim.Native.Nat.{◌+◌, ◌*◌, ◌≤◌}
 use lib.ListN.{length}
 use Rattle.spec.specs.Lists.{parts}
@@ -14,16 +13,16 @@ start : (c : After-loaded-q) → let a = c.args in (c.loop-i.i + 1) * a.d ≤ le
 start c = let a = c.args in start_in_lem a.n a.d c.loop-i.i a.points.now c.loop-i-test.true c.requires.1
 
 pub loop-i-init : goal.loop-i-init
-loop-i-init c = (search rules, refl)
+loop-i-init c = refl
 
 pub loaded-q-requires : goal.loaded-q-requires
 loaded-q-requires c = let a = c.args in (c.requires.0, omega (arith, part_end a.n a.d c.loop-i.i c.loop-i-test.true, c.requires.1))
 
-pub overflow_mul-start : goal.overflow_mul-start
-overflow_mul-start c = omega (arith, start c)
+pub overflow_mul-later : goal.overflow_mul-later
+overflow_mul-later c = omega (arith, start c)
 
-pub offset_bounds-points-start : goal.offset_bounds-points-start
-offset_bounds-points-start c = omega (arith, start c)
+pub offset_bounds-points-i : goal.offset_bounds-points-i
+offset_bounds-points-i c = omega (arith, start c)
 
 pub slice_bounds-later-count : goal.slice_bounds-later-count
 slice_bounds-later-count c = omega (arith, start c)
@@ -39,21 +38,19 @@ find-requires c =
     let a = c.args in
     (c.requires.0, later_in a.n a.d c.loop-i.i a.points.now c.loop-i-test.true c.requires.1)
 
-pub returns-in-At : goal.returns-in-At
-returns-in-At c =
+pub returns-then-is_some : goal.returns-then-is_some
+returns-then-is_some c =
     let a = c.args in
     double_not a.n a.d c.loop-i.i a.points.now c.loop-i-test.true c.requires.1 c.loaded-q.result c.loaded-q.ensures c.find.result c.find.ensures
-    c.loop-i.invariant.1 c.in-At.is
+    c.loop-i.invariant (sym c.if-is_some.ensures)
 
 pub loop-i-preserved : goal.loop-i-preserved
 loop-i-preserved c =
-    let a = c.args in (
-      omega (arith, c.loop-i-test.true),
-      double_next a.n a.d c.loop-i.i a.points.now c.loop-i-test.true c.requires.1 c.loaded-q.result c.loaded-q.ensures c.find.result c.find.ensures
-          c.loop-i.invariant.1 c.in_default.is,
-    )
+    let a = c.args in
+    double_next a.n a.d c.loop-i.i a.points.now c.loop-i-test.true c.requires.1 c.loaded-q.result c.loaded-q.ensures c.find.result c.find.ensures
+    c.loop-i.invariant (sym c.if-is_some.ensures)
 
 pub returns : goal.returns
 returns c =
     let a = c.args in
-    apart-end (parts a.n a.d a.points.now) c.loop-i.i (omega (arith, c.loop-i-test.false, length-parts a.n a.d a.points.now)) c.loop-i.invariant.1
+    apart-end (parts a.n a.d a.points.now) c.loop-i.i (omega (arith, c.loop-i-test.false, length-parts a.n a.d a.points.now)) c.loop-i.invariant

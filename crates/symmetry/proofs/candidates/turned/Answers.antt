@@ -7,14 +7,14 @@ use Rattle.symmetry.proofs.candidates.turned.Goals as goal
 pub loop-r-init : goal.loop-r-init
 loop-r-init c = let a = c.args in turn_first _ _ c.requires.flag (omega (arith, c.requires.le_rank, top_is a.sh a.lists.now))
 
-pub change-next-requires : goal.change-next-requires
-change-next-requires c =
+pub change-f-requires : goal.change-f-requires
+change-f-requires c =
     let l = c.loop-r in let a = c.args in
     let inside = flag_in_lem a.sh a.lists.now c.requires.held l.f.elements l.invariant.flag in record {
       held = c.requires.held;
       r_nonzero = (omega (arith, l.invariant.low), omega (arith, l.invariant.low, c.loop-r-test.true));
-      r_bound = inside _ (omega (arith, l.invariant.low, c.loop-r-test.true));
-      r_bound_2 = inside _ (omega (arith, c.loop-r-test.true));
+      above_in_bounds = inside _ (omega (arith, l.invariant.low, c.loop-r-test.true));
+      below_in_bounds = inside _ (omega (arith, c.loop-r-test.true));
     }
 
 pub loop-r-smaller : goal.loop-r-smaller
@@ -23,7 +23,7 @@ loop-r-smaller c = omega (arith, c.loop-r-test.true)
 pub loop-r-preserved : goal.loop-r-preserved
 loop-r-preserved c =
     let l = c.loop-r in let a = c.args in
-    turn_next _ _ _ l.r l.invariant c.requires.held.sound c.requires.lists_value (omega (arith, c.loop-r-test.true, top_is a.sh a.lists.now)) _ c.change-next.ensures
+    turn_next _ _ _ l.r l.invariant c.requires.held.sound c.requires.lists_value (omega (arith, c.loop-r-test.true, top_is a.sh a.lists.now)) _ c.change-f.ensures
 
 pub returns : goal.returns
 returns c =

@@ -16,8 +16,8 @@ loop-i-init c =
     let a = c.args in
     walk_first a.sh a.lists.now a.floats.now c.requires.held c.requires.le_rank c.requires.sh_in_bounds a.flag.elements c.requires.flag (replicate max_dimension (replicate max_dimension (of_bits binary64 0))) (omega arith) c.loaded.result c.loaded.ensures
 
-pub turned-next-requires : goal.turned-next-requires
-turned-next-requires c = let l = c.loop-i in record {
+pub turned-f-requires : goal.turned-f-requires
+turned-f-requires c = let l = c.loop-i in record {
   held = c.requires.held;
   lists_value = c.requires.lists_value;
   flag = l.invariant.flag;
@@ -26,7 +26,7 @@ turned-next-requires c = let l = c.loop-i in record {
 
 pub loaded-requires-in-loop-i : goal.loaded-requires-in-loop-i
 loaded-requires-in-loop-i c =
-    let u = c.turned-next in let a = c.args in
+    let u = c.turned-f in let a = c.args in
     (c.requires.held.wide, vertex_in a.sh a.lists.now a.floats.now c.requires.held c.requires.le_rank c.requires.sh_in_bounds u.result.elements u.ensures.flag)
 
 pub bounds-rows-i : goal.bounds-rows-i
@@ -34,7 +34,7 @@ bounds-rows-i c = omega (arith, c.loop-i-test.true, c.requires.held.wide)
 
 pub loop-i-preserved : goal.loop-i-preserved
 loop-i-preserved c =
-    let u = c.turned-next in let l = c.loop-i in let a = c.args in
+    let u = c.turned-f in let l = c.loop-i in let a = c.args in
     walk-next a.sh a.lists.now a.floats.now c.requires.held c.requires.le_rank c.requires.sh_in_bounds u.result.elements u.ensures.flag _ _ _ l.rows l.i l.invariant c.loop-i-test.true (omega (arith, c.loop-i-test.true, c.requires.held.wide)) u.ensures c.loaded-in-loop-i.result c.loaded-in-loop-i.ensures
 
 pub from_columns-requires : goal.from_columns-requires

@@ -13,7 +13,7 @@ returns-then-f-eq0 c =
     let d = abs_in c.args.sh (lists_of c.args.sh c.args.words.now) in
     record {
       words_after = sym (ap (λ (f : ℕ). exchanged_in d f) c.if-f-eq0.true ∙ exchange-none d);
-      laid_2 = c.requires.laid;
+      laid_after = c.requires.laid;
       words_unchanged = refl;
     }
 
@@ -39,6 +39,6 @@ returns c =
     let k = c.derive_sups.auto.words in
     record {
       words_after = solid₂ _ c.args.words.now c.requires.laid _ c.requires.le_rank _ c.subs-i.ensures _ c.subs-j.ensures _ c.swap_lists.ensures _ k e.held e.words_after e.stored_2 e.words_unchanged e.words_unchanged_2;
-      laid_2 = laid₂ _ c.args.words.now c.requires.laid _ c.requires.le_rank _ c.subs-i.ensures _ c.subs-j.ensures _ c.swap_lists.ensures _ k e.held e.words_after e.stored_2 e.words_unchanged e.words_unchanged_2;
+      laid_after = laid₂ _ c.args.words.now c.requires.laid _ c.requires.le_rank _ c.subs-i.ensures _ c.subs-j.ensures _ c.swap_lists.ensures _ k e.held e.words_after e.stored_2 e.words_unchanged e.words_unchanged_2;
       words_unchanged = past₂ _ c.args.words.now c.requires.laid _ c.requires.le_rank _ c.subs-i.ensures _ c.subs-j.ensures _ c.swap_lists.ensures _ k e.held e.words_after e.stored_2 e.words_unchanged e.words_unchanged_2;
     }

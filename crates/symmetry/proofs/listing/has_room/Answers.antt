@@ -1,24 +1,32 @@
 -- Each of the three tests that fails makes it false.
 -- Assumes nothing.
+use mathlib.Core.Path.{refl}
+use mathlib.Core.Logic.{◌⊎◌, inl, inr}
+use Prim.Native.Nat.{ℕ, ◌≤◌, ◌<◌}
 use native.Mathlib.Nat.{mul-le-mul_left}
 use native.Mathlib.Omega.{arith}
 use borrow.Author.Rules.{rules}
 use borrow.Author.Tests.{le-leb, lt-leb}
 use Rattle.symmetry.specs.Listing.{fits}
+use Rattle.symmetry.proofs.listing.has_room.Goals.{then-d-floats, else-d-floats}
 use Rattle.symmetry.proofs.listing.has_room.Goals as goal
 
+-- Where the matrix has room, it is the row that has none.
+past : {n floats v entries : ℕ} → ((n ≤ floats) × (entries < v)) ⊎ (floats < n) → n ≤ floats → entries < v
+past (inl p) h = p.1
+past (inr p) h = absurd (omega arith)
+
 pub overflow_mul-d : goal.overflow_mul-d
-unfolding fits
 overflow_mul-d c = omega (arith, mul-le-mul_left c.args.d c.requires, c.requires)
 
-pub returns-then-floats-d : goal.returns-then-floats-d
+pub returns-then-v-entries : goal.returns-then-v-entries
 unfolding fits
-returns-then-floats-d c = rw (lt-leb _ _ c.if-floats-d.true) (search rules)
+returns-then-v-entries c = rw (le-leb _ _ c.if-v-entries.true.0, le-leb _ _ c.if-v-entries.true.1) (search rules)
 
-pub returns-then-entries-v : goal.returns-then-entries-v
+pub returns-else-v-entries : goal.returns-else-v-entries
 unfolding fits
-returns-then-entries-v c = rw (le-leb _ _ c.if-floats-d.false, lt-leb _ _ c.if-entries-v.true) (search rules)
-
-pub returns : goal.returns
-unfolding fits
-returns c = rw (le-leb _ _ c.if-floats-d.false, le-leb _ _ c.if-entries-v.false) (search rules)
+returns-else-v-entries c =
+    elim c.if-d-floats.branch [
+      | then-d-floats w ↦ rw (w.t-7-is, le-leb _ _ w.if-d-floats.true, lt-leb _ _ (past c.if-v-entries.either w.if-d-floats.true)) refl
+      | else-d-floats w ↦ rw (w.t-7-is, lt-leb _ _ w.if-d-floats.false) refl
+    ]

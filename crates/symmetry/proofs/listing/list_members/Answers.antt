@@ -1,4 +1,4 @@
-use mathlib.Core.Path.{◌≡◌, refl, sym, ap, subst, ◌∙◌}
+use mathlib.Core.Path.{◌≡◌, sym, ap, subst}
 use mathlib.Core.List.{List, ◌∷◌}
 use Prim.Native.Nat.{ℕ, ◌+◌, ◌-◌, ◌*◌, ◌≤◌, ◌<◌}
 use native.Mathlib.Nat.{mul-le-mul_left}
@@ -6,19 +6,20 @@ use native.Mathlib.Omega.{arith}
 use lib.ListN.{length}
 use lib.Ieee.{Float}
 use borrow.Author.Rules.{rules}
-use borrow.Rule.Slice.PartMut.{put_mid, same_len_mid}
+use borrow.Rule.Slice.PartMut.{put_mid}
 use Rattle.spec.specs.Limits.{max_dimension, max_count}
 use Rattle.spec.specs.Flags.{Flag, IsFlag, first_flag}
 use Rattle.points.specs.Guesses.{Guesses}
 use Rattle.ranked.specs.Words.{lists_of, abs_in}
 use Rattle.ranked.specs.Layout.{solid_in}
-use Rattle.flag.specs.Reading.{flag_in, more_of, Follows}
+use Rattle.std.specs.Option.{option_map}
+use Rattle.flag.specs.Reading.{flag_in, Follows}
 use Rattle.flag.proofs.Numbered.{nth_first, nth_flag}
 use Rattle.symmetry.specs.declared.listing.Tried.TheVariants.{Skipped, Added}
 use Rattle.symmetry.proofs.Bounds.{vertices_few, coordinates_in, points-read}
 use Rattle.symmetry.proofs.Members.{Tally, tally_first, tally_end, inside, tally_skipped, tally_added, tally_short}
 use Rattle.symmetry.proofs.Turning.{flags-first, flags-end, later, flags-at, flags-next, fewer}
-use Rattle.symmetry.proofs.listing.list_members.Goals.{After-first-first, After-next-next, After-try_flag-tried, After-vertices-v, At-loop-n, Joined-tried, Start, in-Skipped, in-Added}
+use Rattle.symmetry.proofs.listing.list_members.Goals.{After-first-first, After-next, After-try_flag-tried, After-vertices-v, At-loop-n, Joined-tried, Start, in-Skipped, in-Added}
 use Rattle.symmetry.proofs.listing.list_members.Goals as goal
 
 -- The first flag is that of the solid.
@@ -47,11 +48,11 @@ flag l = flag_in l.args.sh.rank l.loop-n.flag
 
 abbrev rest : At-loop-n → List Flag
 rest l =
-    later l.args.sh (lists_of l.args.sh l.args.words.now) l.requires.bench.held (Tallied l) (flag l) l.loop-n.invariant.2
+    later l.args.sh (lists_of l.args.sh l.args.words.now) l.requires.bench.held (Tallied l) (flag l) l.loop-n.invariant
 
 tallied : (l : At-loop-n) → Tallied l (flag l ∷ rest l)
 tallied l =
-    flags-at l.args.sh (lists_of l.args.sh l.args.words.now) l.requires.bench.held (Tallied l) (flag l) l.loop-n.invariant.2
+    flags-at l.args.sh (lists_of l.args.sh l.args.words.now) l.requires.bench.held (Tallied l) (flag l) l.loop-n.invariant
 
 -- The parts after the members start within the outputs, whose lengths fit a word.
 within : (l : At-loop-n) → let a = l.args in
@@ -66,7 +67,7 @@ short s = (omega arith, omega arith)
 -- The flag is a flag of the solid.
 is-flag : (l : At-loop-n) → let a = l.args in IsFlag (abs_in a.sh (lists_of a.sh a.words.now)) (flag l)
 is-flag l =
-    nth_flag l.args.sh (lists_of l.args.sh l.args.words.now) l.requires.bench.held (flag l) l.loop-n.invariant.2.from l.loop-n.invariant.2.flag
+    nth_flag l.args.sh (lists_of l.args.sh l.args.words.now) l.requires.bench.held (flag l) l.loop-n.invariant.from l.loop-n.invariant.flag
 
 -- These are the outputs after the flag is tried.
 abbrev matrices : After-try_flag-tried → List Float
@@ -78,16 +79,6 @@ abbrev rows : After-try_flag-tried → List ℕ
 rows t =
     let k = t.loop-n.n * t.vertices-v.result in
     put_mid k (length t.loop-n.rows - k) t.loop-n.rows t.try_flag-tried.new.rows
-
-many : (t : After-try_flag-tried) → length (matrices t) ≡ length t.args.matrices.now
-many t =
-    let k = t.loop-n.n * (t.args.sh.dimension * t.args.sh.dimension) in
-    same_len_mid k (length t.loop-n.matrices - k) t.loop-n.matrices t.try_flag-tried.new.matrices t.try_flag-tried.auto.matrices ∙ t.loop-n.invariant.0
-
-long : (t : After-try_flag-tried) → length (rows t) ≡ length t.args.rows.now
-long t =
-    let k = t.loop-n.n * t.vertices-v.result in
-    same_len_mid k (length t.loop-n.rows - k) t.loop-n.rows t.try_flag-tried.new.rows t.try_flag-tried.auto.rows ∙ t.loop-n.invariant.1
 
 -- This is what is tallied then, with n members.
 abbrev TalliedAfter : After-try_flag-tried → ℕ → List Flag → Type 0
@@ -103,11 +94,11 @@ Present t =
 
 abbrev remaining : After-try_flag-tried → List Flag
 remaining t =
-    later t.args.sh (lists_of t.args.sh t.args.words.now) t.requires.bench.held (Present t) (flag_in t.args.sh.rank t.loop-n.flag) t.loop-n.invariant.2
+    later t.args.sh (lists_of t.args.sh t.args.words.now) t.requires.bench.held (Present t) (flag_in t.args.sh.rank t.loop-n.flag) t.loop-n.invariant
 
 present : (t : After-try_flag-tried) → Present t (flag_in t.args.sh.rank t.loop-n.flag ∷ remaining t)
 present t =
-    flags-at t.args.sh (lists_of t.args.sh t.args.words.now) t.requires.bench.held (Present t) (flag_in t.args.sh.rank t.loop-n.flag) t.loop-n.invariant.2
+    flags-at t.args.sh (lists_of t.args.sh t.args.words.now) t.requires.bench.held (Present t) (flag_in t.args.sh.rank t.loop-n.flag) t.loop-n.invariant
 
 high : (t : After-try_flag-tried) → t.args.sh.dimension ≤ length t.args.inverse
 high t = let k : length t.args.inverse ≡ max_dimension = search rules in omega (arith, k, t.requires.bench.held.wide)
@@ -125,9 +116,9 @@ added t r =
     t.try_flag-tried.result t.try_flag-tried.new.matrices t.try_flag-tried.new.rows t.try_flag-tried.ensures r
 
 -- The flag that is asked for follows the present one in the solid.
-next_is : (x : After-next-next) → let a = x.args in
-    Follows (abs_in a.sh (lists_of a.sh a.words.now)) (flag_in x.args.sh.rank x.loop-n.flag) (more_of x.next-next.result.advance) (flag_in a.sh.rank x.next-next.result.flag)
-next_is x = rw x.lists-in-loop-n.ensures at x.next-next.ensures
+next_is : (x : After-next) → let a = x.args in
+    Follows (abs_in a.sh (lists_of a.sh a.words.now)) (flag_in a.sh.rank x.loop-n.flag) (option_map (flag_in a.sh.rank) x.next.result)
+next_is x = rw x.lists-in-loop-n.ensures at x.next.ensures
 
 -- Where the flag after it is asked for, the flags after it are to come.
 follows : (m : Joined-tried) → let t = (goal.at.lists-requires-in-loop-n m).After-try_flag-tried in TalliedAfter t m.match-tried.n (remaining t)
@@ -149,13 +140,10 @@ places-places-requires c = points-requires c
 
 pub loop-n-init : goal.loop-n-init
 loop-n-init c =
-    let a = c.args in (
-      refl,
-      refl,
-      flags-first (abs_in a.sh (lists_of a.sh a.words.now)) _ (flag_in a.sh.rank c.first-first.result)
-          (nth_first a.sh (lists_of a.sh a.words.now) c.requires.bench.held _ (first_is (goal.at.loop-n-init c).After-first-first))
-          (tally_first a.sh a.words.now a.floats.now a.inverse (tall (goal.at.loop-n-init c).Start) a.rotations a.room c.vertices-v.result c.vertices-v.ensures a.matrices.now a.rows.now),
-    )
+    let a = c.args in
+    flags-first (abs_in a.sh (lists_of a.sh a.words.now)) _ (flag_in a.sh.rank c.first-first.result)
+    (nth_first a.sh (lists_of a.sh a.words.now) c.requires.bench.held _ (first_is (goal.at.loop-n-init c).After-first-first))
+    (tally_first a.sh a.words.now a.floats.now a.inverse (tall (goal.at.loop-n-init c).Start) a.rotations a.room c.vertices-v.result c.vertices-v.ensures a.matrices.now a.rows.now)
 
 pub overflow_sub-trial : goal.overflow_sub-trial
 overflow_sub-trial c = (within c).2
@@ -164,10 +152,10 @@ pub overflow_mul-d : goal.overflow_mul-d
 overflow_mul-d c = omega (arith, mul-le-mul_left c.args.sh.dimension c.requires.bench.held.wide, c.requires.bench.held.wide)
 
 pub overflow_mul-n : goal.overflow_mul-n
-overflow_mul-n c = omega (arith, (within (goal.at.overflow_mul-n c).At-loop-n).0, c.loop-n.invariant.0, (short (goal.at.overflow_mul-n c).Start).0)
+overflow_mul-n c = omega (arith, (within (goal.at.overflow_mul-n c).At-loop-n).0, c.loop-n.auto.matrices, (short (goal.at.overflow_mul-n c).Start).0)
 
 pub offset_bounds-matrices-n : goal.offset_bounds-matrices-n
-offset_bounds-matrices-n c = omega (arith, (within (goal.at.offset_bounds-matrices-n c).At-loop-n).0, c.loop-n.invariant.0, (short (goal.at.offset_bounds-matrices-n c).Start).0)
+offset_bounds-matrices-n c = omega (arith, (within (goal.at.offset_bounds-matrices-n c).At-loop-n).0, c.loop-n.auto.matrices, (short (goal.at.offset_bounds-matrices-n c).Start).0)
 
 pub slice_bounds-try_flag-count : goal.slice_bounds-try_flag-count
 slice_bounds-try_flag-count c = (within (goal.at.slice_bounds-try_flag-count c).At-loop-n).0
@@ -176,10 +164,10 @@ pub slice_bounds-try_flag-start : goal.slice_bounds-try_flag-start
 slice_bounds-try_flag-start c = omega (arith, (within (goal.at.slice_bounds-try_flag-start c).At-loop-n).0)
 
 pub overflow_mul-n-in-loop-n : goal.overflow_mul-n-in-loop-n
-overflow_mul-n-in-loop-n c = omega (arith, (within (goal.at.overflow_mul-n-in-loop-n c).At-loop-n).1, c.loop-n.invariant.1, (short (goal.at.overflow_mul-n-in-loop-n c).Start).1)
+overflow_mul-n-in-loop-n c = omega (arith, (within (goal.at.overflow_mul-n-in-loop-n c).At-loop-n).1, c.loop-n.auto.rows, (short (goal.at.overflow_mul-n-in-loop-n c).Start).1)
 
 pub offset_bounds-rows-n : goal.offset_bounds-rows-n
-offset_bounds-rows-n c = omega (arith, (within (goal.at.offset_bounds-rows-n c).At-loop-n).1, c.loop-n.invariant.1, (short (goal.at.offset_bounds-rows-n c).Start).1)
+offset_bounds-rows-n c = omega (arith, (within (goal.at.offset_bounds-rows-n c).At-loop-n).1, c.loop-n.auto.rows, (short (goal.at.offset_bounds-rows-n c).Start).1)
 
 pub slice_bounds-try_flag-count-in-loop-n : goal.slice_bounds-try_flag-count-in-loop-n
 slice_bounds-try_flag-count-in-loop-n c = (within (goal.at.slice_bounds-try_flag-count-in-loop-n c).At-loop-n).1
@@ -201,55 +189,36 @@ overflow_add-n c =
     let g = added (goal.at.overflow_add-n c).After-try_flag-tried c.in-Added.is (solid_in c.args.sh c.args.words.now c.args.floats.now) in
     omega (arith, g.room.marks)
 
-pub shape_of-matrices-in-Short : goal.shape_of-matrices-in-Short
-shape_of-matrices-in-Short c = many (goal.at.shape_of-matrices-in-Short c).After-try_flag-tried
-
-pub shape_of-rows-in-Short : goal.shape_of-rows-in-Short
-shape_of-rows-in-Short c = long (goal.at.shape_of-rows-in-Short c).After-try_flag-tried
-
 pub returns-in-Short : goal.returns-in-Short
 returns-in-Short r x =
     let a = r.args in
-    rw r.of.ensures
-    (tally_short a.sh a.words.now a.floats.now a.inverse (tall (goal.at.returns-in-Short r).Start) a.rotations a.room r.vertices-v.result r.vertices-v.ensures a.matrices.now a.rows.now r.loop-n.matrices r.loop-n.rows r.loop-n.n (flag (goal.at.returns-in-Short r).At-loop-n) (rest (goal.at.returns-in-Short r).At-loop-n) (tallied (goal.at.returns-in-Short r).At-loop-n)
-    r.try_flag-tried.result r.try_flag-tried.new.matrices r.try_flag-tried.new.rows r.try_flag-tried.ensures r.in-Short.is x)
+    tally_short a.sh a.words.now a.floats.now a.inverse (tall (goal.at.returns-in-Short r).Start) a.rotations a.room r.vertices-v.result r.vertices-v.ensures a.matrices.now a.rows.now r.loop-n.matrices r.loop-n.rows r.loop-n.n (flag (goal.at.returns-in-Short r).At-loop-n) (rest (goal.at.returns-in-Short r).At-loop-n) (tallied (goal.at.returns-in-Short r).At-loop-n)
+    r.try_flag-tried.result r.try_flag-tried.new.matrices r.try_flag-tried.new.rows r.try_flag-tried.ensures r.in-Short.is x
 
 pub lists-requires-in-loop-n : goal.lists-requires-in-loop-n
 lists-requires-in-loop-n c = c.requires.bench.words_in
 
-pub next-next-requires : goal.next-next-requires
-next-next-requires c =
+pub next-requires : goal.next-requires
+next-requires c =
     rw c.lists-in-loop-n.ensures (record {
       held = c.requires.bench.held;
-      flag = is-flag (goal.at.next-next-requires c).At-loop-n;
+      flag = is-flag (goal.at.next-requires c).At-loop-n;
     })
 
 pub loop-n-smaller : goal.loop-n-smaller
-unfolding more_of
 loop-n-smaller c =
-    fewer c.args.sh (lists_of c.args.sh c.args.words.now) c.requires.bench.held (Tallied (goal.at.loop-n-smaller c).At-loop-n) (flag (goal.at.loop-n-smaller c).At-loop-n) c.loop-n.invariant.2
-    (more_of c.next-next.result.advance) (flag_in c.args.sh.rank c.next-next.result.flag) (next_is (goal.at.loop-n-smaller c).After-next-next) (ap more_of c.in-More.is)
+    fewer c.args.sh (lists_of c.args.sh c.args.words.now) c.requires.bench.held (Tallied (goal.at.loop-n-smaller c).At-loop-n) (flag (goal.at.loop-n-smaller c).At-loop-n) c.loop-n.invariant
+    _ (next_is (goal.at.loop-n-smaller c).After-next) (flag_in c.args.sh.rank c.in-Some.next) (ap (option_map (flag_in c.args.sh.rank)) c.in-Some.is)
 
 pub loop-n-preserved : goal.loop-n-preserved
-unfolding more_of
-loop-n-preserved c = (
-  many (goal.at.loop-n-preserved c).After-try_flag-tried,
-  long (goal.at.loop-n-preserved c).After-try_flag-tried,
-  flags-next c.args.sh (lists_of c.args.sh c.args.words.now) c.requires.bench.held (Tallied (goal.at.loop-n-preserved c).At-loop-n) (flag (goal.at.loop-n-preserved c).At-loop-n) c.loop-n.invariant.2
-      (more_of c.next-next.result.advance) (flag_in c.args.sh.rank c.next-next.result.flag) (next_is (goal.at.loop-n-preserved c).After-next-next) (ap more_of c.in-More.is) (TalliedAfter (goal.at.loop-n-preserved c).After-try_flag-tried c.match-tried.n) (follows (goal.at.loop-n-preserved c).Joined-tried),
-)
+loop-n-preserved c =
+    flags-next c.args.sh (lists_of c.args.sh c.args.words.now) c.requires.bench.held (Tallied (goal.at.loop-n-preserved c).At-loop-n) (flag (goal.at.loop-n-preserved c).At-loop-n) c.loop-n.invariant
+    _ (next_is (goal.at.loop-n-preserved c).After-next) (flag_in c.args.sh.rank c.in-Some.next) (ap (option_map (flag_in c.args.sh.rank)) c.in-Some.is)
+    (TalliedAfter (goal.at.loop-n-preserved c).After-try_flag-tried c.match-tried.n) (follows (goal.at.loop-n-preserved c).Joined-tried)
 
-pub shape_of-matrices-in-Ended : goal.shape_of-matrices-in-Ended
-shape_of-matrices-in-Ended c = many (goal.at.shape_of-matrices-in-Ended c).After-try_flag-tried
-
-pub shape_of-rows-in-Ended : goal.shape_of-rows-in-Ended
-shape_of-rows-in-Ended c = long (goal.at.shape_of-rows-in-Ended c).After-try_flag-tried
-
-pub returns-in-Ended : goal.returns-in-Ended
-unfolding more_of
-returns-in-Ended r y =
+pub returns-in_default : goal.returns-in_default
+returns-in_default r y =
     let a = r.args in
-    rw r.of-in-Ended.ensures
-    (tally_end a.sh a.words.now a.floats.now a.inverse (tall (goal.at.returns-in-Ended r).Start) a.rotations a.room r.vertices-v.result r.vertices-v.ensures a.matrices.now a.rows.now (matrices (goal.at.returns-in-Ended r).After-try_flag-tried) (rows (goal.at.returns-in-Ended r).After-try_flag-tried) r.match-tried.n
-    (flags-end a.sh (lists_of a.sh a.words.now) r.requires.bench.held (Tallied (goal.at.returns-in-Ended r).At-loop-n) (flag (goal.at.returns-in-Ended r).At-loop-n) r.loop-n.invariant.2
-    (more_of r.next-next.result.advance) (flag_in a.sh.rank r.next-next.result.flag) (next_is (goal.at.returns-in-Ended r).After-next-next) (ap more_of r.in-Ended.is) (TalliedAfter (goal.at.returns-in-Ended r).After-try_flag-tried r.match-tried.n) (follows (goal.at.returns-in-Ended r).Joined-tried)) y)
+    tally_end a.sh a.words.now a.floats.now a.inverse (tall (goal.at.returns-in_default r).Start) a.rotations a.room r.vertices-v.result r.vertices-v.ensures a.matrices.now a.rows.now (matrices (goal.at.returns-in_default r).After-try_flag-tried) (rows (goal.at.returns-in_default r).After-try_flag-tried) r.match-tried.n
+    (flags-end a.sh (lists_of a.sh a.words.now) r.requires.bench.held (Tallied (goal.at.returns-in_default r).At-loop-n) (flag (goal.at.returns-in_default r).At-loop-n) r.loop-n.invariant
+    _ (next_is (goal.at.returns-in_default r).After-next) (ap (option_map (flag_in a.sh.rank)) r.in_default.is) (TalliedAfter (goal.at.returns-in_default r).After-try_flag-tried r.match-tried.n) (follows (goal.at.returns-in_default r).Joined-tried)) y

@@ -1,6 +1,6 @@
 -- The row is found first, and then the examples go under it.
 -- Assumes nothing.
-use mathlib.Core.Path.{subst}
+use mathlib.Core.Path.{subst, sym, ◌∙◌}
 use mathlib.Core.Bool.{false≢true}
 use native.Mathlib.Omega.{arith}
 use Rattle.matrix.specs.Reading.{corner}
@@ -19,13 +19,13 @@ row_of-requires c =
       guesses = subst (λ ps. Guesses ps a.places.now) (points-read a.sh a.words.now a.floats.now v.result v.ensures) c.requires.guesses;
     }
 
-pub returns-then-not-row_of : goal.returns-then-not-row_of
-returns-then-not-row_of c =
+pub returns-else-row_of : goal.returns-else-row_of
+returns-else-row_of c =
     let v = c.vertices-v in
     let a = c.args in record {
-      value = passes_not c.requires.searching (state_in a.sh a.words.now) (corner a.sh.dimension a.m) v.result v.ensures a.row.now
-          c.row_of.new.row c.row_of.result c.row_of.ensures c.if-not-row_of.true;
-      row_after = λ e. absurd (false≢true e);
+      value = c.if-row_of.false ∙ passes_not c.requires.searching (state_in a.sh a.words.now) (corner a.sh.dimension a.m) v.result v.ensures a.row.now
+          c.row_of.new.row c.row_of.result c.row_of.ensures c.if-row_of.false;
+      row_after = λ e. absurd (false≢true (sym c.if-row_of.false ∙ e));
     }
 
 pub examples_go-requires : goal.examples_go-requires
@@ -36,11 +36,11 @@ examples_go-requires c =
       words_in_bounds = omega (arith, c.row_of.auto.row, vertices_are h, c.requires.sh_in_bounds);
     }
 
-pub returns : goal.returns
-returns c =
+pub returns-then-row_of : goal.returns-then-row_of
+returns-then-row_of c =
     let v = c.vertices-v in
     let a = c.args in
-    let found = c.if-not-row_of.false in record {
+    let found = c.if-row_of.true in record {
       value = passes_is c.requires.searching (state_in a.sh a.words.now) (corner a.sh.dimension a.m) v.result v.ensures a.row.now
           c.row_of.new.row c.row_of.result c.row_of.ensures found c.examples_go.result c.examples_go.ensures;
       row_after = λ e. row_is c.requires.searching (state_in a.sh a.words.now) (corner a.sh.dimension a.m) v.result v.ensures a.row.now

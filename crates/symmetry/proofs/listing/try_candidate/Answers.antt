@@ -22,8 +22,8 @@ use Rattle.symmetry.specs.Listing.{fits}
 use Rattle.symmetry.specs.Searching.{passing}
 use Rattle.symmetry.proofs.Bounds.{vertices_few}
 use Rattle.symmetry.proofs.Trying.{fits_means, candidate_not, candidate-turned, candidate_short, candidate_added}
-use Rattle.symmetry.proofs.listing.try_candidate.Goals.{After-has_room, Else-not-has_room, Else-not-passes, Joined-trial, Start}
-use Rattle.symmetry.proofs.listing.try_candidate.Goals.{then-trial+else-not-determinant, else-trial}
+use Rattle.symmetry.proofs.listing.try_candidate.Goals.{After-has_room, Else-not-has_room, Else-not-passes, Start}
+use Rattle.symmetry.proofs.listing.try_candidate.Goals.{else-trial-via-then-trial+else-not-determinant, else-trial-via-else-trial}
 use Rattle.symmetry.proofs.listing.try_candidate.Goals as goal
 
 -- These are the shape, the solid, the types and the candidate.
@@ -40,12 +40,12 @@ abbrev matrix : Start → Matrix
 matrix s = corner (shape s).dimension s.args.m
 
 -- The candidate is wanted.
-wanted : (j : Joined-trial) → (j.args.trial.rotations ≡ false) ⊎ (lt zero_f (determinant (corner (j.args.trial.shape).dimension j.args.m)) ≡ true)
+wanted : (j : Else-not-passes) → (j.args.trial.rotations ≡ false) ⊎ (lt zero_f (determinant (corner (j.args.trial.shape).dimension j.args.m)) ≡ true)
 unfolding zero_f
 wanted j =
-    elim j.if-trial.branch [
-      | then-trial+else-not-determinant w ↦ inr (ap (lt zero_f) (sym w.determinant.ensures) ∙ w.if-not-determinant.false)
-      | else-trial w ↦ inl w.if-trial.false
+    elim j.else-trial.branch [
+      | else-trial-via-then-trial+else-not-determinant w ↦ inr (ap (lt zero_f) (sym w.determinant.ensures) ∙ w.if-not-determinant.false)
+      | else-trial-via-else-trial w ↦ inl w.if-trial.false
     ]
 
 -- The candidate passes.
@@ -88,7 +88,7 @@ pub returns-then-not-has_room : goal.returns-then-not-has_room
 returns-then-not-has_room c x i =
     let a = c.args in
     candidate_short (solid (goal.at.returns-then-not-has_room c).Start) (types (goal.at.returns-then-not-has_room c).Start) (matrix (goal.at.returns-then-not-has_room c).Start) a.trial.rotations (shape (goal.at.returns-then-not-has_room c).Start).dimension (size_at (shape (goal.at.returns-then-not-has_room c).Start) 1) a.trial.left a.matrices.now a.rows.now x i
-    (passed (goal.at.returns-then-not-has_room c).Else-not-passes) (wanted (goal.at.returns-then-not-has_room c).Joined-trial) (sym (room (goal.at.returns-then-not-has_room c).After-has_room) ∙ c.if-not-has_room.true)
+    (passed (goal.at.returns-then-not-has_room c).Else-not-passes) (wanted (goal.at.returns-then-not-has_room c).Else-not-passes) (sym (room (goal.at.returns-then-not-has_room c).After-has_room) ∙ c.if-not-has_room.true)
 
 pub put_matrix-requires : goal.put_matrix-requires
 put_matrix-requires c =
@@ -105,5 +105,5 @@ returns c x i =
     let row = c.passes.new.row in
     let w : take c.vertices-v.result row ≡ row_of (solid (goal.at.returns c).Start).points (matrix (goal.at.returns c).Start) = ap (λ n. take n row) c.vertices-v.ensures ∙ c.passes.ensures.row_after c.if-not-passes.false in
     candidate_added (solid (goal.at.returns c).Start) (types (goal.at.returns c).Start) (matrix (goal.at.returns c).Start) a.trial.rotations (shape (goal.at.returns c).Start).dimension (size_at (shape (goal.at.returns c).Start) 1) a.trial.left a.matrices.now a.rows.now x i
-    (passed (goal.at.returns c).Else-not-passes) (wanted (goal.at.returns c).Joined-trial) (roomy (goal.at.returns c).Else-not-has_room) c.put_matrix.new.out c.put_entries.new.out
+    (passed (goal.at.returns c).Else-not-passes) (wanted (goal.at.returns c).Else-not-passes) (roomy (goal.at.returns c).Else-not-has_room) c.put_matrix.new.out c.put_entries.new.out
     c.put_matrix.ensures (c.put_entries.ensures ∙ ap (λ l. written l a.rows.now) w)

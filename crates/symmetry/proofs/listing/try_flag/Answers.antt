@@ -30,7 +30,7 @@ abbrev first : Start → Flag
 first s = flag_in (shape s).rank s.args.trial.first
 
 abbrev inverse : Start → Matrix
-inverse s = corner (shape s).dimension s.args.inverse
+inverse s = corner (shape s).dimension s.args.trial.inverse
 
 pub same_types-requires : goal.same_types-requires
 same_types-requires c =
@@ -38,7 +38,7 @@ same_types-requires c =
       held = c.requires.searching.bench.held;
       sh_in_bounds = c.requires.searching.counted.room;
       flag = c.requires.flag;
-      flag_2 = first_is c.requires.searching c.requires.first_value;
+      first_flag = first_is c.requires.searching c.requires.first_value;
     }
 
 pub returns-then-not-same_types : goal.returns-then-not-same_types

@@ -1,21 +1,20 @@
-use mathlib.Core.Path.{◌≡◌, refl}
+use mathlib.Core.Path.{refl}
+use Prim.Native.Nat.{◌<◌}
 use native.Mathlib.Omega.{arith}
-use borrow.Author.Rules.{rules}
+use lib.Seq.{length-take-le}
+use Rattle.std.proofs.lemmas.List.{get_or-take}
 use Rattle.spec.specs.Lists.{sum}
 use Rattle.text.proofs.Counted.{sum-next}
 use Rattle.text.proofs.counting.confirmed.Goals as goal
 
-pub loop-i-init : goal.loop-i-init
+pub loop-mark-init : goal.loop-mark-init
 unfolding sum
-loop-i-init c = (search rules, search rules, refl)
+loop-mark-init c = (omega arith, refl)
 
-pub loop-i-preserved : goal.loop-i-preserved
-loop-i-preserved c =
-    let l = c.loop-i in
-    (search rules, search rules, omega (arith, sum-next c.args.marks.now l.i (omega arith), l.invariant.2))
-
-pub returns : goal.returns
-returns c =
-    let l = c.loop-i in
-    let e : l.i ≡ c.args.n = omega arith in
-    rw e at l.invariant.2
+pub loop-mark-preserved : goal.loop-mark-preserved
+loop-mark-preserved c =
+    let l = c.loop-mark in
+    let e = length-take-le c.args.n c.args.marks.now c.requires.0 in
+    let h : l.mark-index < c.args.n = omega (arith, e) in
+    let r = get_or-take c.args.n c.args.marks.now l.mark-index 0 h in
+    (omega (arith, r, c.type_inv.marks l.mark-index), omega (arith, r, sum-next c.args.marks.now l.mark-index (omega arith), l.invariant.1))

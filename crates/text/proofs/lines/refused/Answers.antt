@@ -9,14 +9,14 @@ use Rattle.text.proofs.lines.refused.Goals as goal
 pub put_labelled-end-requires : goal.put_labelled-end-requires
 unfolding ascii
 put_labelled-end-requires c =
-    (refused_rooms c.args.why c.number-n.result c.number-n.ensures c.args.from _ c.requires).0
+    (refused_rooms c.args.why c.number.result c.number.ensures c.args.from _ c.requires).0
 
 pub put_bytes-requires : goal.put_bytes-requires
 unfolding ascii
 put_bytes-requires c =
-    room-then c.put_labelled-end.ensures _ (refused_rooms c.args.why c.number-n.result c.number-n.ensures c.args.from _ c.requires).1
+    room-then c.put_labelled-end.ensures _ (refused_rooms c.args.why c.number.result c.number.ensures c.args.from _ c.requires).1
 
 pub returns : goal.returns
 unfolding ascii
 returns c =
-    puts_is (puts_then c.put_labelled-end.ensures c.put_bytes.ensures) (sym (refused_pieces c.args.why c.number-n.result c.number-n.ensures))
+    puts_is (puts_then c.put_labelled-end.ensures c.put_bytes.ensures) (sym (refused_pieces c.args.why c.number.result c.number.ensures))

@@ -8,15 +8,15 @@ use Rattle.spec.specs.KitText.{type_line}
 use Rattle.text.specs.Cells.{lines_to}
 use Rattle.text.proofs.Growing.{puts_none, puts_then, puts_is, puts_long, room-then}
 use Rattle.text.proofs.Tables.{type_of, lines_none, lines_next, lines_room, type_read}
-use Rattle.text.proofs.lines.type_lines.Goals.{After-cell-count}
+use Rattle.text.proofs.lines.type_lines.Goals.{After-from-count}
 use Rattle.text.proofs.lines.type_lines.Goals as goal
 
 -- The line of type i is made from the cells that were read.
-read : (c : After-cell-count)
+read : (c : After-from-count)
     → type_line (type_of (drop (4 * c.loop-i.i) c.args.table.now))
-    ≡ type_line (record { rank = c.cell-rank.result; number = c.cell-number.result; example = c.cell-example.result; count = c.cell-count.result })
+    ≡ type_line (record { rank = c.from-rank.result; number = c.from-number.result; example = c.from-example.result; count = c.from-count.result })
 read c =
-    type_read c.args.table.now (4 * c.loop-i.i) _ _ _ _ c.cell-rank.ensures c.cell-number.ensures c.cell-example.ensures c.cell-count.ensures
+    type_read c.args.table.now (4 * c.loop-i.i) _ _ _ _ c.from-rank.ensures c.from-number.ensures c.from-example.ensures c.from-count.ensures
 
 pub loop-i-init : goal.loop-i-init
 loop-i-init c =
@@ -25,7 +25,7 @@ loop-i-init c =
 pub element_type-end-requires : goal.element_type-end-requires
 element_type-end-requires c =
     room-then c.loop-i.invariant.2 _
-    (rw (read (goal.at.element_type-end-requires c).After-cell-count) at (lines_room c.args.table.now c.loop-i.i c.args.n c.args.from _ c.loop-i-test.true c.requires.0 c.requires.1))
+    (rw (read (goal.at.element_type-end-requires c).After-from-count) at (lines_room c.args.table.now c.loop-i.i c.args.n c.args.from _ c.loop-i-test.true c.requires.0 c.requires.1))
 
 pub loop-i-preserved : goal.loop-i-preserved
 loop-i-preserved c =
@@ -33,10 +33,5 @@ loop-i-preserved c =
       search rules,
       puts_long c.element_type-end.ensures ∙ c.loop-i.invariant.1,
       puts_is (puts_then c.loop-i.invariant.2 c.element_type-end.ensures)
-          (ap (λ (y : List ℕ). lines_to t c.loop-i.i ++ y) (sym (read (goal.at.loop-i-preserved c).After-cell-count)) ∙ sym (lines_next t c.loop-i.i (omega arith))),
+          (ap (λ (y : List ℕ). lines_to t c.loop-i.i ++ y) (sym (read (goal.at.loop-i-preserved c).After-from-count)) ∙ sym (lines_next t c.loop-i.i (omega arith))),
     )
-
-pub returns : goal.returns
-returns c =
-    let e : c.loop-i.i ≡ c.args.n = omega arith in
-    puts_is c.loop-i.invariant.2 (ap (lines_to c.args.table.now) e)

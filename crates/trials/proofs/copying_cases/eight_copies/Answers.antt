@@ -12,6 +12,6 @@ unfolding zero_f one_f of_bits
 returns c =
     let e = c.copies_of.ensures in
     record {
-      cells_after = e;
+      as_defined = e;
       value = ap (λ x. x.0) e ∙ call_zeros 3 8 _ _ _ _ c.requires.0 c.requires.1 ∙ trials.eight_copies;
     }

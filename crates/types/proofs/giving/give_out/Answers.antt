@@ -25,13 +25,13 @@ room c =
     (omega (arith, c.if-of-proper.false, c.proper.ensures), omega (arith, c.if-table-n.false, c.type_count-n.ensures))
 
 pub returns-then-of-proper : goal.returns-then-of-proper
-returns-then-of-proper c = short_elements _ _ c.requires (old (goal.at.returns-then-of-proper c).Start) (omega (arith, c.if-of-proper.true, c.proper.ensures))
+returns-then-of-proper c = rw c.into.ensures (short_elements _ _ c.requires (old (goal.at.returns-then-of-proper c).Start) (omega (arith, c.if-of-proper.true, c.proper.ensures)))
 
 pub overflow_mul-n : goal.overflow_mul-n
 overflow_mul-n c = omega (arith, c.type_count-n.ensures, types_few _ _ c.requires (old (goal.at.overflow_mul-n c).Start))
 
 pub returns-then-table-n : goal.returns-then-table-n
-returns-then-table-n c = short_types _ _ c.requires (old (goal.at.returns-then-table-n c).Start) (omega (arith, c.if-of-proper.false, c.proper.ensures)) (omega (arith, c.if-table-n.true, c.type_count-n.ensures))
+returns-then-table-n c = rw c.into-then-table-n.ensures (short_types _ _ c.requires (old (goal.at.returns-then-table-n c).Start) (omega (arith, c.if-of-proper.false, c.proper.ensures)) (omega (arith, c.if-table-n.true, c.type_count-n.ensures)))
 
 pub write_types-requires : goal.write_types-requires
 write_types-requires c = record {

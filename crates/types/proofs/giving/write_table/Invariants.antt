@@ -1,11 +1,7 @@
 -- The types of the ranks below r stand in their cells.
 -- Assumes nothing.
-use Prim.Native.Nat.{◌-◌}
 use Rattle.types.proofs.Ranks.{RanksTabled}
 use Rattle.types.proofs.giving.write_table.Given as goal
 
 abbrev pub invariant-loop-r : goal.invariant-loop-r
 invariant-loop-r l = RanksTabled l.sh l.words l.initial.table l.table l.m l.r
-
-abbrev pub decreases-loop-r : goal.decreases-loop-r
-decreases-loop-r l = l.rank - l.r

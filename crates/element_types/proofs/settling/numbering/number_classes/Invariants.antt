@@ -1,11 +1,7 @@
 -- The elements are numbered one after another, as `ClassesScan` says.
 -- Assumes nothing.
-use Prim.Native.Nat.{◌-◌}
 use Rattle.element_types.proofs.settling.Scanned.{ClassesScan}
 use Rattle.element_types.proofs.settling.numbering.number_classes.Given as goal
 
 abbrev pub invariant-loop-e : goal.invariant-loop-e
 invariant-loop-e l = ClassesScan l.initial.words l.words l.to l.reps l.n l.cells l.from l.m l.e
-
-abbrev pub decreases-loop-e : goal.decreases-loop-e
-decreases-loop-e l = l.n - l.e

@@ -1,11 +1,7 @@
 -- The ranks are started one after another, as `TypesBegun` says.
 -- Assumes nothing.
-use Prim.Native.Nat.{◌-◌}
 use Rattle.element_types.proofs.settling.Begun.{TypesBegun}
 use Rattle.element_types.proofs.settling.starting.start.Given as goal
 
 abbrev pub invariant-loop-r : goal.invariant-loop-r
 invariant-loop-r l = TypesBegun l.sh l.initial.words l.words l.cells l.r
-
-abbrev pub decreases-loop-r : goal.decreases-loop-r
-decreases-loop-r l = l.sh.rank - l.r

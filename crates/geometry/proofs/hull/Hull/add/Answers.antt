@@ -10,9 +10,9 @@ use Rattle.spec.specs.Limits.{max_dimension}
 use Rattle.spec.specs.Float.{eps, norm, over}
 use Rattle.spec.specs.Matrix.{Vector}
 use Rattle.spec.specs.Hull.{Hull, rest}
-use Rattle.geometry.specs.Reading.{hull_in, joined_of}
+use Rattle.geometry.specs.Reading.{hull_in}
 use Rattle.geometry.proofs.Hulls.{one_more, joins-far, joins-near, add-far, add-near}
-use Rattle.geometry.proofs.hull.Hull.add.Goals.{After-norm-length, After-with_vector-basis, Start}
+use Rattle.geometry.proofs.hull.Hull.add.Goals.{After-norm-length, After-with_vector-self, Start}
 use Rattle.geometry.proofs.hull.Hull.add.Goals as goal
 
 -- The test is about the length of what is left of p.
@@ -24,11 +24,11 @@ length-is c = c.norm-length.ensures ∙ ap norm c.rest-v.ensures
 long : (c : Start) → length c.args.self.basis ≡ max_dimension * max_dimension
 long c = search rules
 
-long_after : (c : After-with_vector-basis) → length c.with_vector-basis.result ≡ max_dimension * max_dimension
+long_after : (c : After-with_vector-self) → length c.with_vector-self.result ≡ max_dimension * max_dimension
 long_after c = search rules
 
 pub returns-then-length : goal.returns-then-length
-unfolding hull_in joined_of of_bits eps
+unfolding hull_in of_bits eps
 returns-then-length c =
     let a = c.args in
     let d = length a.p.now in
@@ -36,15 +36,16 @@ returns-then-length c =
     let t = c.if-length.true in
     let h = hull_in d a.self in
     let p = a.p.now in
-    let v = c.with_vector-basis.ensures.1 ∙ ap (map (λ x. over x l)) c.rest-v.ensures in
-    let basis = one_more d a.self.count a.self.basis c.with_vector-basis.result _ c.requires.0 c.requires.1 (long (goal.at.returns-then-length c).Start) (long_after c) c.with_vector-basis.ensures.0 v in
-    let e = length-is (goal.at.returns-then-length c).After-norm-length in (
-      ap {B = Hull} (λ (b : List Vector). record { offset = take d a.self.offset; basis = b }) basis ∙ add-far h p l e t,
-      joins-far h p l e t,
-    )
+    let v = c.with_vector-self.ensures.1 ∙ ap (map (λ x. over x l)) c.rest-v.ensures in
+    let basis = one_more d a.self.count a.self.basis c.with_vector-self.result _ c.requires.0 c.requires.1 (long (goal.at.returns-then-length c).Start) (long_after (goal.at.returns-then-length c).After-with_vector-self) c.with_vector-self.ensures.0 v in
+    let e = length-is (goal.at.returns-then-length c).After-norm-length in record {
+      hull = ap {B = Hull} (λ (b : List Vector). record { offset = take d a.self.offset; basis = b }) basis ∙ add-far h p l e t;
+      joined = joins-far h p l e t;
+      counted = search rules;
+    }
 
 pub returns : goal.returns
-unfolding joined_of of_bits eps
+unfolding of_bits eps
 returns c =
     let e = length-is (goal.at.returns c).After-norm-length in
-    (add-near _ _ _ e c.if-length.false, joins-near _ _ _ e c.if-length.false)
+    record { hull = add-near _ _ _ e c.if-length.false; joined = joins-near _ _ _ e c.if-length.false; counted = search rules }

@@ -10,8 +10,8 @@ use Rattle.float.proofs.Padded.{take-padded}
 use Rattle.geometry.specs.Reading.{hull_in}
 use Rattle.geometry.proofs.hull.Hull.empty.Goals as goal
 
-pub returns : goal.returns
+pub returns-clause-hull : goal.returns-clause-hull
 unfolding hull_in range
-returns c =
+returns-clause-hull c =
     let p = c.args.p.now in
-    ap {B = Hull} (λ (o : Vector). record { offset = o; basis = [] }) (take-padded (length p) p _ refl c.load-offset.ensures)
+    ap {B = Hull} (λ (o : Vector). record { offset = o; basis = [] }) (take-padded (length p) p _ refl c.load.ensures)

@@ -31,9 +31,10 @@ lent c = part_is (length c.args.p.now) (c.loop-k.k * max_dimension) _
 -- That vector has d entries.
 wide : (c : In-loop-k) →
     let a = c.args in
+    length a.self.basis ≡ max_dimension * max_dimension →
     length (vector_at (length a.p.now) a.self.basis c.loop-k.k) ≡ length a.p.now
-wide c =
-    vector_long (length c.args.p.now) c.loop-k.k c.args.self.count c.args.self.basis c.requires.0 c.loop-k-test.true c.requires.1 (long (goal.at.slice_bounds-b-end c).Start)
+wide c l =
+    vector_long (length c.args.p.now) c.loop-k.k c.args.self.count c.args.self.basis c.requires.0 c.loop-k-test.true c.requires.1 l
 
 pub loop-k-init : goal.loop-k-init
 loop-k-init c = (search rules, none)
@@ -47,17 +48,17 @@ slice_bounds-dot-end c = let k = far (goal.at.slice_bounds-dot-end c).After-diff
 pub dot-s-requires : goal.dot-s-requires
 dot-s-requires c =
     let k = far (goal.at.dot-s-requires c).After-difference-away in
-    length-take-le _ _ (omega arith) ∙ sym (ap length (lent (goal.at.dot-s-requires c).In-loop-k) ∙ wide (goal.at.dot-s-requires c).In-loop-k)
+    length-take-le _ _ (omega arith) ∙ sym (ap length (lent (goal.at.dot-s-requires c).In-loop-k) ∙ wide (goal.at.dot-s-requires c).In-loop-k (long (goal.at.dot-s-requires c).Start))
 
-pub moved-next-requires : goal.moved-next-requires
-moved-next-requires c =
-    let k = ap length (lent (goal.at.moved-next-requires c).In-loop-k) ∙ wide (goal.at.moved-next-requires c).In-loop-k in
+pub step_along-requires : goal.step_along-requires
+step_along-requires c =
+    let k = ap length (lent (goal.at.step_along-requires c).In-loop-k) ∙ wide (goal.at.step_along-requires c).In-loop-k (long (goal.at.step_along-requires c).Start) in
     omega arith
 
 pub loop-k-preserved : goal.loop-k-preserved
 loop-k-preserved c =
     let e = lent (goal.at.loop-k-preserved c).In-loop-k in
-    (search rules, next c.loop-k-test.true (c.dot-s.ensures ∙ ap (dot _) e) (moved_is c.loop-k.q c.moved-next.result c.dot-s.result e (wide (goal.at.loop-k-preserved c).In-loop-k) c.moved-next.ensures) c.loop-k.invariant.1)
+    (search rules, next c.loop-k-test.true (c.dot-s.ensures ∙ ap (dot _) e) (moved_is c.loop-k.q c.step_along.new.q c.dot-s.result e (wide (goal.at.loop-k-preserved c).In-loop-k (long (goal.at.loop-k-preserved c).Start)) c.step_along.ensures) c.loop-k.invariant.1)
 
 pub returns : goal.returns
 unfolding project hull_in

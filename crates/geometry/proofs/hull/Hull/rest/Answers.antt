@@ -7,4 +7,4 @@ use Rattle.geometry.proofs.hull.Hull.rest.Goals as goal
 
 pub returns : goal.returns
 unfolding rest
-returns c = c.difference.ensures ∙ ap (zip minus _) c.project-q.ensures
+returns c = c.difference.ensures ∙ ap (zip minus _) c.project.ensures

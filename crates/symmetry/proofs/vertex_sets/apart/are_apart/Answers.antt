@@ -22,10 +22,6 @@ pub returns-then-not-rank_apart : goal.returns-then-not-rank_apart
 unfolding proper_ranks
 returns-then-not-rank_apart c = ranks_no c.loop-r.invariant (omega (arith, c.loop-r-test.true, (top_is c.args.sh (lists_of c.args.sh c.args.words.now)), c.loop-r.invariant.low)) (sym c.rank_apart.ensures ∙ c.if-not-rank_apart.true)
 
-pub overflow_add-r : goal.overflow_add-r
-unfolding proper_ranks
-overflow_add-r c = omega (arith, c.loop-r-test.true, c.requires.held.tall)
-
 pub loop-r-smaller : goal.loop-r-smaller
 unfolding proper_ranks
 loop-r-smaller c = search rules

@@ -9,6 +9,3 @@ use Rattle.symmetry.proofs.vertex_sets.apart.are_apart.Given as goal
 
 abbrev pub invariant-loop-r : goal.invariant-loop-r
 invariant-loop-r l = RanksPass (λ q. no_repeats eq_list (vertex_sets (abs_in l.sh (lists_of l.sh l.words)) q)) 1 (top (abs_in l.sh (lists_of l.sh l.words)) - 1) l.r
-
-abbrev pub decreases-loop-r : goal.decreases-loop-r
-decreases-loop-r l = l.rank - l.r

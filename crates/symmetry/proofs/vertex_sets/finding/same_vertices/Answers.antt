@@ -4,7 +4,8 @@ use mathlib.Core.Path.{ap, ◌∙◌}
 use mathlib.Core.List.{List}
 use Prim.Native.Nat.{ℕ}
 use Rattle.spec.specs.Lists.{eq_list}
-use Rattle.symmetry.proofs.vertex_sets.Looks.{can_list, list_is, list-room, list-part}
+use Rattle.symmetry.proofs.vertex_sets.Sets.{same_lists}
+use Rattle.symmetry.proofs.vertex_sets.Looks.{can_list, list_is, list-room}
 use Rattle.symmetry.proofs.vertex_sets.finding.same_vertices.Goals as goal
 
 pub vertex_list-n-requires : goal.vertex_list-n-requires
@@ -15,8 +16,7 @@ vertex_list-n-requires c =
 pub slice_bounds-own-end : goal.slice_bounds-own-end
 slice_bounds-own-end c = list-room c.requires.held c.requires.proper_element c.vertex_list-n.ensures
 
-pub slice_bounds-same_list-end : goal.slice_bounds-same_list-end
-slice_bounds-same_list-end c = list-part c.requires.held c.requires.proper_element c.vertex_list-n.ensures
-
 pub returns : goal.returns
-returns c = c.same_list.ensures ∙ ap (λ (l : List ℕ). eq_list l c.args.list.now) (list_is c.requires.held c.requires.proper_element c.vertex_list-n.ensures)
+returns c =
+    c.eq.ensures ∙ same_lists _ c.args.list.now
+    ∙ ap (λ (l : List ℕ). eq_list l c.args.list.now) (list_is c.requires.held c.requires.proper_element c.vertex_list-n.ensures)

@@ -12,9 +12,6 @@ write_rank-requires c = record {
   le_r = (c.loop-r.invariant.proper, c.loop-r-test.true);
 }
 
-pub overflow_add-r : goal.overflow_add-r
-overflow_add-r c = omega (arith, c.loop-r-test.true, c.requires.held.tall)
-
 pub loop-r-preserved : goal.loop-r-preserved
 loop-r-preserved c = ranks-next c.loop-r.invariant c.requires.held c.loop-r-test.true _ c.write_rank.auto.words c.write_rank.ensures.words_unchanged c.write_rank.ensures.by_index
 

@@ -1,11 +1,7 @@
 -- The fingerprints below rank r stand, and nothing before the first of them changed.
 -- Assumes nothing.
-use Prim.Native.Nat.{◌-◌}
 use Rattle.symmetry.proofs.vertex_sets.Rows.{RanksStand}
 use Rattle.symmetry.proofs.vertex_sets.fingerprints.write_fingerprints.Given as goal
 
 abbrev pub invariant-loop-r : goal.invariant-loop-r
 invariant-loop-r l = RanksStand l.sh l.initial.words l.words l.r
-
-abbrev pub decreases-loop-r : goal.decreases-loop-r
-decreases-loop-r l = l.rank - l.r

@@ -1,0 +1,108 @@
+-- What the library's words say of a list is what the definitions of section 2 say of it.
+-- Assumes nothing.
+use mathlib.Core.Path.{◌≡◌, refl, sym, ◌∙◌, ap}
+use mathlib.Core.Bool.{Bool, true, false, cond, ◌&&◌, ◌||◌}
+use mathlib.Core.List.{List, [], ◌∷◌}
+use Prim.Native.Nat.{ℕ, zero, suc, ◌+◌, ◌-◌, ◌≤◌}
+use native.Mathlib.Numerals.{add-one}
+use native.Mathlib.Omega.{arith}
+use lib.ListN.{length}
+use lib.Dec.{eqb, ltb}
+use Rattle.std.specs.Prelude.{Option, Some, None}
+use Rattle.std.specs.List.{filter, list_all, list_any, position_or_len, range_with_len, FoldsTo}
+use Rattle.std.specs.Option.{unwrap_or, MatchOption}
+use Rattle.std.specs.Fn.{Called}
+use Rattle.std.specs.Iterator.{CallableAtEachTurn, YieldsThen}
+use Rattle.std.specs.declared.slice.Iter.{Iter}
+use Rattle.std.specs.Slice.Iter.{iter_rest}
+use Rattle.std.specs.declared.ops.Range.{Range}
+use denote.Ref.{Bor}
+use denote.Param.Members.{Mut}
+use Rattle.std.proofs.iter.Yields.{fronts, nat_range_steps}
+use Rattle.std.proofs.lemmas.Iterator.{YieldsList-from_slice, YieldsList-from_range}
+use Rattle.std.proofs.lemmas.Iterator.Adapters.{serves_from_places}
+use Rattle.std.proofs.lemmas.Iterator.Search.{all_from_yields_List}
+use Rattle.laws.proofs.Lists.{in_get_d}
+use Rattle.std.proofs.lemmas.Bool.{cond_both, ltb-false}
+use Rattle.std.proofs.lemmas.List.Recursion.{is_position_or_len}
+use Rattle.std.proofs.lemmas.List.Sums.{prefix_len-le-length}
+use Rattle.spec.specs.Lists.{In, range, holds, place, every, keep}
+
+pub any_holds : (x : ℕ) (l : List ℕ) → list_any (λ y. eqb y x) l ≡ holds eqb x l
+unfolding holds
+any_holds x [] = refl
+any_holds x (y ∷ l) = go (eqb y x) (any_holds x l)
+  where
+    go : (b : Bool) → list_any (λ z. eqb z x) l ≡ holds eqb x l → (b || list_any (λ z. eqb z x) l) ≡ elim b [ true ↦ true | false ↦ holds eqb x l ]
+    go true e = refl
+    go false e = e
+
+pub all_every : {A : Type 0} (p : A → Bool) (l : List A) → list_all p l ≡ every p l
+unfolding every
+all_every p [] = refl
+all_every p (x ∷ l) = go (p x) (all_every p l)
+  where
+    go : (b : Bool) → list_all p l ≡ every p l → (b && list_all p l) ≡ elim b [ true ↦ every p l | false ↦ false ]
+    go true e = e
+    go false e = refl
+
+pub filter_keep : (p : ℕ → Bool) (l : List ℕ) → filter p l ≡ keep p l
+unfolding keep
+filter_keep p [] = refl
+filter_keep p (x ∷ l) = go (p x) (filter_keep p l)
+  where
+    go : (b : Bool) → filter p l ≡ keep p l → cond b (x ∷ filter p l) (filter p l) ≡ elim b [ true ↦ x ∷ keep p l | false ↦ keep p l ]
+    go true e = ap (λ (m : List ℕ). x ∷ m) e
+    go false e = e
+
+pub range_is : (a n : ℕ) → range_with_len a n ≡ range a n
+unfolding range
+range_is a zero = refl
+range_is a (suc n) = ap (λ (l : List ℕ). a ∷ l) (rw add-one (range_is (suc a) n))
+
+place_is : (x : ℕ) (l : List ℕ) → place eqb x l ≡ position_or_len (λ y. eqb y x) l
+unfolding place
+place_is x l = is_position_or_len (place eqb x) (λ y. eqb y x) refl (λ y ys. go (eqb y x) (place eqb x ys)) l
+  where
+    go : (b : Bool) (n : ℕ) → elim b [ true ↦ 0 | false ↦ suc n ] ≡ cond b 0 (1 + n)
+    go true n = refl
+    go false n = omega arith
+
+-- Where the list does not hold x, its length is the place of x.
+pub place_found : (x : ℕ) (l : List ℕ) (found : Option ℕ)
+    → found ≡ cond (ltb (position_or_len (λ y. eqb y x) l) (length l)) (Some (position_or_len (λ y. eqb y x) l)) None
+    → unwrap_or found (length l) ≡ place eqb x l
+place_found x l found e =
+    let k = position_or_len (λ y. eqb y x) l in
+    let few : k ≤ length l = prefix_len-le-length _ l in
+    rw e (cond_both (ltb k (length l)) (Some k) None (λ (o : Option ℕ). unwrap_or o (length l) ≡ place eqb x l) (λ t. sym (place_is x l)) (λ f. omega (arith, ltb-false k (length l) f, place_is x l)))
+
+-- Numbers pass a test of the next number if the next numbers pass the test.
+pub every_next : (p : ℕ → Bool) (a n : ℕ) → every (λ x. p (suc x)) (range a n) ≡ every p (range (suc a) n)
+unfolding every range
+every_next p a zero = refl
+every_next p a (suc n) = ap (λ (t : Bool). elim (p (suc a)) [ true ↦ t | false ↦ false ]) (every_next p (suc a) n)
+
+-- ---- chains over a slice and over a range
+
+-- A closure may be called at each item of a slice, if it may at each member of its list.
+pub serves_members : {F : Type 0} {R : F → Bor ℕ → F → Type 0} {Q : F → Bor ℕ → Type 0} {s : Iter ℕ} {f : F} (l : List ℕ) → iter_rest s ≡ l
+    → ((x : Bor ℕ) (q : F) → R f x q → q ≡ f) → ((x : Bor ℕ) → In x.now l → Q f x) → CallableAtEachTurn fronts R Q s f
+serves_members l e keeps may =
+    serves_from_places (YieldsList-from_slice l e) keeps (λ x k h at. may x (rw at (in_get_d x.now l k h)))
+
+-- What `all` said of a slice is what the definition says of its list.
+pub all_members : {F : Type 0} {g : Mut F (Bor ℕ × Unit {0}) Bool} {s u : Iter ℕ} {f : F} {r : Bool} (test : ℕ → Bool) (l : List ℕ) → iter_rest s ≡ l
+    → (xs : List (Bor ℕ)) × (o : Option (Bor ℕ)) × (j : F) × YieldsThen fronts s xs o u × FoldsTo (λ p x q. Called g p (x, tt) true q) f xs j
+    × MatchOption o (r ≡ true) (λ x. (r ≡ false) × ((h : F) × Called g j (x, tt) false h))
+    → ((x : Bor ℕ) (b : Bool) (q : F) → Called g f (x, tt) b q → (q ≡ f) × (b ≡ test x.now)) → r ≡ every test l
+all_members test l e ran says = all_from_yields_List test _ _ _ ran (YieldsList-from_slice l e) says ∙ all_every test l
+
+-- The same of the n numbers from a up to b.
+pub all_numbers : {F : Type 0} {g : Mut F (ℕ × Unit {0}) Bool} {s u : Range ℕ} {f : F} {r : Bool} (test : ℕ → Bool) (a b n : ℕ)
+    → s ≡ record { start = a; end = b } → b - a ≡ n
+    → (xs : List ℕ) × (o : Option ℕ) × (j : F) × YieldsThen nat_range_steps s xs o u × FoldsTo (λ p x q. Called g p (x, tt) true q) f xs j
+    × MatchOption o (r ≡ true) (λ x. (r ≡ false) × ((h : F) × Called g j (x, tt) false h))
+    → ((x : ℕ) (t : Bool) (q : F) → Called g f (x, tt) t q → (q ≡ f) × (t ≡ test x)) → r ≡ every test (range a n)
+all_numbers test a b n e many ran says =
+    all_from_yields_List test _ _ _ ran (YieldsList-from_range a b n e many) says ∙ all_every test (range_with_len a n) ∙ ap (every test) (range_is a n)

@@ -1,8 +1,0 @@
--- `replay::replay` ends: each turn takes one from the count. Assumes nothing.
-use Rattle.replay.proofs.replay.Given as goal
-
-abbrev pub invariant-loop-left : goal.invariant-loop-left
-invariant-loop-left l = Unit {0}
-
-abbrev pub decreases-loop-left : goal.decreases-loop-left
-decreases-loop-left l = l.left
