@@ -1,18 +1,18 @@
 -- This file has the laws that the loops over flags pass on: going down from the top, and looking for the other element.
 -- Assumes nothing.
-use Rattle.std.specs.Prelude.{None, Some, unwrap_or}
+use Rattle.std.specs.Prelude.{Some, unwrap_or}
+use Rattle.std.specs.List.{find, slice_get}
 use Rattle.std.proofs.lemmas.Option.{unwrap_or-slice_get}
 use mathlib.Core.Path.{◌≡◌, refl, sym, ◌∙◌, ap}
-use mathlib.Core.Bool.{Bool, true, false, not}
+use mathlib.Core.Bool.{Bool, true, false, not, cond, ◌&&◌}
 use mathlib.Core.List.{List, [], ◌∷◌, ◌++◌, append_assoc, append-nil}
-use Prim.Native.Nat.{ℕ, zero, suc, ◌+◌, ◌-◌, ◌≤◌, ◌<◌}
-use native.Mathlib.Numerals.{add-one, sub-one, unary_clauses}
+use Prim.Native.Nat.{ℕ, zero, suc, ◌-◌, ◌≤◌, ◌<◌}
+use native.Mathlib.Numerals.{sub-one, unary_clauses}
 use native.Mathlib.Omega.{arith}
 use native.Mathlib.Decide.{ℕ_discrete}
-use lib.ListN.{length, get_or, set, take, drop, length-set, drop_of_length-le}
+use lib.ListN.{length, get_or, set, take, drop, length-set}
 use lib.Seq.{drop-cons, drop-set-lt, take-set-lt, get_or-take, get_or-set_same}
 use lib.Dec.{eqb}
-use borrow.Author.Tests.{eq-eqb, ne_eqb}
 use Rattle.spec.specs.Limits.{max_rank}
 use Rattle.spec.specs.Lists.{keep}
 use Rattle.spec.specs.Types.{subs}
@@ -84,39 +84,22 @@ module _ (sh : Shape) (w : List ℕ) (h : Held sh w) where
 -- ---- the other element
 
 module _ (e : ℕ) (p : ℕ → Bool) where
-  -- After k entries, what is left gives what the whole gives.
-  abbrev pub OtherFrom : List ℕ → ℕ → Type 0
-  OtherFrom l k = other_in e (keep p (drop k l)) ≡ other_in e (keep p l)
-
-  other_skip : (x : ℕ) (l : List ℕ) → p x ≡ false → other_in e (keep p (x ∷ l)) ≡ other_in e (keep p l)
-  unfolding keep
-  other_skip x l q = rw (q, keep)
-
-  other_same : (x : ℕ) (l : List ℕ) → x ≡ e → other_in e (keep p (x ∷ l)) ≡ other_in e (keep p l)
+  -- The first entry that passes the test and is not e is the first other one of those that pass.
+  pub find_other : (l : List ℕ) → find (λ y. not (eqb y e) && p y) l ≡ other_in e (keep p l)
   unfolding keep other_in
-  other_same x l q = go (p x) refl
+  find_other [] = refl
+  find_other (x ∷ l) = go (p x) (eqb x e) refl (find_other l)
     where
-      go : (b : Bool) → p x ≡ b → other_in e (keep p (x ∷ l)) ≡ other_in e (keep p l)
-      go true z = rw (z, keep, eq-eqb x e q, keep)
-      go false z = rw (z, keep)
+      rest : List ℕ
+      rest = keep (λ y. not (eqb y e)) (keep p l)
 
-  other_here : (x : ℕ) (l : List ℕ) → (x ≡ e → ⊥) → p x ≡ true → other_in e (keep p (x ∷ l)) ≡ Some x
-  unfolding keep other_in
-  other_here x l q z = rw (z, keep, ne_eqb x e q, keep)
-
-  module _ (l : List ℕ) (k : ℕ) (more : k < length l) (inv : OtherFrom l k) where
-    pub other-kept : get_or l k 0 ≡ e → OtherFrom l (k + 1)
-    other-kept q = rw add-one (sym (ap (λ (m : List ℕ). other_in e (keep p m)) (drop-cons l k 0 more) ∙ other_same _ _ q) ∙ inv)
-
-    pub other_no : p (get_or l k 0) ≡ false → OtherFrom l (k + 1)
-    other_no q = rw add-one (sym (ap (λ (m : List ℕ). other_in e (keep p m)) (drop-cons l k 0 more) ∙ other_skip _ _ q) ∙ inv)
-
-    pub other_yes : (get_or l k 0 ≡ e → ⊥) → p (get_or l k 0) ≡ true → Some (get_or l k 0) ≡ other_in e (keep p l)
-    other_yes n q = sym (ap (λ (m : List ℕ). other_in e (keep p m)) (drop-cons l k 0 more) ∙ other_here _ _ n q) ∙ inv
-
-  pub other-end : (l : List ℕ) (k : ℕ) → length l ≤ k → OtherFrom l k → None ≡ other_in e (keep p l)
-  unfolding keep other_in
-  other-end l k h inv = rw (drop_of_length-le l h) at inv
+      go : (b t : Bool) → eqb x e ≡ t → find (λ y. not (eqb y e) && p y) l ≡ slice_get rest 0
+          → cond (not t && b) (Some x) (find (λ y. not (eqb y e) && p y) l)
+          ≡ slice_get (keep (λ y. not (eqb y e)) (elim b [ true ↦ x ∷ keep p l | false ↦ keep p l ])) 0
+      go true true q h = rw (q, keep) h
+      go true false q h = rw (q, keep) refl
+      go false true q h = h
+      go false false q h = h
 
 -- Where there is no other element, a change keeps e.
 pub other-found : (e : ℕ) (l : List ℕ) → unwrap_or (other_in e l) e ≡ other e l

@@ -15,8 +15,8 @@ use Rattle.spec.specs.Types.{Solid, size, subs}
 use Rattle.spec.specs.Flags.{Flag, IsFlag, element_at, first_to, flags_to, flags}
 use Rattle.laws.proofs.Lists.{in_get_d}
 use Rattle.ranked.specs.declared.Shape.{Shape}
-use Rattle.ranked.specs.Words.{first_at, size_at, list_at, abs_in, Held, subs_word}
-use Rattle.ranked.proofs.Solids.{top_is, subs_lie, subs-listed, sub_in, list_in}
+use Rattle.ranked.specs.Words.{size_at, abs_in, Held}
+use Rattle.ranked.proofs.Solids.{top_is, sub_in}
 use Rattle.flag.specs.declared.Flag as declared
 use Rattle.flag.specs.Reading.{flag_in, Follows, Moved, next_place}
 use Rattle.flag.proofs.Flags.{flag_in_lem}
@@ -25,35 +25,31 @@ use Rattle.flag.proofs.Steps.{place_in, last_step, next_flag}
 
 -- ---- a move
 
--- Below the top an element stands under the one of the next rank, whose list of subs is at word i.
-pub record Under (sh : Shape) (w els : List ℕ) (r i : ℕ) : Type 0 where
+-- Below the top an element stands under the one of the next rank, whose subs are l.
+pub record Under (sh : Shape) (w els : List ℕ) (r : ℕ) (l : List ℕ) : Type 0 where
   pub held : Held sh w
   pub low : r < sh.rank
-  pub above : get_or els (suc r) 0 < size_at sh (suc r)
-  pub word : i ≡ subs_word (first_at sh (r + 1)) (get_or els (r + 1) 0)
+  pub subs : l ≡ subs (abs_in sh w) (r + 1) (get_or els (r + 1) 0)
 
-module _ {sh : Shape} {w els : List ℕ} {r i : ℕ} (u : Under sh w els r i) where
-  word_is : i ≡ subs_word (first_at sh (suc r)) (get_or els (suc r) 0)
-  word_is = rw add-one at u.word
-
-  listed : list_at w i ≡ subs (abs_in sh w) (suc r) (get_or els (suc r) 0)
-  listed = ap (list_at w) word_is ∙ subs-listed sh w u.held (suc r) (get_or els (suc r) 0) u.low u.above
+module _ {sh : Shape} {w els : List ℕ} {r : ℕ} {l : List ℕ} (u : Under sh w els r l) where
+  listed : l ≡ subs (abs_in sh w) (suc r) (get_or els (suc r) 0)
+  listed = rw add-one at u.subs
 
   -- The element has place k in that list.
-  module _ (k : ℕ) (at : k ≡ place eqb (get_or els r 0) (list_at w i)) where
-    pub place-fits : k + 1 ≤ length w + 1
-    place-fits = omega (arith, place_in (get_or els r 0) (list_at w i), list_in w i (rw word_is (subs_lie sh w u.held (suc r) (get_or els (suc r) 0) u.low u.above)))
+  module _ (k : ℕ) (at : k ≡ place eqb (get_or els r 0) l) where
+    pub place-fits : k ≤ length l
+    place-fits = omega (arith, at, place_in (get_or els r 0) l)
 
     next_is : k + 1 ≡ next_place (abs_in sh w) els r
     next_is = rw add-one (ap suc (at ∙ ap (place eqb (get_or els r 0)) listed))
 
-    module _ (n : ℕ) (many : n ≡ length (list_at w i)) where
-      module _ (x : ℕ) (is : x ≡ get_or (list_at w i) (k + 1) 0) (more : k + 1 < n) (long : length els ≡ suc max_rank) where
+    module _ (n : ℕ) (many : n ≡ length l) where
+      module _ (x : ℕ) (is : x ≡ get_or l (k + 1) 0) (more : k + 1 < n) (long : length els ≡ suc max_rank) where
         set_is : get_or (set els r x) r 0 ≡ x
         set_is = get_or-set_same els r x 0 (omega (arith, u.held.tall, u.low))
 
         pub moved_in : get_or (set els r x) r 0 < size_at sh r
-        moved_in = rw set_is (sub_in sh w u.held r (get_or els (suc r) 0) x u.low (rw is (subst (λ (l : List ℕ). In (get_or (list_at w i) (k + 1) 0) l) listed (in_get_d 0 (list_at w i) (k + 1) (omega arith)))))
+        moved_in = rw set_is (sub_in sh w u.held r (get_or els (suc r) 0) x u.low (rw is (subst (λ (m : List ℕ). In (get_or l (k + 1) 0) m) listed (in_get_d 0 l (k + 1) (omega arith)))))
 
         pub moved-some : (f : declared.Flag)
             → flag_in sh.rank f ≡ first_to (abs_in sh w) r (get_or (set els r x) r 0) ++ take (sh.rank - r) (drop (suc r) (set els r x))

@@ -3,4 +3,3 @@ pub mod Iterate
 pub mod Numbered
 pub mod Order
 pub mod Steps
-pub mod Sides

@@ -11,7 +11,7 @@ use lib.ListN.{length, get_or, take, set, drop, length-set, length-drop}
 use lib.Seq.{take_all, get_or-take, get_or-drop, get_or-set_same, get_or-set_other}
 use lib.Dec.{eqb}
 use lib.Ieee.{Float, nan}
-use Rattle.spec.specs.Limits.{max_rank, max_count}
+use Rattle.spec.specs.Limits.{max_count}
 use Rattle.spec.specs.Lists.{eq_list, range, no_repeats}
 use Rattle.spec.specs.Types.{size, proper_ranks, Classes, vertex_sets}
 use Rattle.spec.specs.Demand.{Proper}
@@ -54,9 +54,6 @@ module _ {sh : Shape} {w row : List ℕ} (a : Row sh w row) where
     in_solid : e < size (abs_in sh w) r
     in_solid = rw (sizes_are sh w a.held r) h
 
-    pub row-cell : r ≡ 1 → e < length row
-    row-cell q = let k : e < size_at sh 1 = rw q at h in omega (arith, a.full)
-
     pub vertex_lands : r ≡ 1 → (x : ℕ) → x ≡ get_or row e 0 → (cls : Classes) → Reached (abs_in sh w) cls row r e (Some x)
     vertex_lands q x z cls =
         let s = abs_in sh w in
@@ -93,10 +90,6 @@ module _ (sh : Shape) (w : List ℕ) (fs : List Float) (h : Held sh w) (c : Clas
 
   place_in : (e : ℕ) → e < size_at sh r → before sh r + e < proper sh
   place_in e k = omega (arith, start-below, in_order_lem sh w h (suc r) sh.rank high (omega arith), h.some r (omega arith))
-
-  -- The rank's classes have their places, and these lie in the floats.
-  pub ranks_lie : (sh.rank ≤ max_rank) × (r ≤ suc max_rank) × (first_at sh 1 ≤ first_at sh r) × (class_at sh r 0 ≤ length fs)
-  ranks_lie = (h.tall, omega (arith, h.tall), start-below, omega (arith, place_in 0 (omega (arith, h.some r (omega arith))), c.room))
 
   cell : (k : ℕ) → k < size_at sh r → get_or (classes (distances (solid_on sh w fs))) (before_in (abs_in sh w) r + k) nan ≡ get_or fs (class_at sh r k) nan
   cell k hk =
@@ -141,10 +134,6 @@ module _ (sh : Shape) (w row : List ℕ) (cls : Classes) (r e x : ℕ) (a : Reac
     its_class t = (a.0, a.1, a.2 ∙ sym is ∙ t)
 
 -- ---- a rank's elements
-
--- One turn more leaves fewer to come.
-pub fewer_left : (n e : ℕ) → e < n → n - (e + 1) < n - e
-fewer_left n e h = omega arith
 
 -- The first e elements of rank r are carried, and their cells are written.
 pub record ElementsCarried (sh : Shape) (w row : List ℕ) (cls : Classes) (cells₀ : List ℕ) (r n base : ℕ) (cells : List ℕ) (e : ℕ) : Type 0 where
@@ -235,9 +224,6 @@ ranks-first sh w row cls cells h = record { low = omega arith; long = refl; room
 
 module _ {sh : Shape} {w row : List ℕ} {cls : Classes} {cells₀ cells : List ℕ} {r : ℕ} (t : RanksCarried sh w row cls cells₀ cells r) where
   module _ (more : r < sh.rank) where
-    pub rank_now : Rank sh w row cells r
-    rank_now = record { low = t.low; high = more; room = t.room; below = t.below }
-
     pub ranks_stop : false ≡ carries_at (abs_in sh w) cls row r → false ≡ carries_all (abs_in sh w) cls row
     unfolding proper_ranks
     ranks_stop e =

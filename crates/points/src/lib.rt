@@ -2,7 +2,7 @@
 // taken)".
 #![tactic(auto)]
 
-ghost use Rattle.std.specs.Prelude.{◌≡◌, ◌+◌, ◌*◌, ◌≤◌, ◌<◌, length, get_or, take, drop};
+ghost use Rattle.std.specs.Prelude.{◌≡◌, ◌+◌, ◌*◌, ◌≤◌, ◌<◌, length, take, drop};
 ghost use Rattle.spec.specs.Limits.{max_dimension};
 ghost use Rattle.spec.specs.Float.{in_range};
 ghost use Rattle.spec.specs.Points.{near, find};
@@ -16,21 +16,6 @@ use float::{DIMENSION, vector};
 use spec::MAX_MAGNITUDE;
 
 pub mod lookup;
-
-// Returns a point's number, as rows and lists of points have it.
-pub fn wide(x: u16) -> usize
-    ensures { result ≡ x }
-{
-    usize::from(x)
-}
-
-// Returns the number in cell k of a row or a list.
-pub fn cell(cells: &[u16], k: usize) -> usize
-    requires { k < length cells.now }
-    ensures { result ≡ get_or cells.now k 0 }
-{
-    usize::from(cells[k])
-}
 
 // Tells whether a float is finite and not too large. One comparison is enough, because neither a NaN nor an infinity is at most MAX_MAGNITUDE.
 pub fn in_range(x: f64) -> bool

@@ -1,32 +1,30 @@
--- This file says what the tests of refusals 5 and 6 are in terms of the words that hold the solid's lists.
+-- This file has the parts of refusals 5 and 6 that the program tests one by one.
 -- Assumes nothing.
-use Rattle.std.specs.Prelude.{Bool, ℕ, suc, ◌-◌, ◌*◌, List, length, eqb, ltb}
+use Rattle.std.specs.Prelude.{Bool, ℕ, suc, ◌-◌, length, eqb, ltb}
 use Rattle.spec.specs.Lists.{range, every}
-use Rattle.ranked.specs.declared.Shape.{Shape}
-use Rattle.ranked.specs.Words.{first_at, size_at, list_at, subs_word, sups_word}
-use Rattle.ranked.specs.Reading.{holding}
+use Rattle.spec.specs.Types.{Solid, top, size, subs, sups}
+use Rattle.spec.specs.Solid.{between}
 
 -- ---- refusal 5
 
--- Tells whether each of the n elements of a rank that starts at `first` has a sup.
-unfoldable pub bound_in : List ℕ → ℕ → ℕ → Bool
-bound_in w first n = every (λ e. ltb 0 (length (list_at w (sups_word first e)))) (range 0 n)
+-- Tells whether each element of rank r has a sup.
+unfoldable pub bound_rank : Solid → ℕ → Bool
+bound_rank s r = every (λ e. ltb 0 (length (sups s r e))) (range 0 (size s r))
 
 -- ---- refusal 6
 
--- Tells whether there are exactly two elements between the element whose subs are at word i and each entry of the list at word j.
-unfoldable pub two_under : List ℕ → ℕ → ℕ → ℕ → Bool
-two_under w i j base = every (λ h. eqb (length (holding w i base h)) 2) (list_at w j)
+-- Tells whether there are exactly two elements of rank r between g, one rank above, and each sub of f.
+unfoldable pub two_under : Solid → ℕ → ℕ → ℕ → Bool
+two_under s r g f = every (λ h. eqb (length (between s r g h)) 2) (subs s r f)
 
--- Tells whether there are exactly two elements between g and every sub of its subs, where the rank of the subs starts at `at` and the rank of g, one
--- above, at `above`.
-unfoldable pub two_at : List ℕ → ℕ → ℕ → ℕ → Bool
-two_at w at above g = every (λ f. two_under w (subs_word above g) (subs_word at f) (4 * at)) (list_at w (subs_word above g))
+-- Tells whether there are exactly two between g and every sub of its subs.
+unfoldable pub two_at : Solid → ℕ → ℕ → Bool
+two_at s r g = every (two_under s r g) (subs s (suc r) g)
 
--- Tells whether this holds for each of the n elements of the rank above.
-unfoldable pub two_rank : List ℕ → ℕ → ℕ → ℕ → Bool
-two_rank w at above n = every (two_at w at above) (range 0 n)
+-- Tells whether this holds for each element of the rank above r.
+unfoldable pub two_rank : Solid → ℕ → Bool
+two_rank s r = every (two_at s r) (range 0 (size s (suc r)))
 
--- Tells whether it holds for each rank from k + 1 to R - 1, taken with the rank above it.
-unfoldable pub two_from : Shape → List ℕ → ℕ → Bool
-two_from sh w k = every (λ r. two_rank w (first_at sh r) (first_at sh (suc r)) (size_at sh (suc r))) (range (suc k) (sh.rank - 1 - k))
+-- Tells whether it holds for each rank from k + 1 to R - 1.
+unfoldable pub two_from : Solid → ℕ → Bool
+two_from s k = every (two_rank s) (range (suc k) (top s - 1 - k))

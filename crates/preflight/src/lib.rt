@@ -6,13 +6,14 @@ ghost use Rattle.std.specs.Prelude.{◌≡◌, true, ◌&&◌, ◌+◌, ◌*◌,
 ghost use Rattle.spec.specs.Sheet.{read_sheet};
 ghost use Rattle.spec.specs.Solid.{solid_of, roomy, words_for, floats_for};
 ghost use Rattle.sheet.specs.Judge.{header_of};
-ghost use Rattle.ranked.specs.Words.{abs_in, Held};
+ghost use Rattle.ranked.specs.Lying.{abs_of};
 ghost use Rattle.preflight.specs.Store.{parsed_of};
 ghost use Rattle.preflight.specs.Preflight.{checks_of, SheetJudged, Preflighted};
 
 use crate::check::{is_bound, is_diamond};
 use crate::store::store;
 use ranked::Shape;
+use ranked::solid::Solid;
 use sheet::Header;
 use spec::Refusal;
 
@@ -29,14 +30,13 @@ fn is_roomy(elements: usize, entries: usize, words: usize, floats: usize) -> boo
 
 // Judges refusal 5, and then refusal 6, of the solid that the words hold.
 #[tactic(auto, using(crate::proofs::Laws::loose, crate::proofs::Laws::mitred, crate::proofs::Laws::fine))]
-fn checked(lists: &[u32], sh: Shape) -> Result<(), Refusal>
-    requires { Held sh lists.now }
-    ensures { result ≡ checks_of (abs_in sh lists.now) }
+fn checked(solid: &Solid) -> Result<(), Refusal>
+    ensures { result ≡ checks_of (abs_of solid.now) }
 {
-    if !is_bound(lists, sh) {
+    if !is_bound(solid) {
         return Err(Refusal::Loose);
     }
-    if !is_diamond(lists, sh) {
+    if !is_diamond(solid) {
         return Err(Refusal::Mitre);
     }
     Ok(())
@@ -55,7 +55,7 @@ fn settle(
     ensures { SheetJudged (parsed_of sheet.now) result words.new floats.new }
 {
     let sh = store(sheet, header, words, floats);
-    checked(sh.lists(words), sh)?;
+    checked(&sh.solid(words))?;
     Ok(sh)
 }
 

@@ -77,12 +77,6 @@ place_found x l found e =
     let few : k ≤ length l = prefix_len-le-length _ l in
     rw e (cond_both (ltb k (length l)) (Some k) None (λ (o : Option ℕ). unwrap_or o (length l) ≡ place eqb x l) (λ t. sym (place_is x l)) (λ f. omega (arith, ltb-false k (length l) f, place_is x l)))
 
--- Numbers pass a test of the next number if the next numbers pass the test.
-pub every_next : (p : ℕ → Bool) (a n : ℕ) → every (λ x. p (suc x)) (range a n) ≡ every p (range (suc a) n)
-unfolding every range
-every_next p a zero = refl
-every_next p a (suc n) = ap (λ (t : Bool). elim (p (suc a)) [ true ↦ t | false ↦ false ]) (every_next p (suc a) n)
-
 -- ---- chains over a slice and over a range
 
 -- A closure may be called at each item of a slice, if it may at each member of its list.

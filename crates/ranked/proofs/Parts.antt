@@ -8,8 +8,6 @@ use native.Mathlib.Omega.{arith}
 use lib.ListN.{length, get_or, take, drop, length-append}
 use lib.Seq.{drop-drop, drop_at, take_at}
 use Rattle.spec.specs.Lists.{join}
-use Rattle.spec.specs.Solid.{Concrete}
-use Rattle.spec.specs.Classes.{point_of}
 use Rattle.laws.proofs.CopyLaws.{Wide}
 
 module _ {A : Type 0} (d : ℕ) where
@@ -29,9 +27,3 @@ module _ {A : Type 0} (d : ℕ) where
   part_in (p ∷ ps) h (suc v) k =
       let e : (suc v + 1) * d ≡ d + (v + 1) * d = omega (arith, suc-mul (v + 1) d) in
       rw e (omega (arith, length-append p (join ps), h.0, part_in ps h.1 v (omega arith)))
-
--- The coordinates of vertex v are point v.
-pub point_is : (c : Concrete) → Wide c.dimension c.points → (v : ℕ) → v < length c.points
-    → take c.dimension (drop (v * c.dimension) (join c.points)) ≡ point_of c v
-unfolding point_of
-point_is c h v k = part_is c.dimension c.points h v k

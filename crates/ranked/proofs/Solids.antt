@@ -4,18 +4,17 @@ use mathlib.Core.Path.{◌≡◌, refl, sym, ◌∙◌, ap}
 use mathlib.Core.Logic.{◌⊎◌, inl, inr}
 use mathlib.Core.Bool.{false}
 use mathlib.Core.List.{List, [], ◌∷◌, map}
-use Prim.Native.Nat.{ℕ, suc, ◌+◌, ◌*◌, ◌^◌, ◌≤◌, ◌<◌}
+use Prim.Native.Nat.{ℕ, suc, ◌+◌, ◌*◌, ◌≤◌, ◌<◌}
 use native.Mathlib.Omega.{arith}
 use native.Mathlib.Numerals.{add-one}
-use lib.ListN.{length, get_or, take, drop, length-take, length-drop, get_or-eq_default}
-use lib.Seq.{get_or-take, get_or-drop}
+use lib.ListN.{length, get_or, length-take, length-drop, get_or-eq_default}
 use lib.Dec.{eqb}
 use borrow.Author.Tests.{ne_eqb}
 use Rattle.spec.specs.Lists.{In, range, holds}
 use Rattle.spec.specs.Types.{top, size, subs, sups}
 use Rattle.laws.proofs.Lists.{get_d_table, length_table}
 use Rattle.ranked.specs.declared.Shape.{Shape}
-use Rattle.ranked.specs.Words.{first_at, size_at, total, list_at, subs_in, sups_in, abs_in, Inside, Held, subs_word, sups_word}
+use Rattle.ranked.specs.Words.{first_at, size_at, total, list_at, subs_in, sups_in, abs_in, Held, subs_word, sups_word}
 use Rattle.ranked.specs.Layout.{coordinates}
 use Rattle.ranked.specs.Reading.{Lies}
 use Rattle.ranked.proofs.Between.{sup_means}
@@ -27,20 +26,6 @@ module _ (w : List ℕ) (i : ℕ) (a : Lies w i) where
   pub count_is : length (list_at w i) ≡ get_or w (i + 1) 0
   unfolding list_at
   count_is = let h = a.inside in rw add-one (simp (length-take, length-drop) (omega arith))
-
-  pub list_in : get_or w i 0 + length (list_at w i) ≤ length w
-  list_in = let h : Inside w i = a.inside in rw (count_is, add-one) h
-
--- Each entry fits a word.
-pub words_fit : (w : List ℕ) (i : ℕ) → ((p : ℕ) → get_or w p 0 < 2 ^ 32) → (k : ℕ) → get_or (list_at w i) k 0 < 2 ^ 32
-unfolding list_at
-words_fit w i f k = go (lt_or_le k (get_or w (suc i) 0))
-  where
-    go : (k < get_or w (suc i) 0) ⊎ (get_or w (suc i) 0 ≤ k) → get_or (take (get_or w (suc i) 0) (drop (get_or w i 0) w)) k 0 < 2 ^ 32
-    go (inl h) = rw (get_or-take, get_or-drop) (f (get_or w i 0 + k))
-    go (inr h) =
-        let short : length (take (get_or w (suc i) 0) (drop (get_or w i 0) w)) ≤ k = rw length-take (omega arith) in
-        rw (get_or-eq_default (take (get_or w (suc i) 0) (drop (get_or w i 0) w)) 0 short) (omega arith)
 
 -- A list does not hold what all its entries are below.
 pub none_larger : (n x : ℕ) → n ≤ x → (l : List ℕ) → ((k : ℕ) → get_or l k 0 < n) → holds eqb x l ≡ false

@@ -1,16 +1,15 @@
--- In loops over a list that can be left early, what is left gives what the whole gives. Loops that count are here too.
+-- In loops over a list that can be left early, what is left gives what the whole gives.
 -- Assumes nothing.
 use mathlib.Core.Path.{◌≡◌, sym, ◌∙◌, ap}
 use mathlib.Core.Bool.{Bool, true, false}
 use mathlib.Core.List.{List, ◌∷◌}
 use Prim.Native.Nat.{ℕ, suc, ◌+◌, ◌≤◌, ◌<◌}
 use native.Mathlib.Numerals.{add-one}
-use native.Mathlib.Omega.{arith}
 use lib.ListN.{length, get_or, drop, drop_of_length-le}
 use lib.Seq.{drop-cons}
-use lib.Dec.{eqb, ltb}
-use borrow.Author.Tests.{eq-eqb, ne_eqb, lt-ltb, le-ltb}
-use Rattle.spec.specs.Lists.{In, range, every, place, keep}
+use lib.Dec.{eqb}
+use borrow.Author.Tests.{eq-eqb, ne_eqb}
+use Rattle.spec.specs.Lists.{In, range, every, place}
 use Rattle.laws.proofs.Lists.{length-range, get_d_range, in_get_d}
 
 -- ---- what a reader finds
@@ -18,13 +17,6 @@ use Rattle.laws.proofs.Lists.{length-range, get_d_range, in_get_d}
 -- The entry that was read is in the list.
 pub entry_in : (l : List ℕ) (k y : ℕ) → k < length l → y ≡ get_or l k 0 → In y l
 entry_in l k y h e = rw e (in_get_d 0 l k h)
-
--- A count that was read is compared with 0.
-pub none_read : (n m : ℕ) → m ≡ n → m ≡ 0 → ltb 0 n ≡ false
-none_read n m e z = le-ltb 0 n (omega arith)
-
-pub some_read : (n m : ℕ) → m ≡ n → (m ≡ 0 → ⊥) → ltb 0 n ≡ true
-some_read n m e z = lt-ltb 0 n (omega arith)
 
 -- ---- every element passes
 
@@ -75,32 +67,3 @@ module _ (x : ℕ) where
   pub place_past : (y : ℕ) (l : List ℕ) → (y ≡ x → ⊥) → place eqb x (y ∷ l) ≡ suc (place eqb x l)
   unfolding place
   place_past y l e = rw (ne_eqb y x e, place)
-
--- ---- how many pass
-
-module _ (p : ℕ → Bool) where
-  keep_true : (x : ℕ) (l : List ℕ) → p x ≡ true → keep p (x ∷ l) ≡ x ∷ keep p l
-  unfolding keep
-  keep_true x l e = rw (e, keep)
-
-  keep_false : (x : ℕ) (l : List ℕ) → p x ≡ false → keep p (x ∷ l) ≡ keep p l
-  unfolding keep
-  keep_false x l e = rw (e, keep)
-
-  -- After k elements, m were met.
-  abbrev pub Met : List ℕ → ℕ → ℕ → Type 0
-  Met l k m = m + length (keep p (drop k l)) ≡ length (keep p l)
-
-  pub met_yes : (l : List ℕ) (k m : ℕ) → k < length l → Met l k m → p (get_or l k 0) ≡ true → Met l (k + 1) (m + 1)
-  met_yes l k m h inv e =
-      let q = ap length (ap (keep p) (drop-cons l k 0 h) ∙ keep_true _ _ e) in
-      rw (add-one k) (omega (arith, q, inv))
-
-  pub met_no : (l : List ℕ) (k m : ℕ) → k < length l → Met l k m → p (get_or l k 0) ≡ false → Met l (k + 1) m
-  met_no l k m h inv e =
-      let q = ap length (ap (keep p) (drop-cons l k 0 h) ∙ keep_false _ _ e) in
-      rw (add-one k) (omega (arith, q, inv))
-
-  pub met_end : (l : List ℕ) (k m : ℕ) → length l ≤ k → Met l k m → m ≡ length (keep p l)
-  unfolding keep
-  met_end l k m h inv = let q : m + 0 ≡ length (keep p l) = rw (drop_of_length-le l h) at inv in omega arith

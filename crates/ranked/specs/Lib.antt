@@ -3,3 +3,5 @@ pub mod Layout
 pub mod Shapes
 pub mod Reading
 pub mod Marks
+pub mod Lying
+pub mod Once

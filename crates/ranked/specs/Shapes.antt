@@ -1,6 +1,6 @@
 -- This file says which shape a solid has, by the counts of its ranks and the entries of its lists.
 -- Assumes nothing.
-use Rattle.std.specs.Prelude.{◌≡◌, true, false, ℕ, zero, suc, ◌+◌, ◌≤◌, ◌<◌, List, map, length, get_or, replicate, leb, ltb}
+use Rattle.std.specs.Prelude.{◌≡◌, true, false, ℕ, zero, suc, ◌+◌, ◌≤◌, ◌<◌, List, map, length, get_or, leb, ltb}
 use Rattle.spec.specs.Limits.{max_count, max_starts}
 use Rattle.spec.specs.Lists.{range}
 use Rattle.spec.specs.Types.{Solid, top, size}
@@ -48,7 +48,3 @@ unfoldable pub shape_of : Concrete → Shape
 shape_of c =
     let first = map (start_in c.abs) (range 0 max_starts) in
     sized (record { rank = top c.abs; dimension = c.dimension; first = first; low = 0 }) (entries c.abs)
-
--- Gives the shape of zeros, where there is no solid.
-abbrev pub no_shape : Shape
-no_shape = record { rank = 0; dimension = 0; first = replicate max_starts 0; low = 0 }

@@ -4,11 +4,12 @@
 
 ghost use Rattle.std.specs.Prelude.{◌≡◌, ℕ, suc, ◌+◌, ◌*◌, ◌^◌, ◌≤◌, ◌<◌, length};
 ghost use Rattle.spec.specs.Limits.{max_rank, max_starts};
-ghost use Rattle.ranked.specs.Words.{first_at, size_at, total, lists_of, subs_word, sups_word};
-ghost use Rattle.ranked.specs.Shapes.{CountsFit, size_in, StartsCounted, ShapeCounted, no_shape};
+ghost use Rattle.ranked.specs.Words.{first_at, size_at, total, lists_of, subs_word, sups_word, Held};
+ghost use Rattle.ranked.specs.Shapes.{CountsFit, size_in, StartsCounted, ShapeCounted};
 ghost use Rattle.ranked.specs.Layout.{proper, before, sub_entries, sized as sized_as, sub_entries_at, sup_entries_at, types_at, scratch_at, fingerprints_at, coordinates, classes_at, class_at};
 
 use crate::lists::{subs_word, sups_word};
+use crate::solid::Solid;
 use spec::{MAX_PROPER, MAX_RANK, PROPER_RANKS};
 
 // This many ranks have a start: those from 0 to the greatest R, and the one above, at which the top rank ends.
@@ -73,18 +74,6 @@ impl Shape {
         ranks.sized(entries)
     }
 
-    // Returns the shape of zeros, where there is no solid.
-    pub fn none() -> Shape
-        ensures { result ≡ no_shape }
-    {
-        Shape {
-            rank: 0,
-            dimension: 0,
-            first: [0usize; STARTS],
-            low: 0,
-        }
-    }
-
     // Counts the words that the solid takes with all its lists. Those behind them are free.
     pub fn words(self) -> usize
         ensures { result ≡ self.low }
@@ -145,6 +134,19 @@ impl Shape {
         ensures { result.now ≡ lists_of self words.now }
     {
         &words[..self.low]
+    }
+
+    // Returns the solid whose lists the words hold.
+    pub fn solid(self, words: &[u32]) -> Solid<'_>
+        requires held { Held self (lists_of self words.now) }
+        requires low_in_bounds { self.low ≤ length words.now }
+        ensures shape { result.shape ≡ self }
+        ensures lists { result.lists.now ≡ lists_of self words.now }
+    {
+        Solid {
+            lists: self.lists(words),
+            shape: self,
+        }
     }
 
     // Returns the word that says where the list of the subs of element e of rank r starts. The next word is its length.
@@ -269,4 +271,5 @@ impl Shape {
 }
 
 pub mod lists;
+pub mod solid;
 pub mod vertices;

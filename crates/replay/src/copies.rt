@@ -2,7 +2,7 @@
 // float is written as its bit pattern. A record gives the dimension, how many floats there are of points and how many of turns, how long the two
 // outputs are, and then those floats. Its answer gives the refusal's number, or 0, then the count, the output of copies and the table. After the last
 // answer comes the table of 48. tools/make_copies.py made copies.in and copies.out.
-use crate::numbers_of;
+use crate::Numbers;
 use copying::axes;
 use spec::Answer;
 use wire::{End, Run, filling, reading};
@@ -17,7 +17,7 @@ const COPIES: usize = 8192;
 const CELLS: usize = 32768;
 
 fn write(run: Run, answer: Answer, copies: &[f64], table: &[u16]) -> Result<Run, End> {
-    let first = numbers_of(answer);
+    let first = Numbers::from(answer);
     run.number(first.refusal)?
         .number(first.count)?
         .output(copies)?

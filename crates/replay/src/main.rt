@@ -32,16 +32,18 @@ struct Numbers {
     count: u64,
 }
 
-fn numbers_of(answer: Answer) -> Numbers {
-    match answer {
-        Ok(n) => Numbers {
-            refusal: 0,
-            count: n as u64,
-        },
-        Err(refused) => Numbers {
-            refusal: refused.why.number() as u64,
-            count: refused.kept as u64,
-        },
+impl From<Answer> for Numbers {
+    fn from(answer: Answer) -> Numbers {
+        match answer {
+            Ok(n) => Numbers {
+                refusal: 0,
+                count: n as u64,
+            },
+            Err(refused) => Numbers {
+                refusal: u64::from(refused.why.number()),
+                count: refused.kept as u64,
+            },
+        }
     }
 }
 

@@ -6,7 +6,7 @@
 ghost use Rattle.std.specs.Prelude.{◌<◌};
 
 use crate::digests::Digest;
-use crate::{USED_FLOAT, USED_WORD, numbers_of};
+use crate::{Numbers, USED_FLOAT, USED_WORD};
 use float::bits;
 use spec::Answer;
 use wire::{End, Run, filling, reading};
@@ -150,7 +150,7 @@ fn write_digests(run: Run, outputs: Outputs) -> Result<Run, End> {
 
 // Writes the number of the refusal, or 0, and the count, and then the outputs, whole or by their digests.
 fn write(run: Run, answer: Answer, whole: bool, outputs: Outputs) -> Result<Run, End> {
-    let first = numbers_of(answer);
+    let first = Numbers::from(answer);
     let a = write_gap(write_number(run, first.refusal)?, false)?;
     let b = write_gap(write_number(a, first.count)?, whole)?;
     if whole {

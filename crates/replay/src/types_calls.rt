@@ -1,7 +1,7 @@
 // This module replays stored types calls. A record is how long the sheet, the workspace's words and floats, the types of the elements and the table
 // are, four bytes each, highest first; and then the sheet. Its answer is three lines: the refusal's number, or 0, and the count; the types of the
 // elements; the table. tools/make_types.py made types.in and types.out.
-use crate::{USED_FLOAT, USED_WORD, numbers_of};
+use crate::{Numbers, USED_FLOAT, USED_WORD};
 use spec::Answer;
 use wire::{End, Run, filling, reading};
 
@@ -27,7 +27,7 @@ fn write_cells(run: Run, s: &[u16]) -> Result<Run, End> {
 }
 
 fn write(run: Run, answer: Answer, of: &[u16], table: &[u16]) -> Result<Run, End> {
-    let first = numbers_of(answer);
+    let first = Numbers::from(answer);
     let a = write_number(run.decimal(first.refusal)?, first.count)?;
     write_cells(write_cells(a.bytes(b"\n")?, of)?, table)
 }

@@ -151,7 +151,7 @@ fn from8(
     from9(words, sh, floats, rotations, matrices, rows, marks)
 }
 
-// Searches a sheet, for all members or for the rotations alone.
+// Searches a sheet, for all members or for the rotations alone. Which of the two is a value and no type, since a single test of a member reads it.
 pub fn run(
     sheet: &[u8],
     words: &mut [u32],

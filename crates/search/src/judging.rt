@@ -15,6 +15,7 @@ use float::DIMENSION;
 use float::tolerance::Tolerance;
 use geometry::elements::element_distance;
 use ranked::Shape;
+use ranked::solid::Solid;
 use symmetry::candidates::vertex_sequence;
 
 // Tells whether refusal 8, "search with R < 2 or D ≠ R−1", does not apply.
@@ -53,6 +54,7 @@ pub fn first_inverse(
     ensures { option_map (corner sh.dimension) result
         ≡ inverse (flag_columns (solid_on sh lists.now floats.now) (first_flag (abs_in sh lists.now))) }
 {
-    let first = Flag::first(lists, sh);
-    matrix::inverse(vertex_sequence(lists, sh, floats, first), sh.dimension)
+    let solid = Solid { lists, shape: sh };
+    let first = Flag::first(&solid);
+    matrix::inverse(vertex_sequence(&solid, floats, first), sh.dimension)
 }

@@ -38,7 +38,8 @@ pub fn search(
     run(sheet, words, floats, false, matrices, rows, marks)
 }
 
-// The call does the same as `search`, but lists only the rotations: "Rotations are those of determinant above 0."
+// The call does the same as `search`, but lists only the rotations: "Rotations are those of determinant above 0." Both stand, since the C interface has
+// a call for each.
 pub fn rotations(
     sheet: &[u8],
     words: &mut [u32],

@@ -10,7 +10,8 @@ ghost use Rattle.spec.specs.Solid.{diamond};
 ghost use Rattle.spec.specs.Flags.{IsFlag};
 ghost use Rattle.spec.specs.Search.{flag_columns, all_finite};
 ghost use Rattle.matrix.specs.Reading.{corner};
-ghost use Rattle.ranked.specs.Words.{lists_of, abs_in, Held};
+ghost use Rattle.ranked.specs.Words.{lists_of, Held};
+ghost use Rattle.ranked.specs.Lying.{abs_of};
 ghost use Rattle.ranked.specs.Layout.{scratch_at, coordinates, solid_on, abstract_in};
 ghost use Rattle.element_types.specs.State.{state_in};
 ghost use Rattle.flag.specs.Reading.{flag_in};
@@ -21,6 +22,7 @@ use float::DIMENSION;
 use points::{find, loaded};
 use ranked::Shape;
 use ranked::lists::get;
+use ranked::solid::Solid;
 
 // Tells whether the first d entries are finite.
 fn row_finite(v: [f64; DIMENSION], d: usize) -> bool
@@ -71,40 +73,33 @@ pub fn same_types(words: &[u32], sh: Shape, flag: Flag, first: Flag) -> bool
 }
 
 // Returns the flag after one round: "change ranks 1 to R−1 in turn".
-fn turned(lists: &[u32], sh: Shape, flag: Flag) -> Flag
-    requires held { Held sh lists.now }
-    requires lists_value { diamond (abs_in sh lists.now) ≡ true }
-    requires flag { IsFlag (abs_in sh lists.now) (flag_in sh.rank flag) }
-    requires le_rank { 1 ≤ sh.rank }
-    ensures { Turned (abs_in sh lists.now) (flag_in sh.rank flag) (flag_in sh.rank result) }
+fn turned(solid: &Solid, flag: Flag) -> Flag
+    requires lists_value { diamond (abs_of solid.now) ≡ true }
+    requires flag { IsFlag (abs_of solid.now) (flag_in solid.now.shape.rank flag) }
+    requires le_rank { 1 ≤ solid.now.shape.rank }
+    ensures { Turned (abs_of solid.now) (flag_in solid.now.shape.rank flag) (flag_in solid.now.shape.rank result) }
 {
     let mut f = flag;
-    for r in 1..sh.rank {
-        f = f.change(lists, sh, r);
+    for r in 1..solid.shape.rank {
+        f = f.change(solid, r);
     }
     f
 }
 
 // Returns "A flag's columns: its vertex; then, D−1 times, change ranks 1 to R−1 in turn and take the vertex."
-pub fn vertex_sequence(
-    lists: &[u32],
-    sh: Shape,
-    floats: &[f64],
-    flag: Flag,
-) -> [[f64; DIMENSION]; DIMENSION]
-    requires held { Held sh lists.now }
-    requires lists_value { diamond (abs_in sh lists.now) ≡ true }
-    requires flag { IsFlag (abs_in sh lists.now) (flag_in sh.rank flag) }
-    requires le_rank { 1 ≤ sh.rank }
-    requires sh_in_bounds { coordinates sh ≤ length floats.now }
-    ensures { corner sh.dimension result ≡ flag_columns (solid_on sh lists.now floats.now) (flag_in sh.rank flag) }
+pub fn vertex_sequence(solid: &Solid, floats: &[f64], flag: Flag) -> [[f64; DIMENSION]; DIMENSION]
+    requires lists_value { diamond (abs_of solid.now) ≡ true }
+    requires flag { IsFlag (abs_of solid.now) (flag_in solid.now.shape.rank flag) }
+    requires le_rank { 1 ≤ solid.now.shape.rank }
+    requires sh_in_bounds { coordinates solid.now.shape ≤ length floats.now }
+    ensures { corner solid.now.shape.dimension result ≡ flag_columns (solid_on solid.now.shape solid.now.lists.now floats.now) (flag_in solid.now.shape.rank flag) }
 {
-    let d = sh.dimension;
+    let d = solid.shape.dimension;
     let mut rows = [[0.0; DIMENSION]; DIMENSION];
     let mut f = flag;
     rows[0] = loaded(floats, d, f.elements[1]);
     for i in 1..d {
-        f = turned(lists, sh, f);
+        f = turned(solid, f);
         rows[i] = loaded(floats, d, f.elements[1]);
     }
     matrix::from_columns(rows, d)
@@ -112,20 +107,18 @@ pub fn vertex_sequence(
 
 // The candidate is "columns times the inverse of the first flag's".
 pub fn candidate(
-    lists: &[u32],
-    sh: Shape,
+    solid: &Solid,
     floats: &[f64],
     flag: Flag,
     inv: [[f64; DIMENSION]; DIMENSION],
 ) -> [[f64; DIMENSION]; DIMENSION]
-    requires held { Held sh lists.now }
-    requires lists_value { diamond (abs_in sh lists.now) ≡ true }
-    requires flag { IsFlag (abs_in sh lists.now) (flag_in sh.rank flag) }
-    requires le_rank { 1 ≤ sh.rank }
-    requires sh_in_bounds { coordinates sh ≤ length floats.now }
-    ensures { corner sh.dimension result
-        ≡ mul_mat (flag_columns (solid_on sh lists.now floats.now) (flag_in sh.rank flag)) (corner sh.dimension inv) }
+    requires lists_value { diamond (abs_of solid.now) ≡ true }
+    requires flag { IsFlag (abs_of solid.now) (flag_in solid.now.shape.rank flag) }
+    requires le_rank { 1 ≤ solid.now.shape.rank }
+    requires sh_in_bounds { coordinates solid.now.shape ≤ length floats.now }
+    ensures { corner solid.now.shape.dimension result
+        ≡ mul_mat (flag_columns (solid_on solid.now.shape solid.now.lists.now floats.now) (flag_in solid.now.shape.rank flag)) (corner solid.now.shape.dimension inv) }
 {
-    let d = sh.dimension;
-    matrix::product(vertex_sequence(lists, sh, floats, flag), inv, d)
+    let d = solid.shape.dimension;
+    matrix::product(vertex_sequence(solid, floats, flag), inv, d)
 }

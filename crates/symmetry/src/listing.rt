@@ -131,7 +131,7 @@ fn try_flag(
     if !same_types(words, sh, trial.flag, trial.first) {
         return Tried::Skipped;
     }
-    let m = candidate(sh.lists(words), sh, floats, trial.flag, trial.inverse);
+    let m = candidate(&sh.solid(words), floats, trial.flag, trial.inverse);
     try_candidate(words, floats, places, trial, m, matrices, rows)
 }
 
@@ -150,7 +150,8 @@ pub fn list_members(
     ensures { SolidListed sh words.now floats.now inverse rotations room result
         matrices.old matrices.new rows.old rows.new }
 {
-    let first = Flag::first(sh.lists(words), sh);
+    let solid = sh.solid(words);
+    let first = Flag::first(&solid);
     let d = sh.dimension;
     let v = sh.vertices();
     let places = places(floats, d, v);
@@ -178,7 +179,7 @@ pub fn list_members(
             Tried::Added => n += 1,
             Tried::Short => return Err(NoRoom(n)),
         }
-        let Some(next) = flag.next(sh.lists(words), sh) else {
+        let Some(next) = flag.next(&solid) else {
             return Ok(n);
         };
         flag = next;

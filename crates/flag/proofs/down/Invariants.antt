@@ -9,4 +9,4 @@ use Rattle.flag.proofs.Flags.{Down}
 use Rattle.flag.proofs.down.Given as goal
 
 abbrev pub invariant-loop-r : goal.invariant-loop-r
-invariant-loop-r l = Down l.sh l.lists (first_to (abs_in l.sh l.lists) l.from (get_or l.fn.start l.from 0) ++ take (l.sh.rank - l.from) (drop (suc l.from) l.fn.start)) l.elements l.r
+invariant-loop-r l = Down l.solid.shape l.solid.lists.now (first_to (abs_in l.solid.shape l.solid.lists.now) l.from (get_or l.fn.start l.from 0) ++ take (l.solid.shape.rank - l.from) (drop (suc l.from) l.fn.start)) l.elements l.r

@@ -1,37 +1,47 @@
 -- Either list gives the same, since they hold the same elements between in the same order.
 -- Assumes nothing.
-use native.Mathlib.Numerals.{add-one}
-use mathlib.Core.Path.{◌≡◌, sym, ap, ◌∙◌}
-use Prim.Native.Nat.{suc, ◌-◌}
-use Rattle.spec.specs.Solid.{between}
-use Rattle.ranked.specs.Words.{first_at, abs_in, subs_word, sups_word}
-use Rattle.ranked.specs.Reading.{holding, Fork}
+use Rattle.std.proofs.Common.{rules, tests, ◌≡◌, ◌∙◌, ap, not, ◌&&◌, eqb, option_map}
+use Rattle.std.proofs.lemmas.Iterator.{YieldsList-from_slice}
+use Rattle.std.proofs.lemmas.Iterator.Search.{find_from_yields_List}
+use Rattle.spec.specs.Lists.{holds}
+use Rattle.spec.specs.Types.{subs, sups}
+use Rattle.ranked.specs.Lying.{abs_of}
+use Rattle.ranked.proofs.Chains.{serves_members}
+use Rattle.ranked.proofs.Forks.{sub_above, sup_under, down_is, up_is}
 use Rattle.flag.specs.Reading.{other_in}
-use Rattle.flag.proofs.Sides.{sides, between_is}
-use Rattle.flag.proofs.other_between.Goals.{Start}
+use Rattle.flag.proofs.Flags.{find_other}
 use Rattle.flag.proofs.other_between.Goals as goal
 
--- From the start, this is known of the two lists.
-both : (s : Start) → let a = s.args in Fork a.lists.now (subs_word (first_at a.sh (suc a.r)) a.g)
-    (sups_word (first_at a.sh (a.r - 1)) a.h) (subs_word (first_at a.sh a.r) 0) a.g a.h
-both s = let a = s.args in sides a.sh a.lists.now s.requires.held a.r s.requires.r_nonzero.0 s.requires.r_nonzero.1 _ s.requires.r_nonzero.2 _ s.requires.r_nonzero.3
+pub find-requires-clause-callable : goal.find-requires-clause-callable
+find-requires-clause-callable c =
+    let a = c.args in let s = a.solid.now in
+    serves_members c.subs-above.result.now (cc) (λ y q k. search (rules, tests)) (λ y m.
+    let in_r = sub_above s.shape s.lists.now s.held a.r c.requires.0 c.requires.1 a.g _ c.subs-above.ensures y.now m in search (rules, tests))
 
-found : (s : Start) → let a = s.args in holding a.lists.now (subs_word (first_at a.sh (suc a.r)) a.g) (subs_word (first_at a.sh a.r) 0) a.h
-    ≡ between (abs_in a.sh a.lists.now) a.r a.g a.h
-found s = let a = s.args in between_is a.sh a.lists.now s.requires.held a.r s.requires.r_nonzero.0 s.requires.r_nonzero.1 _ s.requires.r_nonzero.2 a.h
+pub find-requires-else-above-below-clause-callable : goal.find-requires-else-above-below-clause-callable
+find-requires-else-above-below-clause-callable c =
+    let a = c.args in let s = a.solid.now in
+    serves_members c.sups-below.result.now (cc) (λ y q k. search (rules, tests)) (λ y m.
+    let in_r = sup_under s.shape s.lists.now s.held a.r c.requires.0 c.requires.1 a.h _ c.sups-below.ensures y.now m in search (rules, tests))
 
-pub other_at-requires-clause-each : goal.other_at-requires-clause-each
-other_at-requires-clause-each c = rw (c.subs-above.ensures, c.subs.ensures, add-one c.args.r) (both (goal.at.other_at-requires-clause-each c).Start).ups
+pub returns-then-above-below : goal.returns-then-above-below
+returns-then-above-below c =
+    let a = c.args in let s = a.solid.now in
+    let p = λ (y : _). holds eqb a.h (subs (abs_of s) a.r y) in
+    let l = c.subs-above.result.now in
+    let as_read : c.map.result ≡ option_map (λ x. x.now) c.find.result = search (rules, tests) in
+    as_read
+    ∙ find_from_yields_List (λ y. not (eqb y a.e) && p y) _ _ c.find.result c.find.ensures.ran (YieldsList-from_slice l (cc)) (λ y t q k. search (rules, tests))
+    ∙ find_other a.e p l
+    ∙ ap (other_in a.e) (down_is s.shape s.lists.now s.held a.r c.requires.0 c.requires.1 a.g a.h l c.subs-above.ensures)
 
-pub other_at-requires-else-count_at-clause-each : goal.other_at-requires-else-count_at-clause-each
-other_at-requires-else-count_at-clause-each c = rw (c.sups-below.ensures, c.sups.ensures) (both (goal.at.other_at-requires-else-count_at-clause-each c).Start).downs
-
-pub returns-then-count_at : goal.returns-then-count_at
-returns-then-count_at c =
-    let a = c.args in
-    (rw (c.subs-above.ensures, c.subs.ensures, add-one a.r) at c.other_at.ensures) ∙ ap (other_in a.e) (found (goal.at.returns-then-count_at c).Start)
-
-pub returns-else-count_at : goal.returns-else-count_at
-returns-else-count_at c =
-    let a = c.args in
-    (rw (c.sups-below.ensures, c.sups.ensures) at c.other_at-else-count_at.ensures) ∙ ap (other_in a.e) (sym (both (goal.at.returns-else-count_at c).Start).same ∙ found (goal.at.returns-else-count_at c).Start)
+pub returns-else-above-below : goal.returns-else-above-below
+returns-else-above-below c =
+    let a = c.args in let s = a.solid.now in
+    let p = λ (y : _). holds eqb a.g (sups (abs_of s) a.r y) in
+    let l = c.sups-below.result.now in
+    let as_read : c.map-else-above-below.result ≡ option_map (λ x. x.now) c.find-else-above-below.result = search (rules, tests) in
+    as_read
+    ∙ find_from_yields_List (λ y. not (eqb y a.e) && p y) _ _ c.find-else-above-below.result c.find-else-above-below.ensures.ran (YieldsList-from_slice l (cc)) (λ y t q k. search (rules, tests))
+    ∙ find_other a.e p l
+    ∙ ap (other_in a.e) (up_is s.shape s.lists.now s.held a.r c.requires.0 c.requires.1 a.g a.h l c.requires.2 c.sups-below.ensures)

@@ -9,7 +9,6 @@ use native.Mathlib.Omega.{arith}
 use lib.ListN.{length, take, drop, set, length-map, length-append, drop_of_length-le}
 use lib.Seq.{take_at, length-take-le, drop-cons, set-append_seam}
 use lib.Ieee.{Float}
-use Rattle.spec.specs.Limits.{max_count}
 use Rattle.spec.specs.Lists.{parts, written}
 use Rattle.spec.specs.Search.{mark_of}
 use Rattle.spec.specs.Demand3Calls.{row_at}
@@ -18,7 +17,6 @@ use Rattle.ranked.specs.declared.Shape.{Shape}
 use Rattle.ranked.specs.Words.{size_at, abs_in, Held}
 use Rattle.ranked.specs.Layout.{solid_on}
 use Rattle.marks.specs.Rows.{classes_on}
-use Rattle.marks.proofs.Carried.{few_vertices}
 use Rattle.marks.specs.Marking.{marks_in, Factored}
 use Rattle.marks.proofs.products.Factors.{row_long, factored_one}
 
@@ -61,9 +59,6 @@ module _ (sh : Shape) (w : List ℕ) (fs : List Float) (rows : List ℕ) where
       -- It has an entry for each vertex.
       pub row-full : length row ≡ size_at sh 1
       row-full = ap length is ∙ row_long v k rows row_in ∙ v_is
-
-      pub row_few : Held sh w → length row ≤ max_count
-      row_few h = omega (arith, row-full, few_vertices sh w h)
 
       pub row-mark : (m : ℕ) → m ≡ mark row → m ≡ mark_at k
       row-mark m e = rw v_is at (e ∙ ap mark is)

@@ -3,11 +3,8 @@
 use native.Mathlib.Omega.{arith}
 use mathlib.Core.Path.{◌≡◌}
 use Prim.Native.Nat.{suc, ◌-◌, ◌≤◌}
-use Rattle.marks.proofs.Carried.{row-cell, vertex_lands, cells_low, element-lands}
+use Rattle.marks.proofs.Carried.{vertex_lands, cells_low, element-lands}
 use Rattle.marks.proofs.reach.Goals as goal
-
-pub bounds-row-e : goal.bounds-row-e
-bounds-row-e c = row-cell c.requires.row c.requires.rank.0 c.args.e c.requires.rank.1 c.if-r-eq1.true
 
 pub returns-then-r-eq1 : goal.returns-then-r-eq1
 returns-then-r-eq1 c = vertex_lands c.requires.row c.requires.rank.0 c.args.e c.requires.rank.1 c.if-r-eq1.true _ c.from.ensures

@@ -31,12 +31,6 @@ lies c =
 goes : (c : After-from-y) → let a = c.args in c.from-y.result ≡ get_or a.goes.now (first_at a.sh a.r + c.entry_at-f.result) 0
 goes c = rw c.start-base.ensures at c.from-y.ensures
 
-pub start-base-requires : goal.start-base-requires
-start-base-requires c = omega (arith, c.requires.r_bound.0, c.requires.held.tall)
-
-pub overflow_add-r : goal.overflow_add-r
-overflow_add-r c = omega (arith, c.requires.r_bound.0, c.requires.held.tall)
-
 pub subs-i-requires : goal.subs-i-requires
 subs-i-requires c =
     let a = c.args in
@@ -65,9 +59,6 @@ sups-j-requires c =
     let a = c.args in
     let p = c.requires.r_bound in
     (omega (arith, p.0, c.requires.held.tall), omega (arith, (over_lie a.sh a.lists.now c.requires.held a.goes.now a.r a.e p.0 p.1 p.2 c.requires.by_index _ _ (first (goal.at.sups-j-requires c).After-entry_at-f) (goes c)).head))
-
-pub overflow_add-r-2 : goal.overflow_add-r-2
-overflow_add-r-2 c = omega (arith, c.requires.r_bound.0, c.requires.held.tall)
 
 pub subs-up-requires : goal.subs-up-requires
 subs-up-requires c =

@@ -15,7 +15,7 @@ use Rattle.spec.specs.Matrix.{Vector}
 use Rattle.spec.specs.Lists.{no_repeats, parts}
 use Rattle.spec.specs.Points.{near, found, find}
 use Rattle.points.specs.Finding.{found_at}
-use Rattle.points.proofs.Parts.{length-parts, part_at, part_end}
+use Rattle.points.proofs.Parts.{length-parts, part_at}
 use Rattle.points.proofs.Finding.{is_found, is_missing}
 
 -- ---- one point after another
@@ -50,25 +50,12 @@ later (suc k) n d l =
     rw (suc-mul k d, add_comm (k * d) d, ← drop-drop (k * d) d l, suc-add k n) (later k n d (drop d l))
 
 module _ (n d i : ℕ) (l : List Float) (h : i < n) (f : n * d ≤ length l) where
-  -- The later points lie in the slice.
-  pub start_in_lem : (i + 1) * d ≤ length l
-  start_in_lem = let e : (i + 1) * d ≡ i * d + d = rw (add-one i) (suc-mul i d) in omega (arith, part_end n d i h)
-
-  whole : (n - (i + 1)) * d + (i + 1) * d ≡ n * d
-  whole = go (n - (i + 1)) (omega arith)
-    where
-      go : (k : ℕ) → i + 1 + k ≡ n → k * d + (i + 1) * d ≡ n * d
-      go k e = sym (native.Mathlib.Nat.add-mul k (i + 1) d) ∙ ap (λ (x : ℕ). x * d) (omega arith)
-
   -- This is what is left of the slice.
   abbrev rest : List Float
   rest = take (length l - (i + 1) * d) (drop ((i + 1) * d) l)
 
   rest_is : rest ≡ drop ((i + 1) * d) l
   rest_is = take_all (length l - (i + 1) * d) (drop ((i + 1) * d) l) (rw length-drop (omega arith))
-
-  pub later_in : (n - (i + 1)) * d ≤ length rest
-  later_in = rw (rest_is, length-drop) (omega (arith, whole))
 
   later_is : parts (n - (i + 1)) d rest ≡ drop (suc i) (parts n d l)
   later_is = rw rest_is (go (n - (i + 1)) (omega arith))

@@ -12,7 +12,7 @@ use Rattle.spec.specs.Limits.{max_rank, max_count}
 use Rattle.spec.specs.Lists.{eq_list}
 use Rattle.spec.specs.Types.{size, vertices}
 use Rattle.ranked.specs.declared.Shape.{Shape}
-use Rattle.ranked.specs.Words.{first_at, size_at, lists_of, abs_in, Held}
+use Rattle.ranked.specs.Words.{size_at, lists_of, abs_in, Held}
 use Rattle.ranked.specs.Layout.{fingerprints_at}
 use Rattle.ranked.specs.Marks.{Front}
 use Rattle.ranked.proofs.Solids.{size_is, number_in}
@@ -29,15 +29,8 @@ module _ {sh : Shape} {w : List ℕ} (h : Held sh w) where
   pub can_list : (r e : ℕ) → ProperElement sh r e → (r ≤ sh.rank × (e < size_at sh r)) × (size (abs_in sh w) 1 ≤ max_count)
   can_list r e m = ((omega (arith, m.under), m.inside), few_vertices (omega (arith, m.above, m.under)))
 
-  -- A rank's elements can be counted.
-  pub can_count : (r : ℕ) → r < sh.rank → (r ≤ max_rank) × (first_at sh r ≤ first_at sh (suc r))
-  can_count r k = (omega (arith, h.tall), omega (arith, h.some r (omega arith)))
-
   pub many_is : (r : ℕ) → r < sh.rank → (many : ℕ) → many ≡ size_at sh r → many ≡ size (abs_in sh w) r
   many_is r k many e = e ∙ sym (size_is sh w r (omega arith))
-
-  pub few_here : (r e : ℕ) → r < sh.rank → e < size (abs_in sh w) r → e < max_count
-  few_here r e k i = omega (arith, size_is sh w r (omega arith), h.few r (omega arith))
 
   -- An element is one that a loop over a rank comes to.
   pub element : (r e : ℕ) → 1 ≤ r → r < sh.rank → e < size (abs_in sh w) r → ProperElement sh r e

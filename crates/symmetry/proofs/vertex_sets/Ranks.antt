@@ -1,6 +1,6 @@
 -- Loops over the ranks from a on can be left early.
 -- Assumes nothing.
-use mathlib.Core.Path.{◌≡◌, refl}
+use mathlib.Core.Path.{◌≡◌}
 use mathlib.Core.Bool.{Bool, true, false}
 use Prim.Native.Nat.{ℕ, ◌+◌, ◌-◌, ◌≤◌, ◌<◌}
 use native.Mathlib.Omega.{arith}
@@ -11,9 +11,6 @@ use Rattle.ranked.proofs.Turns.{Every, range_yes, range_no, range-end}
 pub record RanksPass (p : ℕ → Bool) (a n r : ℕ) : Type 0 where
   pub low : a ≤ r
   pub rest : Every p (range a n) (r - a)
-
-pub ranks-none : (p : ℕ → Bool) (a n : ℕ) → RanksPass p a n a
-ranks-none p a n = let z : a - a ≡ 0 = omega arith in record { low = omega arith; rest = rw z refl }
 
 module _ {p : ℕ → Bool} {a n r : ℕ} (t : RanksPass p a n r) where
   pub ranks_yes : r < a + n → p r ≡ true → RanksPass p a n (r + 1)

@@ -37,9 +37,6 @@ module _ {sh : Shape} {r first many : ℕ} {old new : List ℕ} {e : ℕ} (t : E
   pub elements_held : Held sh (lists_of sh new)
   elements_held = rw elements-lists h
 
-  pub elements-low : sh.low ≤ length new
-  elements-low = omega (arith, t.long)
-
   pub element_here : e < many → ProperElement sh r e
   element_here k = record { above = proper.0; under = proper.1; inside = omega (arith, t.many_is) }
 

@@ -1,6 +1,5 @@
 -- This file says what a list of an element's vertices is, and follows the scans of a rank's vertex sets.
 -- Assumes nothing.
-use Rattle.std.specs.Cmp.Lexicographic.{pointwise}
 use mathlib.Core.Path.{◌≡◌, refl, sym, ap, ◌∙◌}
 use mathlib.Core.Logic.{◌≢◌, inl, inr}
 use mathlib.Core.Bool.{Bool, true, false, not, ◌&&◌}
@@ -18,16 +17,6 @@ use Rattle.laws.proofs.Distinct.{Split, split}
 use Rattle.laws.proofs.Counts.{lists, in_keep}
 use Rattle.ranked.specs.Marks.{Front}
 use Rattle.symmetry.specs.Fingerprints.{fingerprint_of}
-
--- ---- equal lists
-
--- The library compares lists as the definition does.
-pub same_lists : (l m : List ℕ) → pointwise eqb l m ≡ eq_list l m
-unfolding eq_list
-same_lists [] [] = refl
-same_lists [] (y ∷ m) = refl
-same_lists (x ∷ l) [] = refl
-same_lists (x ∷ l) (y ∷ m) = ap (λ b. eqb x y && b) (same_lists l m)
 
 -- ---- an element's vertices
 

@@ -9,6 +9,6 @@ use Rattle.flag.proofs.Flag.change.Goals as goal
 
 pub returns : goal.returns
 returns c =
-    let a = c.args in
-    changed a.sh a.lists.now a.self.elements a.r c.requires.r_nonzero.0 c.requires.r_nonzero.1 _
+    let a = c.args in let s = a.solid.now in
+    changed s.shape s.lists.now a.self.elements a.r c.requires.r_nonzero.0 c.requires.r_nonzero.1 _
     (c.unwrap_or.ensures ∙ ap (λ o. unwrap_or o (get_or a.self.elements a.r 0)) (rw add-one at c.other_between.ensures) ∙ other-found _ _)

@@ -10,5 +10,5 @@ use Rattle.flag.proofs.Flag.first.Goals as goal
 
 pub returns : goal.returns
 returns c =
-    let a = c.args in
-    c.down.ensures ∙ top-down a.sh a.lists.now c.requires (replicate {A = ℕ} (suc max_rank) 0) (get_or-replicate {A = ℕ} (suc max_rank) a.sh.rank 0 0 (omega (arith, c.requires.tall)))
+    let s = c.args.solid.now in
+    (rw c.rank.ensures at c.down.ensures) ∙ top-down s.shape s.lists.now s.held (replicate {A = ℕ} (suc max_rank) 0) (get_or-replicate {A = ℕ} (suc max_rank) s.shape.rank 0 0 (omega (arith, s.held.tall)))

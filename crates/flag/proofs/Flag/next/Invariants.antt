@@ -8,4 +8,4 @@ use Rattle.flag.proofs.Order.{Last}
 use Rattle.flag.proofs.Flag.next.Given as goal
 
 abbrev pub invariant-loop-r : goal.invariant-loop-r
-invariant-loop-r l = Last (take (suc l.r) l.self.elements) (flags_to (abs_in l.sh l.lists) l.r (get_or l.self.elements l.r 0))
+invariant-loop-r l = Last (take (suc l.r) l.self.elements) (flags_to (abs_in l.solid.shape l.solid.lists.now) l.r (get_or l.self.elements l.r 0))

@@ -1,25 +1,11 @@
 use native.Mathlib.Omega.{arith}
-use Rattle.marks.proofs.products.Marked.{row_in, row-mark, loop_first, loop_end, next_in, loop_next}
+use Rattle.marks.proofs.products.Marked.{row-mark, loop_first, loop_end, next_in, loop_next}
 use Rattle.marks.proofs.products.mark_few.Goals as goal
 
 pub loop-k-init : goal.loop-k-init
 loop-k-init c =
     let a = c.args in
     loop_first a.sh a.lists.now a.floats.now a.rows.now a.marks.now
-
-pub row_at-requires : goal.row_at-requires
-row_at-requires c =
-    let a = c.args in
-    row_in a.sh a.lists.now a.floats.now a.rows.now _ _ c.vertices-v.ensures (next_in a.sh a.lists.now a.floats.now a.rows.now _ _ c.loop-k-test.true c.requires.sh_in_bounds)
-
-pub mark-requires : goal.mark-requires
-mark-requires c =
-    let p = c.requires.markable in
-    record {
-      held = (p.0.held, p.0.classes);
-      apart_value = p.1;
-      row_len = (omega (arith, c.row_at.ensures.len, c.vertices-v.ensures), omega (arith, p.0.room, c.loop-k.auto.goes));
-    }
 
 pub loop-k-preserved : goal.loop-k-preserved
 loop-k-preserved c =

@@ -2,7 +2,7 @@ use native.Mathlib.Omega.{arith}
 use Prim.Native.Nat.{◌≤◌}
 use lib.ListN.{length}
 use lib.Seq.{length-take-le}
-use Rattle.marks.proofs.products.Marked.{row_in, loop_first, loop_end, next_in, done_are, loop_next}
+use Rattle.marks.proofs.products.Marked.{loop_first, loop_end, next_in, done_are, loop_next}
 use Rattle.marks.proofs.products.mark_many.Goals as goal
 
 pub loop-k-init : goal.loop-k-init
@@ -21,11 +21,6 @@ mark_next-m-requires c =
       sh_in_bounds = rw (length-take-le k c.loop-k.marks within) next;
       done_value = done_are a.sh a.lists.now a.floats.now a.rows.now _ c.loop-k.marks k c.loop-k.invariant within;
     }
-
-pub row_at-requires : goal.row_at-requires
-row_at-requires c =
-    let a = c.args in
-    row_in a.sh a.lists.now a.floats.now a.rows.now _ _ c.vertices-v.ensures (next_in a.sh a.lists.now a.floats.now a.rows.now _ _ c.loop-k-test.true c.requires.sh_in_bounds)
 
 pub loop-k-preserved : goal.loop-k-preserved
 loop-k-preserved c =

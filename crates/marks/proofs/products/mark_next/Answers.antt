@@ -2,13 +2,8 @@
 -- Assumes nothing.
 use mathlib.Core.Path.{refl, sym}
 use lib.ListN.{length}
-use Rattle.marks.proofs.products.Marked.{row_in, row_known, row-full, row_few}
+use Rattle.marks.proofs.products.Marked.{row_known, row-full}
 use Rattle.marks.proofs.products.mark_next.Goals as goal
-
-pub is_known-requires : goal.is_known-requires
-is_known-requires c =
-    let a = c.args in
-    row_in a.sh a.lists.now a.floats.now a.rows.now _ (length a.done.now) c.vertices-v.ensures c.requires.sh_in_bounds
 
 pub returns-then-is_known : goal.returns-then-is_known
 returns-then-is_known c =
@@ -25,8 +20,3 @@ mark-m-requires c =
       apart_value = sym p.1;
       row_len = (row-full a.sh a.lists.now a.floats.now a.rows.now _ _ c.vertices-v.ensures c.requires.sh_in_bounds _ c.row_at-row.ensures.value, p.0.room);
     }
-
-pub join-requires : goal.join-requires
-join-requires c =
-    let a = c.args in
-    row_few a.sh a.lists.now a.floats.now a.rows.now _ _ c.vertices-v.ensures c.requires.sh_in_bounds _ c.row_at-row.ensures.value c.requires.markable.0.held

@@ -1,13 +1,15 @@
 -- Assumes nothing.
-use Rattle.std.proofs.Common.{rules, tests, arith, sym, ◌∙◌, ◌-◌}
-use Rattle.ranked.specs.Words.{first_at, size_at}
+use Rattle.std.proofs.Common.{rules, tests, arith, ◌∙◌, ◌-◌}
+use Rattle.spec.specs.Types.{top}
+use Rattle.ranked.specs.Lying.{abs_of}
 use Rattle.ranked.proofs.Chains.{all_numbers}
-use Rattle.preflight.specs.Check.{bound_in}
+use Rattle.ranked.proofs.Solids.{top_is}
+use Rattle.preflight.specs.Check.{bound_rank}
 use Rattle.preflight.proofs.check.Refusals.{bound_is}
 use Rattle.preflight.proofs.check.is_bound.Goals as goal
 
 pub returns : goal.returns
 returns c =
-    let a = c.args in
-    all_numbers (λ r. bound_in a.lists.now (first_at a.sh r) (size_at a.sh r)) 1 (a.sh.rank - 1) (a.sh.rank - 2) (cc) (omega arith) c.all.ensures.ran (λ r t q k. search (rules, tests))
-    ∙ sym (bound_is a.sh a.lists.now c.requires)
+    let s = c.args.solid.now in
+    all_numbers (bound_rank (abs_of s)) 1 (s.shape.rank - 1) (top (abs_of s) - 2) (cc) (omega (arith, top_is s.shape s.lists.now)) c.all.ensures.ran (λ r t q k. search (rules, tests))
+    ∙ bound_is (abs_of s)

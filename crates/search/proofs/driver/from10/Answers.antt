@@ -28,9 +28,6 @@ found : (c : In_ok-f) → let sh = c.args.sh in (2 ≤ sh.rank) × (c.in_ok-f.f 
 found c =
     facet_in c.args.sh c.args.words.now c.args.floats.now c.requires.le_rank _ (rw c.lists.ensures at c.first_far.ensures) _ (some-is c)
 
-pub lists-requires : goal.lists-requires
-lists-requires c = c.requires.bench.words_in
-
 pub first_far-requires : goal.first_far-requires
 first_far-requires c = record {
   held = rw c.lists.ensures c.requires.bench.held;

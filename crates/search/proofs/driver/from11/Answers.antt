@@ -18,7 +18,7 @@ use Rattle.ranked.specs.Words.{abs_in}
 use Rattle.ranked.specs.Layout.{solid_on, solid_in}
 use Rattle.symmetry.specs.Tails.{out_of}
 use Rattle.symmetry.specs.Listing.{number_of}
-use Rattle.search.proofs.Benched.{coordinates_in, fingerprints_in, searching, marks_ready}
+use Rattle.search.proofs.Benched.{fingerprints_in, searching, marks_ready}
 use Rattle.search.proofs.Steps.{missing, given, singular, not_finite, not_flat}
 use Rattle.search.proofs.Kept.{marks_asked, all_listed}
 use Rattle.search.proofs.driver.from11.Goals.{After-first_inverse, In_ok-inverse, After-unwrap_or_else-n, Start}
@@ -51,17 +51,6 @@ told (Err e) n h = h
 -- So many members are listed.
 number : (c : After-unwrap_or_else-n) → c.unwrap_or_else-n.result ≡ number_of c.list_members-listed.result
 number c = told c.list_members-listed.result _ (search rules)
-
-pub lists-requires : goal.lists-requires
-lists-requires c = c.requires.bench.words_in
-
-pub first_inverse-requires : goal.first_inverse-requires
-first_inverse-requires c = rw c.lists.ensures (record {
-  held = c.requires.bench.held;
-  lists_value = c.requires.bench.diamonds;
-  le_rank = c.requires.le_rank.0;
-  sh_in_bounds = coordinates_in c.requires.bench;
-})
 
 pub returns-in_err-inverse : goal.returns-in_err-inverse
 returns-in_err-inverse c =

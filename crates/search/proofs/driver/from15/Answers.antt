@@ -4,9 +4,6 @@ use Rattle.laws.proofs.Stopped.{stopped}
 use Rattle.search.proofs.Steps.{typed_bench, typed_classes, typed_parted, unsettled, settled}
 use Rattle.search.proofs.driver.from15.Goals as goal
 
-pub types_of-requires : goal.types_of-requires
-types_of-requires c = c.requires.bench
-
 pub from11-requires : goal.from11-requires
 from11-requires c =
     let e = c.types_of.ensures in

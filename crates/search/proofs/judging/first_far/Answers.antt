@@ -1,30 +1,9 @@
-use native.Mathlib.Omega.{arith}
-use mathlib.Core.Path.{refl}
 use mathlib.Core.Bool.{true, false}
-use Prim.Native.Nat.{◌-◌}
 use lib.Ieee.{of_bits}
 use Rattle.spec.specs.Float.{eps}
 use Rattle.ranked.specs.Layout.{solid_on}
 use Rattle.search.proofs.Tested.{far-found, far-next, far-end, test_is}
 use Rattle.search.proofs.judging.first_far.Goals as goal
-
-pub size-f-end-requires : goal.size-f-end-requires
-unfolding of_bits eps
-size-f-end-requires c =
-    let k = c.requires.held.some (c.args.sh.rank - 1) (omega arith) in
-    (omega (arith, c.requires.held.tall), omega (arith, k))
-
-pub loop-f-init : goal.loop-f-init
-unfolding of_bits eps
-loop-f-init c = refl
-
-pub element_distance-requires : goal.element_distance-requires
-unfolding of_bits eps
-element_distance-requires c = record {
-  held = c.requires.held;
-  le_r = (omega (arith, c.requires.le_rank), omega arith, omega (arith, c.size-f-end.ensures, c.loop-f-test.true));
-  sh_in_bounds = c.requires.sh_in_bounds;
-}
 
 pub returns-then-element_distance : goal.returns-then-element_distance
 unfolding of_bits eps

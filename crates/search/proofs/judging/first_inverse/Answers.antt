@@ -18,15 +18,11 @@ is-flag c = rw c.first-first.ensures (every_first _ c.requires.held.sound c.requ
 
 pub vertex_sequence-requires : goal.vertex_sequence-requires
 vertex_sequence-requires c = record {
-  held = c.requires.held;
   lists_value = c.requires.lists_value;
-  flag = is-flag c;
+  flag = is-flag (goal.at.vertex_sequence-requires c).After-first-first;
   le_rank = omega (arith, c.requires.le_rank);
   sh_in_bounds = c.requires.sh_in_bounds;
 }
-
-pub inverse-requires : goal.inverse-requires
-inverse-requires c = c.requires.held.wide
 
 pub returns : goal.returns
 returns c =

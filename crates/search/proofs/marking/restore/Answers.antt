@@ -1,7 +1,6 @@
 -- Where facet 0 was searched from, or R = 2, there is nothing to do; else the facets go back, and the classes and the fingerprints are worked out.
 -- Assumes nothing.
 use Rattle.preflight.specs.Bench.{Bench}
-use Rattle.preflight.proofs.Benches.{laid}
 use Rattle.geometry.proofs.elements.Room.{roomy-floats}
 use Rattle.search.proofs.Benched.{exchanged-none, exchanged-vertices, fingerprints_in, back_bench, restored}
 use Rattle.search.proofs.marking.restore.Goals.{After-exchange}
@@ -21,15 +20,6 @@ returns-then-f-eq0 c =
         | then-f-eq0-via-else-f-eq0+then-sh-eq2 w ↦ exchanged-vertices c.requires.marks_ready.bench _ c.requires.le_rank w.if-sh-eq2.true
       ];
     }
-
-pub exchange-requires : goal.exchange-requires
-exchange-requires c = record {
-  laid = laid c.requires.marks_ready.bench;
-  le_rank = c.requires.le_rank;
-}
-
-pub lists-requires : goal.lists-requires
-lists-requires c = (back (goal.at.lists-requires c).After-exchange).words_in
 
 pub all_classes-requires : goal.all_classes-requires
 all_classes-requires c =

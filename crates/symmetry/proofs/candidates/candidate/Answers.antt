@@ -13,7 +13,6 @@ use Rattle.symmetry.proofs.candidates.candidate.Goals as goal
 
 pub vertex_sequence-requires : goal.vertex_sequence-requires
 vertex_sequence-requires c = record {
-  held = c.requires.held;
   lists_value = c.requires.lists_value;
   flag = c.requires.flag;
   le_rank = c.requires.le_rank;
@@ -21,14 +20,14 @@ vertex_sequence-requires c = record {
 }
 
 pub product-requires : goal.product-requires
-product-requires c = c.requires.held.wide
+product-requires c = c.args.solid.now.held.wide
 
 pub returns : goal.returns
 returns c =
     let a = c.args in
-    let d = a.sh.dimension in
-    let wide = c.requires.held.wide in
+    let d = a.solid.now.shape.dimension in
+    let wide = c.args.solid.now.held.wide in
     let long : length c.vertex_sequence.result ≡ max_dimension = search rules in
     let long₂ : length a.inv ≡ max_dimension = search rules in
     corner-product d (corner d c.vertex_sequence.result) (length-corner d c.vertex_sequence.result (omega arith)) (corner d a.inv) _ (length-corner d a.inv (omega arith)) c.product.ensures
-    ∙ ap (λ (m : Matrix). mul_mat m (corner a.sh.dimension a.inv)) c.vertex_sequence.ensures
+    ∙ ap (λ (m : Matrix). mul_mat m (corner a.solid.now.shape.dimension a.inv)) c.vertex_sequence.ensures

@@ -1,6 +1,6 @@
 use borrow.Author.Tests.{eq-eqb, ne_eqb}
 use native.Mathlib.Omega.{arith}
-use mathlib.Core.Path.{◌≡◌, refl, sym, ap, ◌∙◌}
+use mathlib.Core.Path.{◌≡◌, sym, ap, ◌∙◌}
 use mathlib.Core.List.{List}
 use Prim.Native.Nat.{ℕ, suc, ◌+◌, ◌<◌}
 use lib.ListN.{length, get_or}
@@ -20,23 +20,11 @@ read : (t : After-types-types) (els : List ℕ) (y : ℕ) → let a = t.args in 
     → y ≡ get_or a.words.now (types_at a.sh t.loop-r.r + get_or els t.loop-r.r 0) 0
 read t els y q = q ∙ ap (λ (p : ℕ). get_or t.args.words.now (p + get_or els t.loop-r.r 0) 0) t.types-types.ensures
 
-pub loop-r-init : goal.loop-r-init
-loop-r-init c = refl
-
-pub types-types-requires : goal.types-types-requires
-types-types-requires c = (omega (arith, c.loop-r-test.true, c.requires.held.tall), omega (arith, word c))
-
-pub bounds-flag-r : goal.bounds-flag-r
-bounds-flag-r c = omega (arith, c.loop-r-test.true, c.requires.held.tall)
-
 pub overflow_add-types : goal.overflow_add-types
 overflow_add-types c = omega (arith, c.types-types.ensures, word (goal.at.overflow_add-types c).In-loop-r)
 
 pub get-requires : goal.get-requires
 get-requires c = omega (arith, c.types-types.ensures, word (goal.at.get-requires c).In-loop-r)
-
-pub bounds-first-r : goal.bounds-first-r
-bounds-first-r c = omega (arith, c.loop-r-test.true, c.requires.held.tall)
 
 pub overflow_add-types-in-loop-r : goal.overflow_add-types-in-loop-r
 overflow_add-types-in-loop-r c = omega (arith, c.types-types.ensures, word-2 (goal.at.overflow_add-types-in-loop-r c).In-loop-r)

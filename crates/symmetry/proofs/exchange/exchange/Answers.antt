@@ -38,7 +38,7 @@ returns c =
     let e = c.derive_sups.ensures in
     let k = c.derive_sups.auto.words in
     record {
-      words_after = solid₂ _ c.args.words.now c.requires.laid _ c.requires.le_rank _ c.subs-i.ensures _ c.subs-j.ensures _ c.swap_lists.ensures _ k e.held e.words_after e.stored_2 e.words_unchanged e.words_unchanged_2;
-      laid_after = laid₂ _ c.args.words.now c.requires.laid _ c.requires.le_rank _ c.subs-i.ensures _ c.subs-j.ensures _ c.swap_lists.ensures _ k e.held e.words_after e.stored_2 e.words_unchanged e.words_unchanged_2;
-      words_unchanged = past₂ _ c.args.words.now c.requires.laid _ c.requires.le_rank _ c.subs-i.ensures _ c.subs-j.ensures _ c.swap_lists.ensures _ k e.held e.words_after e.stored_2 e.words_unchanged e.words_unchanged_2;
+      words_after = solid₂ _ c.args.words.now c.requires.laid _ c.requires.le_rank _ c.subs-i.ensures _ c.subs-j.ensures _ c.swap_lists.ensures _ k e.held e.words_after e.stored_after e.words_unchanged e.rest_unchanged;
+      laid_after = laid₂ _ c.args.words.now c.requires.laid _ c.requires.le_rank _ c.subs-i.ensures _ c.subs-j.ensures _ c.swap_lists.ensures _ k e.held e.words_after e.stored_after e.words_unchanged e.rest_unchanged;
+      words_unchanged = past₂ _ c.args.words.now c.requires.laid _ c.requires.le_rank _ c.subs-i.ensures _ c.subs-j.ensures _ c.swap_lists.ensures _ k e.held e.words_after e.stored_after e.words_unchanged e.rest_unchanged;
     }

@@ -3,7 +3,6 @@
 use mathlib.Core.Path.{refl}
 use mathlib.Core.Logic.{◌⊎◌, inl, inr}
 use Prim.Native.Nat.{ℕ, ◌≤◌, ◌<◌}
-use native.Mathlib.Nat.{mul-le-mul_left}
 use native.Mathlib.Omega.{arith}
 use borrow.Author.Rules.{rules}
 use borrow.Author.Tests.{le-leb, lt-leb}
@@ -15,9 +14,6 @@ use Rattle.symmetry.proofs.listing.has_room.Goals as goal
 past : {n floats v entries : ℕ} → ((n ≤ floats) × (entries < v)) ⊎ (floats < n) → n ≤ floats → entries < v
 past (inl p) h = p.1
 past (inr p) h = absurd (omega arith)
-
-pub overflow_mul-d : goal.overflow_mul-d
-overflow_mul-d c = omega (arith, mul-le-mul_left c.args.d c.requires, c.requires)
 
 pub returns-then-v-entries : goal.returns-then-v-entries
 unfolding fits

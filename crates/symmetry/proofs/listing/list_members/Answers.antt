@@ -19,13 +19,13 @@ use Rattle.symmetry.specs.declared.listing.Tried.TheVariants.{Skipped, Added}
 use Rattle.symmetry.proofs.Bounds.{vertices_few, coordinates_in, points-read}
 use Rattle.symmetry.proofs.Members.{Tally, tally_first, tally_end, inside, tally_skipped, tally_added, tally_short}
 use Rattle.symmetry.proofs.Turning.{flags-first, flags-end, later, flags-at, flags-next, fewer}
-use Rattle.symmetry.proofs.listing.list_members.Goals.{After-first-first, After-next, After-try_flag-tried, After-vertices-v, At-loop-n, Joined-tried, Start, in-Skipped, in-Added}
+use Rattle.symmetry.proofs.listing.list_members.Goals.{After-first-first, After-next, After-try_flag-tried, After-vertices-v, At-loop-n, Start, in-Skipped, in-Added}
 use Rattle.symmetry.proofs.listing.list_members.Goals as goal
 
 -- The first flag is that of the solid.
 first_is : (f : After-first-first) → let a = f.args in
     flag_in a.sh.rank f.first-first.result ≡ first_flag (abs_in a.sh (lists_of a.sh a.words.now))
-first_is f = rw f.lists.ensures at f.first-first.ensures
+first_is f = rw (f.solid-solid.ensures.shape, f.solid-solid.ensures.lists) at f.first-first.ensures
 
 tall : (s : Start) → s.args.sh.dimension ≤ length s.args.inverse
 tall s = let k : length s.args.inverse ≡ max_dimension = search rules in omega (arith, k, s.requires.bench.held.wide)
@@ -118,22 +118,10 @@ added t r =
 -- The flag that is asked for follows the present one in the solid.
 next_is : (x : After-next) → let a = x.args in
     Follows (abs_in a.sh (lists_of a.sh a.words.now)) (flag_in a.sh.rank x.loop-n.flag) (option_map (flag_in a.sh.rank) x.next.result)
-next_is x = rw x.lists-in-loop-n.ensures at x.next.ensures
+next_is x = rw (x.solid-solid.ensures.shape, x.solid-solid.ensures.lists) at x.next.ensures
 
--- Where the flag after it is asked for, the flags after it are to come.
-follows : (m : Joined-tried) → let t = (goal.at.lists-requires-in-loop-n m).After-try_flag-tried in TalliedAfter t m.match-tried.n (remaining t)
-follows m =
-    let t = (goal.at.lists-requires-in-loop-n m).After-try_flag-tried in
-    elim m.match-tried.branch [
-      | in-Skipped w ↦ subst (λ n. TalliedAfter t n (remaining t)) (sym w.n-is) (skipped t w.in-Skipped.is)
-      | in-Added w ↦ subst (λ n. TalliedAfter t n (remaining t)) (sym w.n-is) (added t w.in-Added.is)
-    ]
-
-pub lists-requires : goal.lists-requires
-lists-requires c = c.requires.bench.words_in
-
-pub first-first-requires : goal.first-first-requires
-first-first-requires c = rw c.lists.ensures c.requires.bench.held
+pub solid-solid-requires : goal.solid-solid-requires
+solid-solid-requires c = record { held = c.requires.bench.held; low_in_bounds = c.requires.bench.words_in }
 
 pub places-places-requires : goal.places-places-requires
 places-places-requires c = points-requires c
@@ -195,15 +183,9 @@ returns-in-Short r x =
     tally_short a.sh a.words.now a.floats.now a.inverse (tall (goal.at.returns-in-Short r).Start) a.rotations a.room r.vertices-v.result r.vertices-v.ensures a.matrices.now a.rows.now r.loop-n.matrices r.loop-n.rows r.loop-n.n (flag (goal.at.returns-in-Short r).At-loop-n) (rest (goal.at.returns-in-Short r).At-loop-n) (tallied (goal.at.returns-in-Short r).At-loop-n)
     r.try_flag-tried.result r.try_flag-tried.new.matrices r.try_flag-tried.new.rows r.try_flag-tried.ensures r.in-Short.is x
 
-pub lists-requires-in-loop-n : goal.lists-requires-in-loop-n
-lists-requires-in-loop-n c = c.requires.bench.words_in
-
 pub next-requires : goal.next-requires
 next-requires c =
-    rw c.lists-in-loop-n.ensures (record {
-      held = c.requires.bench.held;
-      flag = is-flag (goal.at.next-requires c).At-loop-n;
-    })
+    rw (c.solid-solid.ensures.shape, c.solid-solid.ensures.lists) (is-flag (goal.at.next-requires c).At-loop-n)
 
 pub loop-n-smaller : goal.loop-n-smaller
 loop-n-smaller c =
@@ -212,13 +194,21 @@ loop-n-smaller c =
 
 pub loop-n-preserved : goal.loop-n-preserved
 loop-n-preserved c =
+    let t = (goal.at.loop-n-preserved c).After-try_flag-tried in
     flags-next c.args.sh (lists_of c.args.sh c.args.words.now) c.requires.bench.held (Tallied (goal.at.loop-n-preserved c).At-loop-n) (flag (goal.at.loop-n-preserved c).At-loop-n) c.loop-n.invariant
     _ (next_is (goal.at.loop-n-preserved c).After-next) (flag_in c.args.sh.rank c.in-Some.next) (ap (option_map (flag_in c.args.sh.rank)) c.in-Some.is)
-    (TalliedAfter (goal.at.loop-n-preserved c).After-try_flag-tried c.match-tried.n) (follows (goal.at.loop-n-preserved c).Joined-tried)
+    (TalliedAfter t c.match-tried.n) (elim c.match-tried.branch [
+      | in-Skipped w ↦ subst (λ n. TalliedAfter t n (remaining t)) (sym w.n-is) (skipped t w.in-Skipped.is)
+      | in-Added w ↦ subst (λ n. TalliedAfter t n (remaining t)) (sym w.n-is) (added t w.in-Added.is)
+    ])
 
 pub returns-in_default : goal.returns-in_default
 returns-in_default r y =
     let a = r.args in
+    let t = (goal.at.returns-in_default r).After-try_flag-tried in
     tally_end a.sh a.words.now a.floats.now a.inverse (tall (goal.at.returns-in_default r).Start) a.rotations a.room r.vertices-v.result r.vertices-v.ensures a.matrices.now a.rows.now (matrices (goal.at.returns-in_default r).After-try_flag-tried) (rows (goal.at.returns-in_default r).After-try_flag-tried) r.match-tried.n
     (flags-end a.sh (lists_of a.sh a.words.now) r.requires.bench.held (Tallied (goal.at.returns-in_default r).At-loop-n) (flag (goal.at.returns-in_default r).At-loop-n) r.loop-n.invariant
-    _ (next_is (goal.at.returns-in_default r).After-next) (ap (option_map (flag_in a.sh.rank)) r.in_default.is) (TalliedAfter (goal.at.returns-in_default r).After-try_flag-tried r.match-tried.n) (follows (goal.at.returns-in_default r).Joined-tried)) y
+    _ (next_is (goal.at.returns-in_default r).After-next) (ap (option_map (flag_in a.sh.rank)) r.in_default.is) (TalliedAfter t r.match-tried.n) (elim r.match-tried.branch [
+      | in-Skipped w ↦ subst (λ n. TalliedAfter t n (remaining t)) (sym w.n-is) (skipped t w.in-Skipped.is)
+      | in-Added w ↦ subst (λ n. TalliedAfter t n (remaining t)) (sym w.n-is) (added t w.in-Added.is)
+    ])) y

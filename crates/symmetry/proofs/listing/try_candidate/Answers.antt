@@ -70,14 +70,6 @@ returns-then-not-determinant c x i =
     candidate-turned (solid (goal.at.returns-then-not-determinant c).Start) (types (goal.at.returns-then-not-determinant c).Start) (matrix (goal.at.returns-then-not-determinant c).Start) a.trial.rotations (shape (goal.at.returns-then-not-determinant c).Start).dimension (size_at (shape (goal.at.returns-then-not-determinant c).Start) 1) a.trial.left a.matrices.now a.rows.now x i
     c.if-trial.true (ap (lt zero_f) (sym c.determinant.ensures) ∙ c.if-not-determinant.true)
 
-pub passes-requires : goal.passes-requires
-passes-requires c =
-    record {
-      searching = c.requires.searching;
-      sh_in_bounds = vertices_few c.requires.searching;
-      guesses = c.requires.guesses;
-    }
-
 pub returns-then-not-passes : goal.returns-then-not-passes
 returns-then-not-passes c x i =
     let a = c.args in

@@ -48,14 +48,13 @@ returns-then-not-same_types c x =
     a.trial.rotations (shape (goal.at.returns-then-not-same_types c).Start).dimension (size_at (shape (goal.at.returns-then-not-same_types c).Start) 1) a.trial.left a.matrices.now a.rows.now x (inverse (goal.at.returns-then-not-same_types c).Start)
     (sym c.if-not-same_types.true ∙ c.same_types.ensures)
 
-pub lists-requires : goal.lists-requires
-lists-requires c = c.requires.searching.bench.words_in
+pub solid-requires : goal.solid-requires
+solid-requires c = record { held = c.requires.searching.bench.held; low_in_bounds = c.requires.searching.bench.words_in }
 
 pub candidate-m-requires : goal.candidate-m-requires
 candidate-m-requires c =
     let h = c.requires.searching in
-    rw c.lists.ensures (record {
-      held = h.bench.held;
+    rw (c.solid.ensures.shape, c.solid.ensures.lists) (record {
       lists_value = h.bench.diamonds;
       flag = c.requires.flag;
       le_rank = omega (arith, h.tall);
@@ -73,5 +72,5 @@ returns c x =
     let a = c.args in
     flag_is (solid (goal.at.returns c).Start) (shape (goal.at.returns c).Start).rank (ranks_are (shape (goal.at.returns c).Start) (lists_of (shape (goal.at.returns c).Start) a.words.now)) (state_in (shape (goal.at.returns c).Start) a.words.now) (flag (goal.at.returns c).Start) (first (goal.at.returns c).Start) c.requires.first_value
     a.trial.rotations (shape (goal.at.returns c).Start).dimension (size_at (shape (goal.at.returns c).Start) 1) a.trial.left a.matrices.now a.rows.now x (inverse (goal.at.returns c).Start)
-    (sym c.if-not-same_types.false ∙ c.same_types.ensures) (corner (shape (goal.at.returns c).Start).dimension c.candidate-m.result) (rw c.lists.ensures at c.candidate-m.ensures)
+    (sym c.if-not-same_types.false ∙ c.same_types.ensures) (corner (shape (goal.at.returns c).Start).dimension c.candidate-m.result) (rw (c.solid.ensures.shape, c.solid.ensures.lists) at c.candidate-m.ensures)
     c.try_candidate.result c.try_candidate.new.matrices c.try_candidate.new.rows (c.try_candidate.ensures x (inverse (goal.at.returns c).Start))

@@ -4,7 +4,7 @@ use Prim.Native.Nat.{◌+◌, ◌*◌, ◌≤◌, ◌<◌, ◌-◌}
 use native.Mathlib.Nat.{zero-mul, suc-mul}
 use native.Mathlib.Numerals.{add-one}
 use native.Mathlib.Omega.{arith}
-use lib.ListN.{length, get_or, take, length-append, length-drop}
+use lib.ListN.{length, get_or, take, length-append}
 use lib.Seq.{length-take-le}
 use lib.Ieee.{binary64}
 use denote.Floats.{FloatOf}
@@ -15,7 +15,6 @@ use Rattle.spec.specs.Lists.{join, written}
 use Rattle.matrix.specs.Reading.{leading, corner}
 use Rattle.points.proofs.Parts.{part_end}
 use Rattle.matrix.proofs.Sized.{wide}
-use Rattle.points.proofs.Tails.{tail_is}
 use Rattle.points.proofs.Tails.{part-written}
 use Rattle.symmetry.proofs.Rows.{rows_next}
 use Rattle.symmetry.proofs.writing.put_matrix.Goals.{In-loop-i, Start}
@@ -26,30 +25,9 @@ row-end : (c : In-loop-i) → c.loop-i.i * c.args.d + c.args.d ≤ length c.loop
 row-end c =
     omega (arith, part_end c.args.d c.args.d c.loop-i.i c.loop-i-test.true, c.requires.1, c.loop-i.invariant.1)
 
-short : (c : Start) → length c.args.out.now < 0x1000_0000_0000_0000
-short c = omega arith
-
 pub loop-i-init : goal.loop-i-init
 unfolding written join leading
 loop-i-init c = (search rules, refl, refl, sym (zero-mul c.args.d))
-
-pub overflow_mul-i : goal.overflow_mul-i
-overflow_mul-i c = omega (arith, row-end c, short (goal.at.overflow_mul-i c).Start, c.loop-i.invariant.1)
-
-pub offset_bounds-out-i : goal.offset_bounds-out-i
-offset_bounds-out-i c = omega (arith, row-end c, short (goal.at.offset_bounds-out-i c).Start, c.loop-i.invariant.1)
-
-pub slice_bounds-put-count : goal.slice_bounds-put-count
-slice_bounds-put-count c = omega (arith, row-end c)
-
-pub slice_bounds-put-start : goal.slice_bounds-put-start
-slice_bounds-put-start c = omega (arith, row-end c)
-
-pub put-requires : goal.put-requires
-put-requires c =
-    let at = c.loop-i.i * c.args.d in
-    let e = row-end (goal.at.put-requires c).In-loop-i in
-    (c.requires.0, rw (tail_is c.loop-i.out [] at (omega (arith, e))) (omega (arith, e, length-drop at c.loop-i.out)))
 
 pub loop-i-preserved : goal.loop-i-preserved
 loop-i-preserved c =

@@ -1,4 +1,4 @@
--- The loop's invariant is that the first i rows, i * d cells, are in place. The measure is what is left of d.
+-- The loop's invariant is that the first i rows, i * d cells, are in place.
 -- Assumes nothing.
 use mathlib.Core.Path.{◌≡◌}
 use Prim.Native.Nat.{◌*◌, ◌≤◌}

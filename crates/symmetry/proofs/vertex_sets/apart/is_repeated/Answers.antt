@@ -9,7 +9,7 @@ use lib.ListN.{drop}
 use Rattle.spec.specs.Lists.{holds, eq_list}
 use Rattle.spec.specs.Types.{vertex_sets}
 use Rattle.ranked.specs.Words.{lists_of, abs_in, Held}
-use Rattle.symmetry.proofs.vertex_sets.Looks.{can_list, list_is, list-room, list-part, list_short}
+use Rattle.symmetry.proofs.vertex_sets.Looks.{can_list, list_is, list_short}
 use Rattle.symmetry.proofs.vertex_sets.apart.is_repeated.Goals.{After-lists}
 use Rattle.symmetry.proofs.vertex_sets.apart.is_repeated.Goals as goal
 
@@ -22,15 +22,6 @@ vertex_list-n-requires c =
     let h = held (goal.at.vertex_list-n-requires c).After-lists in
     let both = can_list h _ _ c.requires.proper_element in
     record { held = h; r_le_rank = both.0; lists_in_bounds = both.1 }
-
-pub overflow_add-e : goal.overflow_add-e
-overflow_add-e c = omega (arith, c.requires.proper_element.inside, c.requires.fingerprinted.held.few c.args.r (omega (arith, c.requires.proper_element.under)))
-
-pub slice_bounds-list-end : goal.slice_bounds-list-end
-slice_bounds-list-end c = list-room (held (goal.at.slice_bounds-list-end c).After-lists) c.requires.proper_element c.vertex_list-n.ensures
-
-pub slice_bounds-is_vertex_set-end : goal.slice_bounds-is_vertex_set-end
-slice_bounds-is_vertex_set-end c = list-part (held (goal.at.slice_bounds-is_vertex_set-end c).After-lists) c.requires.proper_element c.vertex_list-n.ensures
 
 pub is_vertex_set-requires : goal.is_vertex_set-requires
 is_vertex_set-requires c = record {

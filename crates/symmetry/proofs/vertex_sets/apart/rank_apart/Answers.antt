@@ -1,26 +1,14 @@
-use mathlib.Core.Path.{refl, sym, ◌∙◌}
+use mathlib.Core.Path.{sym, ◌∙◌}
 use Prim.Native.Nat.{◌<◌}
 use Rattle.spec.specs.Types.{size}
 use Rattle.ranked.specs.Words.{lists_of, abs_in}
 use Rattle.symmetry.proofs.vertex_sets.Sets.{alone_yes, alone_no, alone_end}
-use Rattle.symmetry.proofs.vertex_sets.Looks.{can_count, many_is, element}
+use Rattle.symmetry.proofs.vertex_sets.Looks.{many_is}
 use Rattle.symmetry.proofs.vertex_sets.apart.rank_apart.Goals.{In-loop-e}
 use Rattle.symmetry.proofs.vertex_sets.apart.rank_apart.Goals as goal
 
 inside : (i : In-loop-e) → let a = i.args in i.loop-e.e < size (abs_in a.sh (lists_of a.sh a.words.now)) a.r
 inside i = rw (many_is i.requires.fingerprinted.held _ i.requires.le_r.1 _ i.size-e-end.ensures) at i.loop-e-test.true
-
-pub size-e-end-requires : goal.size-e-end-requires
-size-e-end-requires c = can_count c.requires.fingerprinted.held _ c.requires.le_r.1
-
-pub loop-e-init : goal.loop-e-init
-loop-e-init c = refl
-
-pub is_repeated-requires : goal.is_repeated-requires
-is_repeated-requires c = record {
-  fingerprinted = c.requires.fingerprinted;
-  proper_element = element c.requires.fingerprinted.held _ _ c.requires.le_r.0 c.requires.le_r.1 (inside c);
-}
 
 pub returns-then-is_repeated : goal.returns-then-is_repeated
 returns-then-is_repeated c = alone_no _ _ c.loop-e.e (inside (goal.at.returns-then-is_repeated c).In-loop-e) c.loop-e.invariant (sym c.if-is_repeated.true ∙ c.is_repeated.ensures)

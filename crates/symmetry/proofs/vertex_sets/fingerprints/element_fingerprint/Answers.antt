@@ -4,7 +4,7 @@ use native.Mathlib.Omega.{arith}
 use mathlib.Core.Path.{ap, ◌∙◌}
 use Rattle.ranked.specs.Words.{abs_in}
 use Rattle.symmetry.specs.Fingerprints.{fingerprint_of}
-use Rattle.symmetry.proofs.vertex_sets.Looks.{can_list, list_is, list-room, list-part, list_short}
+use Rattle.symmetry.proofs.vertex_sets.Looks.{can_list, list_is}
 use Rattle.symmetry.proofs.vertex_sets.Summed.{fingerprint_fits}
 use Rattle.symmetry.proofs.vertex_sets.fingerprints.element_fingerprint.Goals as goal
 
@@ -12,15 +12,6 @@ pub vertex_list-n-requires : goal.vertex_list-n-requires
 vertex_list-n-requires c =
     let both = can_list c.requires.held _ _ c.requires.proper_element in
     record { held = c.requires.held; r_le_rank = both.0; lists_in_bounds = both.1 }
-
-pub slice_bounds-list-end : goal.slice_bounds-list-end
-slice_bounds-list-end c = list-room c.requires.held c.requires.proper_element c.vertex_list-n.ensures
-
-pub slice_bounds-fingerprint_of-end : goal.slice_bounds-fingerprint_of-end
-slice_bounds-fingerprint_of-end c = list-part c.requires.held c.requires.proper_element c.vertex_list-n.ensures
-
-pub fingerprint_of-requires : goal.fingerprint_of-requires
-fingerprint_of-requires c = list_short c.requires.held c.requires.proper_element c.vertex_list-n.ensures
 
 pub overflow_cast-result : goal.overflow_cast-result
 overflow_cast-result c =

@@ -1,9 +1,6 @@
 use native.Mathlib.Omega.{arith}
-use Rattle.symmetry.proofs.vertex_sets.Rows.{ranks-first, ranks_held, ranks-next, ranks-end}
+use Rattle.symmetry.proofs.vertex_sets.Rows.{ranks_held, ranks-next, ranks-end}
 use Rattle.symmetry.proofs.vertex_sets.fingerprints.write_fingerprints.Goals as goal
-
-pub loop-r-init : goal.loop-r-init
-loop-r-init c = ranks-first _ _
 
 pub write_rank-requires : goal.write_rank-requires
 write_rank-requires c = record {
@@ -14,9 +11,6 @@ write_rank-requires c = record {
 
 pub loop-r-preserved : goal.loop-r-preserved
 loop-r-preserved c = ranks-next c.loop-r.invariant c.requires.held c.loop-r-test.true _ c.write_rank.auto.words c.write_rank.ensures.words_unchanged c.write_rank.ensures.by_index
-
-pub shape_of-words : goal.shape_of-words
-shape_of-words c = c.loop-r.invariant.long
 
 pub returns : goal.returns
 returns c = record {
