@@ -21,7 +21,7 @@ fn sweep_up(words: &mut [u32], sh: Shape)
     }
 }
 
-// Makes the steps down of a sweep, at ranks R − 1 to 1.
+// Makes the steps down of a sweep, at ranks R − 1 to 1. It stands beside `sweep_up`, since the definition has both, each with its own order of ranks.
 fn sweep_down(words: &mut [u32], sh: Shape)
     requires { Sweepable sh words.old }
     ensures words_unchanged { lists_of sh words.new ≡ lists_of sh words.old }

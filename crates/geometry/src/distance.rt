@@ -21,8 +21,9 @@ pub fn distance_of(points: &[f64], d: usize, list: &[u16]) -> f64
         }
         let (next, joined) = hull.add(point(points, d, usize::from(*v)));
         hull = next;
-        if joined.is_some() {
-            k += 1;
+        match joined {
+            Some(_) => k += 1,
+            None => {}
         }
     }
     hull.distance(d)

@@ -20,7 +20,7 @@ use Rattle.ranked.specs.declared.Shape.{Shape}
 use Rattle.ranked.specs.Words.{size_at}
 use Rattle.ranked.specs.Layout.{scratch_at, solid_in}
 use Rattle.element_types.specs.State.{state_in, Countable}
-use Rattle.symmetry.specs.declared.listing.NoRoom.{NoRoom}
+use Rattle.symmetry.specs.declared.listing.Full.{Full}
 use Rattle.symmetry.specs.Tails.{call_from, out_of}
 use Rattle.symmetry.specs.Listing.{MembersListed, number_of, answer_of}
 use Rattle.symmetry.specs.Searching.{setting_in, SolidListed}
@@ -31,7 +31,7 @@ use Rattle.search.proofs.Steps.{marks_in_lem, ended}
 
 -- The words are ws before the fingerprints are written, and vs after.
 module _ (sh : Shape) (ws vs : List ℕ) (long : length vs ≡ length ws) (e : take (scratch_at sh) vs ≡ take (scratch_at sh) ws) (k : Countable sh ws) (fs : List Float) (f : ℕ)
-    (i : List (List Float)) (rot : Bool) (old : SearchOut) (r : Result ℕ NoRoom) (ms : List Float) (rs : List ℕ)
+    (i : List (List Float)) (rot : Bool) (old : SearchOut) (r : Result ℕ Full) (ms : List Float) (rs : List ℕ)
     (l : SolidListed sh vs fs i rot (length old.marks) r old.matrices ms old.rows rs) where
   abbrev solid : Concrete
   solid = solid_in sh ws fs

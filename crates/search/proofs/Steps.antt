@@ -39,7 +39,7 @@ use Rattle.element_types.specs.State.{state_in}
 use Rattle.element_types.specs.Typed.{Typed}
 use Rattle.marks.specs.Rows.{ClassesIn}
 use Rattle.symmetry.proofs.exchange.Exchanged.{bench_exchanged, solid-exchanged}
-use Rattle.symmetry.specs.declared.listing.NoRoom.{NoRoom}
+use Rattle.symmetry.specs.declared.listing.Full.{Full}
 use Rattle.symmetry.specs.Tails.{setting_of, from9, from10, from15, from11, call_from, out_of}
 use Rattle.symmetry.specs.Searching.{Parted}
 use Rattle.symmetry.specs.Listing.{MembersListed, number_of, answer_of, outs_of, kept_in}
@@ -215,7 +215,7 @@ module _ (c d : Concrete) (z : State) where
 
 -- ---- 12 or 13, and the marks
 
-module _ (d : Concrete) (f : ℕ) (z : State) (i : Matrix) (rot : Bool) (old : SearchOut) (r : Result ℕ NoRoom) (ms : List Float) (rs : List ℕ)
+module _ (d : Concrete) (f : ℕ) (z : State) (i : Matrix) (rot : Bool) (old : SearchOut) (r : Result ℕ Full) (ms : List Float) (rs : List ℕ)
     (l : MembersListed (setting_of (exchanged d f) d z i) rot (room_of old) (flags d.abs) r old.matrices ms old.rows rs) where
   abbrev as_read : Concrete
   as_read = exchanged d f

@@ -21,16 +21,16 @@ use ranked::Shape;
 use spec::{Answer, Refusal, Refused};
 use symmetry::candidates::{all_finite, no_double};
 use symmetry::exchange::exchange;
-use symmetry::listing::{NoRoom, list_members};
+use symmetry::listing::{Full, list_members};
 use symmetry::vertex_sets::fingerprints::write_fingerprints;
 
 // Returns the answer once the members are listed: refusal 13 where they are too many for the outputs, 12 where there is none, and otherwise their
 // number.
-fn answer_of(listed: Result<usize, NoRoom>) -> Answer
+fn answer_of(listed: Result<usize, Full>) -> Answer
     ensures { result ≡ answer_of (is_err listed) (number_of listed) }
 {
     match listed {
-        Err(NoRoom(n)) => Err(Refused {
+        Err(Full(n)) => Err(Refused {
             why: Refusal::ShortSheet,
             kept: n,
         }),
@@ -66,7 +66,7 @@ fn from11(
     write_fingerprints(words, sh);
     let room = marks.len();
     let listed = list_members(words, sh, floats, inverse, rotations, room, matrices, rows);
-    let n = listed.unwrap_or_else(|NoRoom(n)| n);
+    let n = listed.unwrap_or_else(|Full(n)| n);
     mark_members(words, sh, f, floats, rows, n, marks);
     answer_of(listed)
 }

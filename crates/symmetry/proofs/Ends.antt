@@ -17,13 +17,13 @@ use Rattle.spec.specs.Search.{Member, Setting}
 use Rattle.spec.specs.Calls.{Room, fitting}
 use Rattle.laws.proofs.Shapes.{SettingFit}
 use Rattle.symmetry.specs.Listing.{members_given, matrix_cells, row_cells, kept_in, number_of, MembersListed}
-use Rattle.symmetry.specs.declared.listing.NoRoom.{NoRoom}
+use Rattle.symmetry.specs.declared.listing.Full.{Full}
 use Rattle.symmetry.proofs.Running.{running-end}
 use Rattle.symmetry.proofs.Going.{Going}
 
 module _ (w : Setting) (rot : Bool) (m : Room) (d v : ℕ) (shape : SettingFit d v w) (Fs : List Flag) (ms ms' : List Float) (rs rs' : List ℕ) (n : ℕ) where
   -- The members `done` are those that fit.
-  ended : (done : List Member) → fitting m d v 0 (members_given w rot Fs) ≡ done → n ≡ length done → (r : Result ℕ NoRoom) → number_of r ≡ n → is_err r ≡ ltb n (length (members_given w rot Fs))
+  ended : (done : List Member) → fitting m d v 0 (members_given w rot Fs) ≡ done → n ≡ length done → (r : Result ℕ Full) → number_of r ≡ n → is_err r ≡ ltb n (length (members_given w rot Fs))
       → ms' ≡ written (matrix_cells done) ms → rs' ≡ written (row_cells done) rs → MembersListed w rot m Fs r ms ms' rs rs'
   unfolding kept_in
   ended done k e r told q a c =

@@ -10,7 +10,7 @@ use Rattle.spec.specs.Search.{Member, Setting, candidate, same_types, tested, me
 use Rattle.spec.specs.Calls.{Room, fitting, SearchOut}
 use Rattle.symmetry.specs.declared.listing.Tried.{Tried}
 use Rattle.symmetry.specs.declared.listing.Tried.TheVariants.{Skipped, Added, Short}
-use Rattle.symmetry.specs.declared.listing.NoRoom.{NoRoom}
+use Rattle.symmetry.specs.declared.listing.Full.{Full}
 use Rattle.symmetry.specs.Tails.{wanted_of}
 
 -- Gives the member, if the call lists it: a search lists any member, and a rotations call only a rotation.
@@ -65,12 +65,12 @@ unfoldable pub kept_in : Setting → Bool → Room → List Flag → List Member
 kept_in w rot m Fs = fitting m w.searched.dimension (length w.searched.points) 0 (members_given w rot Fs)
 
 -- Gives the number of members that are listed, which is told also where one more had no room.
-abbrev pub number_of : Result ℕ NoRoom → ℕ
+abbrev pub number_of : Result ℕ Full → ℕ
 number_of (Ok n) = n
 number_of (Err e) = e.0
 
 -- The members of the flags Fs are listed. This says how many, whether one more had no room, and what the outputs are before and after.
-pub record MembersListed (w : Setting) (rot : Bool) (m : Room) (Fs : List Flag) (r : Result ℕ NoRoom) (ms ms' : List Float) (rs rs' : List ℕ) : Type 0 where
+pub record MembersListed (w : Setting) (rot : Bool) (m : Room) (Fs : List Flag) (r : Result ℕ Full) (ms ms' : List Float) (rs rs' : List ℕ) : Type 0 where
   pub count : number_of r ≡ length (kept_in w rot m Fs)
   pub short : is_err r ≡ ltb (length (kept_in w rot m Fs)) (length (members_given w rot Fs))
   pub matrices : ms' ≡ written (matrix_cells (kept_in w rot m Fs)) ms

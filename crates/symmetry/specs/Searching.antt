@@ -19,7 +19,7 @@ use Rattle.flag.specs.Reading.{flag_in}
 use Rattle.symmetry.specs.Fingerprints.{Fingerprinted}
 use Rattle.symmetry.specs.declared.listing.Tried.{Tried}
 use Rattle.symmetry.specs.declared.listing.Trial.{Trial}
-use Rattle.symmetry.specs.declared.listing.NoRoom.{NoRoom}
+use Rattle.symmetry.specs.declared.listing.Full.{Full}
 use Rattle.symmetry.specs.Tails.{setting_of}
 use Rattle.symmetry.specs.Listing.{listed_if, gives, Came, MembersListed}
 
@@ -66,6 +66,6 @@ FlagTried x words floats t ms ms' rs rs' =
     (gives (setting_in sh words floats x.inverse c) x.rotations (flag_in sh.rank x.flag)) t ms ms' rs rs'
 
 -- The members that the flags of the solid in the workspace give are listed, where there are so many marks.
-abbrev pub SolidListed : Shape → List ℕ → List Float → List (List Float) → Bool → ℕ → Result ℕ NoRoom → List Float → List Float → List ℕ → List ℕ → Type 0
+abbrev pub SolidListed : Shape → List ℕ → List Float → List (List Float) → Bool → ℕ → Result ℕ Full → List Float → List Float → List ℕ → List ℕ → Type 0
 SolidListed sh words floats inverse rotations marks r ms ms' rs rs' =
     (c : Concrete) → MembersListed (setting_in sh words floats inverse c) rotations (room_for ms rs marks) (flags (abstract_in sh words)) r ms ms' rs rs'

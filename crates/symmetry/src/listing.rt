@@ -32,7 +32,7 @@ enum Tried {
 
 // One member more had no room. So many are listed.
 #[derive(Clone, Copy, Debug, PartialEq, Eq)]
-pub struct NoRoom(pub usize);
+pub struct Full(pub usize);
 
 // This is one turn of the search: the flag that is tried, the first flag, which it is compared with, the inverse of the first flag's columns, whether
 // rotations alone are listed, and how many marks are left for members.
@@ -145,7 +145,7 @@ pub fn list_members(
     room: usize,
     matrices: &mut [f64],
     rows: &mut [u16],
-) -> Result<usize, NoRoom>
+) -> Result<usize, Full>
     requires { Searching sh words.now floats.now }
     ensures { SolidListed sh words.now floats.now inverse rotations room result
         matrices.old matrices.new rows.old rows.new }
@@ -177,7 +177,7 @@ pub fn list_members(
         match tried {
             Tried::Skipped => {}
             Tried::Added => n += 1,
-            Tried::Short => return Err(NoRoom(n)),
+            Tried::Short => return Err(Full(n)),
         }
         let Some(next) = flag.next(&solid) else {
             return Ok(n);

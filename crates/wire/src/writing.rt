@@ -15,7 +15,7 @@ const PIECE: usize = 32;
 const MOST: u64 = 0x1_0000_0000;
 
 // This is a type of an output's elements, each of which is stored as `size` bytes.
-pub trait Stored: Copy {
+pub trait Storable: Copy {
     ghost size: { ℕ };
 
     // Writes the element.
@@ -24,7 +24,7 @@ pub trait Stored: Copy {
 }
 
 // A float is stored as its pattern.
-impl Stored for f64 {
+impl Storable for f64 {
     ghost size = { 8 };
 
     fn store(self, run: Run) -> Result<Run, End> {
@@ -32,7 +32,7 @@ impl Stored for f64 {
     }
 }
 
-impl Stored for u16 {
+impl Storable for u16 {
     ghost size = { 2 };
 
     fn store(self, run: Run) -> Result<Run, End> {
@@ -94,7 +94,7 @@ impl Run {
     }
 
     // Writes each element of an output.
-    pub fn output<T: Stored>(self, s: &[T]) -> Result<Run, End>
+    pub fn output<T: Storable>(self, s: &[T]) -> Result<Run, End>
         ensures { IfOk result (λ after. after.count ≡ self.count + T.size * length s.now) }
     {
         let mut after = self;

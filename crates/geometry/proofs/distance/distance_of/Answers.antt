@@ -8,7 +8,7 @@ use Rattle.spec.specs.Hull.{Hull, add_all, distance}
 use Rattle.laws.proofs.Lists.{get_or-map}
 use Rattle.geometry.specs.Reading.{hull_in, point_at}
 use Rattle.geometry.proofs.Gathered.{length_basis, point-wide, item-is, whole, stop, next, end}
-use Rattle.geometry.proofs.distance.distance_of.Goals.{else-loop-v-test, then-loop-v-test+then-k-d, then-is_some, else-is_some}
+use Rattle.geometry.proofs.distance.distance_of.Goals.{else-loop-v-test, then-loop-v-test+then-k-d, in-Some, in-None}
 use Rattle.geometry.proofs.distance.distance_of.Goals as goal
 
 pub add-joined-requires : goal.add-joined-requires
@@ -37,11 +37,11 @@ loop-v-preserved c =
     let full = c.if-k-d.false in
     let n = length_basis a.d l.hull ∙ sym l.invariant.0 in
     let g = next p more here (λ e. full (sym n ∙ e)) (rw wide at c.add-joined.ensures.hull) l.invariant.2 in
-    let m : (c.if-is_some.k ≡ c.add-joined.result.0.count) × (c.if-is_some.k ≤ a.d) =
-    elim c.if-is_some.branch [
-      | then-is_some w ↦ let q = (rw (sym c.is_some.ensures ∙ w.if-is_some.true) at c.add-joined.ensures.counted) in
+    let m : (c.match-joined.k ≡ c.add-joined.result.0.count) × (c.match-joined.k ≤ a.d) =
+    elim c.match-joined.branch [
+      | in-Some w ↦ let q = rw w.in-Some.is at c.add-joined.ensures.counted in
           (omega (arith, w.k-is, q, l.invariant.0), omega (arith, w.k-is, full, l.invariant.1))
-      | else-is_some w ↦ let q = (rw (sym c.is_some.ensures ∙ w.if-is_some.false) at c.add-joined.ensures.counted) in
+      | in-None w ↦ let q = rw w.in-None.is at c.add-joined.ensures.counted in
           (omega (arith, w.k-is, q, l.invariant.0), omega (arith, w.k-is, l.invariant.1))
     ] in
     (m.0, m.1, g)

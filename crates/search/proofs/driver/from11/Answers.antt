@@ -5,7 +5,7 @@ use mathlib.Core.List.{List}
 use Prim.Native.Nat.{ℕ}
 use Rattle.std.specs.Prelude.{Some, Result, Ok, Err, MatchResult}
 use borrow.Author.Rules.{rules}
-use Rattle.symmetry.specs.declared.listing.NoRoom.{NoRoom}
+use Rattle.symmetry.specs.declared.listing.Full.{Full}
 use Rattle.std.specs.Option.{option_map}
 use Rattle.laws.proofs.Stopped.{stopped}
 use Rattle.spec.specs.declared.Refusal.TheVariants.{Flat}
@@ -44,7 +44,7 @@ some-is c =
     sym (inverse-is (goal.at.all_finite-requires c).After-first_inverse)
     ∙ ap (option_map (corner c.args.sh.dimension)) (given c.first_inverse.result Flat (sym c.ok_or.ensures.value ∙ c.in_ok-inverse.was))
 
-told : (r : Result ℕ NoRoom) (n : ℕ) → MatchResult r (λ x. n ≡ x) (λ e. n ≡ e.0) → n ≡ number_of r
+told : (r : Result ℕ Full) (n : ℕ) → MatchResult r (λ x. n ≡ x) (λ e. n ≡ e.0) → n ≡ number_of r
 told (Ok x) n h = h
 told (Err e) n h = h
 

@@ -4,4 +4,4 @@ use mathlib.Core.Path.{◌≡◌}
 use Rattle.wire.proofs.Run.output.Given as goal
 
 abbrev pub invariant-loop-x : goal.invariant-loop-x
-invariant-loop-x g l = l.after.count ≡ l.fn.self.count + g.T.Stored.size * l.x-index
+invariant-loop-x g l = l.after.count ≡ l.fn.self.count + g.T.Storable.size * l.x-index
