@@ -4,4 +4,3 @@ pub mod Gathered
 pub mod Nearest
 pub mod Numbers
 pub mod ClassNumbers
-pub mod Mapped
