@@ -12,7 +12,7 @@ ghost use Rattle.std.specs.Prelude.{◌<◌};
 
 use float::bits;
 use std::rt::Env;
-use wire::{End, Run};
+use wire::{End, Run, Target};
 
 // Returns 8^n for a digit n from 1 to 8, and otherwise 1.
 fn power(digit: Option<u8>) -> u64
@@ -47,7 +47,7 @@ fn each(run: Run) -> Result<Run, End> {
 }
 
 fn main(rt: HostRuntime) {
-    let run = wire::start(0, 1);
+    let run = wire::start(0, Target::StandardOutput);
     let times = power(argument(&rt, 2));
     let _ = match argument(&rt, 1) {
         Some(b'r') => print(run, arithmetic::roots(times)),

@@ -12,21 +12,17 @@ use lib.Seq.{take_at, drop_at, drop-cons, drop-drop, drop-length, drop-append-ad
 use lib.Ieee.{Float}
 use Rattle.spec.specs.Lists.{join, parts, written}
 use Rattle.spec.specs.Matrix.{Vector, Matrix, mul_vec}
-use Rattle.spec.specs.Copying.{spread, copies_from, points, matrices}
+use Rattle.spec.specs.Copying.{spread, copies_from, matrices}
 use Rattle.spec.specs.Points.{found}
 use Rattle.laws.proofs.Lists.{get_or-map}
 use Rattle.laws.proofs.CopyLaws.{spread_adds}
 use Rattle.points.proofs.Parts.{length-parts, part_at, parts_more, parts_same, join-parts}
+use Rattle.points.proofs.Laid.{join-append}
 use Rattle.copying.specs.Post.{Fitting, Overfull, with_image, with_point}
 
 -- ---- what is written over
 
 module _ {A : Type 0} where
-  pub join-append : (a b : List (List A)) → join (a ++ b) ≡ join a ++ join b
-  unfolding join
-  join-append [] b = refl
-  join-append (l ∷ a) b = ap (λ (x : List A). l ++ x) (join-append a b) ∙ sym (append_assoc l (join a) (join b))
-
   written_over : (a b old : List A) → written (a ++ b) (written a old) ≡ written (a ++ b) old
   unfolding written
   written_over a b old =
@@ -41,61 +37,46 @@ same : (n d : ℕ) (l : List Float) → n * d ≤ length l → l ≡ written (jo
 unfolding written
 same n d l h = rw (join-parts n d l, length-take-le (n * d) l h) (sym (take-append-drop (n * d) l))
 
--- ---- the buffer, with n copies in it
-
-pub record CopiesGrown (d limit : ℕ) (before buffer : List Float) (n : ℕ) : Type 0 where
-  pub room : n ≤ limit
-  pub long : length buffer ≡ length before
-  pub is : buffer ≡ written (join (parts n d buffer)) before
+-- ---- a buffer with copies in it, to which others join
 
 -- The list `all` begins with cs.
 abbrev pub Longer : List Vector → List Vector → Type 0
 Longer cs all = (new : List Vector) × (all ≡ cs ++ new)
 
-module _ {d limit : ℕ} {before : List Float} where
-  pub grown_first : {n : ℕ} → n ≤ limit → limit * d ≤ length before → CopiesGrown d limit before before n
-  grown_first {n} h k = record { room = h; long = refl; is = same n d before (omega (arith, mul-le-mul_right d h)) }
+pub fitting_first : {d limit n : ℕ} {before : List Float} → n ≤ limit → limit * d ≤ length before → Fitting d limit (parts n d before) before before n
+fitting_first {d} {limit} {n} {before} h k = record { room = h; read = refl; is = same n d before (omega (arith, mul-le-mul_right d h)) }
 
-  module _ {buffer : List Float} {n : ℕ} {all : List Vector} (g : CopiesGrown d limit before buffer n) (new : Longer (parts n d buffer) all) where
-    over : written (join all) buffer ≡ written (join all) before
-    over =
-        ap (written (join all)) g.is
-        ∙ ap (λ (x : List Vector). written (join x) (written (join (parts n d buffer)) before)) new.1
-        ∙ join-over (parts n d buffer) new.0 before
-        ∙ ap (λ (x : List Vector). written (join x) before) (sym new.1)
+module _ {d limit n : ℕ} {before buffer : List Float} {cs all : List Vector} (g : Fitting d limit cs before buffer n) (new : Longer cs all) where
+  over : written (join all) buffer ≡ written (join all) before
+  over =
+      ap (written (join all)) g.is
+      ∙ ap (λ (x : List Vector). written (join x) (written (join cs) before)) new.1
+      ∙ join-over cs new.0 before
+      ∙ ap (λ (x : List Vector). written (join x) before) (sym new.1)
 
-    pub grown_next : {after : List Float} {m : ℕ} → length after ≡ length buffer → Fitting d limit all buffer after m → CopiesGrown d limit before after m
-    grown_next l k = record {
-      room = k.room;
-      long = l ∙ g.long;
-      is = k.is ∙ over ∙ ap (λ (x : List Vector). written (join x) before) (sym k.read);
-    }
+  pub fitting_next : {after : List Float} {m : ℕ} → Fitting d limit all buffer after m → Fitting d limit all before after m
+  fitting_next k = record { room = k.room; read = k.read; is = k.is ∙ over }
 
-    first_ones : limit ≤ length all → Longer (parts n d buffer) (take limit all)
-    first_ones h =
-        let cs = parts n d buffer in
-        let k : limit ≡ length cs + (limit - n) = omega (arith, length-parts n d buffer, g.room) in
-        (take (limit - n) new.0, ap (take limit) new.1 ∙ ap (λ (x : ℕ). take x (cs ++ new.0)) k ∙ take-append-add cs new.0 (limit - n))
+  first_ones : limit ≤ length all → Longer cs (take limit all)
+  first_ones h =
+      let k : limit ≡ length cs + (limit - n) = omega (arith, ap length g.read, length-parts n d buffer, g.room) in
+      (take (limit - n) new.0, ap (take limit) new.1 ∙ ap (λ (x : ℕ). take x (cs ++ new.0)) k ∙ take-append-add cs new.0 (limit - n))
 
-    -- Where these are more than there is room for, so is the whole.
-    pub grown_full : {after : List Float} {whole : List Vector} → Longer all whole → Overfull limit all buffer after → Overfull limit whole before after
-    grown_full more k =
-        let cs = parts n d buffer in
-        let one = first_ones (omega (arith, k.more)) in
-        record {
-          more = omega (arith, k.more, ap length more.1, length-append all more.0);
-          is =
-              k.is
-              ∙ ap (λ (x : List Vector). written (join x) buffer) one.1
-              ∙ ap (written (join (cs ++ one.0))) g.is
-              ∙ join-over cs one.0 before
-              ∙ ap
-              (λ (x : List Vector). written (join x) before)
-              (sym one.1 ∙ sym (ap (take limit) more.1 ∙ take-append-le limit all more.0 (omega (arith, k.more))));
-        }
-
-  pub grown_end : {buffer : List Float} {n : ℕ} {whole : List Vector} → CopiesGrown d limit before buffer n → parts n d buffer ≡ whole → Fitting d limit whole before buffer n
-  grown_end g e = record { room = g.room; read = e; is = g.is ∙ ap (λ (x : List Vector). written (join x) before) e }
+  -- Where these are more than there is room for, so is the whole.
+  pub fitting_full : {after : List Float} {whole : List Vector} → Longer all whole → Overfull limit all buffer after → Overfull limit whole before after
+  fitting_full more k =
+      let one = first_ones (omega (arith, k.more)) in
+      record {
+        more = omega (arith, k.more, ap length more.1, length-append all more.0);
+        is =
+            k.is
+            ∙ ap (λ (x : List Vector). written (join x) buffer) one.1
+            ∙ ap (written (join (cs ++ one.0))) g.is
+            ∙ join-over cs one.0 before
+            ∙ ap
+            (λ (x : List Vector). written (join x) before)
+            (sym one.1 ∙ sym (ap (take limit) more.1 ∙ take-append-le limit all more.0 (omega (arith, k.more))));
+      }
 
 -- ---- one image, and one point
 
@@ -122,7 +103,7 @@ module _ (d limit n : ℕ) (before : List Float) (q : Vector) (h : n ≤ limit) 
   held = omega (arith, mul-le-mul_right d h)
 
   pub image-found : found (parts n d before) q ≡ true → Fitting d limit (with_image (parts n d before) q) before before n
-  image-found t = grown_end (grown_first h k) (sym (image_old (parts n d before) q t))
+  image-found t = rw (image_old (parts n d before) q t) (fitting_first h k)
 
   pub image-full : limit ≤ n → found (parts n d before) q ≡ false → Overfull limit (with_image (parts n d before) q) before before
   image-full g t =
@@ -223,7 +204,7 @@ copies_turn ms p ps cs = go (found cs p) refl
     go true t = rw (point_old ms cs p t, t)
     go false t = rw (point_new ms cs p t, t)
 
--- ---- the points and the matrices of a slice
+-- ---- the matrices of a slice
 
 -- Matrix j of a slice stands in d rows from cell j * (d * d) on.
 pub matrix_is : (d : ℕ) (l : List Float) (j : ℕ) → j < length l / (d * d) → get_or (matrices d l) j [] ≡ parts d d (take (d * d) (drop (j * (d * d)) l))
@@ -235,11 +216,3 @@ matrix_is d l j h =
 pub length-matrices : (d : ℕ) (l : List Float) → length (matrices d l) ≡ length l / (d * d)
 unfolding matrices
 length-matrices d l = length-map (parts (length l / (d * d)) (d * d) l) (parts d d) ∙ length-parts (length l / (d * d)) (d * d) l
-
-pub point_is : (d : ℕ) (l : List Float) (k : ℕ) → k < length l / d → get_or (points d l) k [] ≡ take d (drop (k * d) l)
-unfolding points
-point_is d l k h = part_at (length l / d) d l k h
-
-pub length-points : (d : ℕ) (l : List Float) → length (points d l) ≡ length l / d
-unfolding points
-length-points d l = length-parts (length l / d) d l

@@ -84,8 +84,8 @@ fn widened(m: [[f64; 3]; 3]) -> [[f64; DIMENSION]; DIMENSION]
     ensures { result ≡ padded_rows m }
 {
     let mut r = [[0.0; DIMENSION]; DIMENSION];
-    for i in 0..3 {
-        r[i] = vector::load(&m[i]);
+    for (i, row) in m.iter().enumerate() {
+        r[i] = vector::load(row);
     }
     r
 }
@@ -97,26 +97,14 @@ pub fn axis_orders() -> [[[f64; DIMENSION]; DIMENSION]; 48]
     entries().map(widened)
 }
 
-// Writes the nine floats of a matrix of three dimensions, row by row, to the first cells. It promises that they are nine, because a function that
-// is lent matrices in a slice is not told how long their rows are.
-fn put_turn(out: &mut [f64], m: [[f64; DIMENSION]; DIMENSION])
-    requires { 9 ≤ length out.old }
-    ensures { (length (join (corner 3 m)) ≡ 9) × (out.new ≡ written (join (corner 3 m)) out.old) }
-{
-    for i in 0..9 {
-        out[i] = m[i / 3][i % 3];
-    }
-}
-
-// Writes matrices one after another, each row by row.
+// Writes matrices of three dimensions one after another, each row by row.
 fn put_turns(table: &[[[f64; DIMENSION]; DIMENSION]], out: &mut [f64])
     requires { length table.now * 9 ≤ length out.old }
     ensures { (length (join (join (map (corner 3) table.now))) ≡ length table.now * 9)
         × (out.new ≡ written (join (join (map (corner 3) table.now))) out.old) }
 {
-    for k in 0..table.len() {
-        let at = k * 9;
-        put_turn(&mut out[at..], table[k]);
+    for (k, m) in table.iter().enumerate() {
+        points::put_matrix(&mut out[k * 9..], *m, 3);
     }
 }
 

@@ -1,83 +1,102 @@
-// This module makes section 7's copies: "A point not found among the copies is multiplied by every matrix in order; each image not found joins." The
-// copies stand one after another in a lent buffer, d floats each, and `limit` says how many of them there may be.
-ghost use Rattle.std.specs.Prelude.{◌*◌, ◌≤◌, length, take};
+// This module makes section 7's copies: "A point not found among the copies is multiplied by every matrix in order; each image not found joins."
+ghost use Rattle.std.specs.Prelude.{◌≡◌, ◌*◌, ◌≤◌, length, take};
 ghost use Rattle.spec.specs.Limits.{max_dimension};
-ghost use Rattle.spec.specs.Copying.{spread as spread_of, copies as copies_of, points as points_of, matrices};
-ghost use Rattle.spec.specs.Lists.{parts};
+ghost use Rattle.spec.specs.Copying.{spread, copies_from, copies as copies_of, matrices};
+ghost use Rattle.spec.specs.Points.{found};
+ghost use Rattle.points.specs.Listed.{listed};
 ghost use Rattle.copying.specs.Post.{CopiesKept, with_image, with_point};
 
 use float::DIMENSION;
+use points::Points;
 
-// Adds one image, and tells how many copies there are then, unless there is no room for it. It joins after the n copies, where it is not found among
-// them.
-fn add(out: &mut [f64], d: usize, n: usize, limit: usize, q: [f64; DIMENSION]) -> Option<usize>
-    requires { (1 ≤ d) × (d ≤ max_dimension) × (n ≤ limit) × (limit * d ≤ length out.old) }
-    ensures { CopiesKept d limit (with_image (parts n d out.old) (take d q)) out.old out.new result }
-{
-    if points::find(out, d, n, q).is_some() {
-        return Some(n);
-    }
-    let more = n + 1;
-    if more <= limit {
-        let end = n * d;
-        points::put(&mut out[end..], q, d);
-        return Some(more);
-    }
-    None
+// These are the copies so far, which stand one after another at the front of a lent buffer. There may be at most `limit` of them.
+#[derive(Drop)]
+struct CopyList<'a> {
+    out: &'a mut [f64],
+    dimension: usize,
+    count: usize,
+    limit: usize,
+    ghost fits: { (1 ≤ dimension) × (dimension ≤ max_dimension) × (count ≤ limit) × (limit * dimension ≤ length out.now) },
 }
 
-// Adds the images of p under every matrix in order.
-fn spread(
-    out: &mut [f64],
-    d: usize,
-    n: usize,
-    limit: usize,
-    turns: &[f64],
-    p: [f64; DIMENSION],
-) -> Option<usize>
-    requires { (1 ≤ d) × (d ≤ max_dimension) × (n ≤ limit) × (limit * d ≤ length out.old) }
-    ensures { CopiesKept d limit (spread_of (matrices d turns.now) (take d p) (parts n d out.old))
-        out.old out.new result }
-{
-    let count = turns.len() / (d * d);
-    let mut held = n;
-    for j in 0..count {
-        let q = matrix::image(points::matrix_at(turns, d, j), p, d);
-        held = add(out, d, held, limit, q)?;
-    }
-    Some(held)
-}
+impl CopyList<'_> {
+    ghost use Rattle.copying.specs.Growing.{copies_in, Extended};
 
-// Adds the images of one point, unless the point itself is found among the n copies.
-fn point_copied(
-    out: &mut [f64],
-    d: usize,
-    n: usize,
-    limit: usize,
-    turns: &[f64],
-    p: [f64; DIMENSION],
-) -> Option<usize>
-    requires { (1 ≤ d) × (d ≤ max_dimension) × (n ≤ limit) × (limit * d ≤ length out.old) }
-    ensures { CopiesKept d limit (with_point (matrices d turns.now) (parts n d out.old) (take d p))
-        out.old out.new result }
-{
-    if points::find(out, d, n, p).is_some() {
-        return Some(n);
+    // Tells whether q is found among the copies.
+    fn has(&self, q: [f64; DIMENSION]) -> bool
+        ensures { result ≡ found (copies_in self.now) (take self.now.dimension q) }
+    {
+        let copies = Points {
+            floats: self.out,
+            dimension: self.dimension,
+            count: self.count,
+        };
+        copies.find(q).is_some()
     }
-    spread(out, d, n, limit, turns, p)
+
+    // Adds an image that is not found among the copies, unless there is no room for it.
+    fn add(&mut self, q: [f64; DIMENSION]) -> Option<()>
+        ensures { Extended self.old (with_image (copies_in self.old) (take self.old.dimension q)) self.new result }
+    {
+        if self.has(q) {
+            return Some(());
+        }
+        let more = self.count + 1;
+        if more <= self.limit {
+            let end = self.count * self.dimension;
+            points::put(&mut self.out[end..], q, self.dimension);
+            self.count = more;
+            return Some(());
+        }
+        None
+    }
+
+    // Adds the images of p under every matrix in order. A matrix is read by its number, as `points::matrix_at` reads it everywhere.
+    fn spread(&mut self, turns: &[f64], p: [f64; DIMENSION]) -> Option<()>
+        ensures { Extended self.old (spread (matrices self.old.dimension turns.now) (take self.old.dimension p) (copies_in self.old)) self.new result }
+    {
+        let d = self.dimension;
+        let count = turns.len() / (d * d);
+        for j in 0..count {
+            self.add(matrix::image(points::matrix_at(turns, d, j), p, d))?;
+        }
+        Some(())
+    }
+
+    // Adds the images of one point, unless the point itself is found among the copies.
+    fn copy(&mut self, turns: &[f64], p: [f64; DIMENSION]) -> Option<()>
+        ensures { Extended self.old (with_point (matrices self.old.dimension turns.now) (copies_in self.old) (take self.old.dimension p)) self.new result }
+    {
+        if self.has(p) {
+            return Some(());
+        }
+        self.spread(turns, p)
+    }
+
+    // Adds the images of all the points, one point after another.
+    fn copy_all(&mut self, from: &Points, turns: &[f64]) -> Option<()>
+        requires { from.now.dimension ≡ self.old.dimension }
+        ensures { Extended self.old (copies_from (matrices self.old.dimension turns.now) (listed from.now) (copies_in self.old)) self.new result }
+    {
+        for k in 0..from.count {
+            self.copy(turns, from.loaded(k))?;
+        }
+        Some(())
+    }
 }
 
 // Makes all the copies, and tells how many there are, unless there is no room for them all. Copies only ever join at the end, so the ones that fit
 // are the first ones.
-pub fn copies(from: &[f64], turns: &[f64], d: usize, limit: usize, out: &mut [f64]) -> Option<usize>
-    requires { (1 ≤ d) × (d ≤ max_dimension) × (limit * d ≤ length out.old) }
-    ensures { CopiesKept d limit (copies_of (matrices d turns.now) (points_of d from.now)) out.old out.new result }
+pub fn copies(from: &Points, turns: &[f64], limit: usize, out: &mut [f64]) -> Option<usize>
+    requires { (1 ≤ from.now.dimension) × (limit * from.now.dimension ≤ length out.old) }
+    ensures { CopiesKept from.now.dimension limit (copies_of (matrices from.now.dimension turns.now) (listed from.now)) out.old out.new result }
 {
-    let count = from.len() / d;
-    let mut n = 0;
-    for k in 0..count {
-        let p = points::loaded(from, d, k);
-        n = point_copied(out, d, n, limit, turns, p)?;
-    }
-    Some(n)
+    let mut copies = CopyList {
+        out,
+        dimension: from.dimension,
+        count: 0,
+        limit,
+    };
+    copies.copy_all(from, turns)?;
+    Some(copies.count)
 }

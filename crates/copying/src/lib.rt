@@ -5,6 +5,7 @@ ghost use Rattle.std.specs.Prelude.{◌≡◌, ◌/◌, ◌≤◌, min, length, 
 ghost use Rattle.spec.specs.Limits.{max_count};
 ghost use Rattle.spec.specs.Copying.{copies as copies_of, points as points_of, matrices, judge_copy, copy_out, copy_call};
 
+use points::Points;
 use spec::{Answer, MAX_COUNT, Refusal, Refused};
 
 pub mod axes;
@@ -29,7 +30,12 @@ fn copied(d: usize, from: &[f64], turns: &[f64], out: &mut [f64], table: &mut [u
         (copies_of (matrices d turns.now) (points_of d from.now)) out.old table.old }
 {
     let limit = room(out.len(), d);
-    let Some(n) = joining::copies(from, turns, d, limit, out) else {
+    let points = Points {
+        floats: from,
+        dimension: d,
+        count: from.len() / d,
+    };
+    let Some(n) = joining::copies(&points, turns, limit, out) else {
         return Err(Refused {
             why: Refusal::ShortSheet,
             kept: limit,
@@ -42,7 +48,12 @@ fn copied(d: usize, from: &[f64], turns: &[f64], out: &mut [f64], table: &mut [u
             kept: n,
         });
     }
-    if rows::write(out, d, n, turns, table) {
+    let copies = Points {
+        floats: out,
+        dimension: d,
+        count: n,
+    };
+    if rows::write(&copies, turns, table) {
         return Ok(n);
     }
     rows::fill(table, count * n);

@@ -3,15 +3,10 @@
 use mathlib.Core.Path.{◌≡◌, refl, ap}
 use mathlib.Core.Bool.{Bool, ◌&&◌}
 use mathlib.Core.List.{List, [], ◌∷◌}
-use Prim.Native.Nat.{ℕ, ◌+◌}
+use Prim.Native.Nat.{ℕ}
 use lib.Dec.{eqb}
-use lib.ListN.{length, get_or}
 use lib.Pointwise.{pointwise}
 use Rattle.spec.specs.Lists.{eq_list}
-use Rattle.laws.proofs.Lists.{length_table}
-use Rattle.element_types.specs.Runs.{key_at, rep_keys}
-
--- ---- words
 
 -- The library's equality of slices is the definitions' of lists.
 pub eq_list_is : (l m : List ℕ) → pointwise eqb l m ≡ eq_list l m
@@ -20,9 +15,3 @@ eq_list_is [] [] = refl
 eq_list_is [] (y ∷ m) = refl
 eq_list_is (x ∷ l) [] = refl
 eq_list_is (x ∷ l) (y ∷ m) = ap (λ (b : Bool). eqb x y && b) (eq_list_is l m)
-
--- ---- keys
-
-pub length-keys : (w : List ℕ) (reps m : ℕ) → length (rep_keys w reps m) ≡ m
-unfolding rep_keys
-length-keys w reps m = length_table (λ j. key_at w (get_or w (reps + j) 0)) m

@@ -1,44 +1,62 @@
--- A step's numbers are put over its types.
+-- A step reads the words below the free ones, numbers the elements of a rank in the free ones, and puts the numbers over the types.
 -- Assumes nothing.
-use mathlib.Core.Path.{◌≡◌, sym, ◌∙◌, ap, ap₂}
+use borrow.Rule.Slice.PartMut.{put_mid}
+use mathlib.Core.Path.{◌≡◌, refl, sym, ◌∙◌, ap, ap₂}
 use mathlib.Core.List.{List, ◌++◌}
-use Prim.Native.Nat.{ℕ, ◌+◌, ◌-◌}
+use Prim.Native.Nat.{ℕ, ◌+◌, ◌-◌, ◌≤◌}
 use native.Mathlib.Omega.{arith}
-use lib.ListN.{take, drop}
-use lib.Seq.{slice, length-slice, paste}
-use Rattle.spec.specs.Lists.{renumber, eq_list}
+use lib.ListN.{length, take, drop, length-append, length-take, length-drop}
+use lib.Seq.{take_at, take-take}
 use Rattle.ranked.specs.declared.Shape.{Shape}
-use Rattle.ranked.specs.Words.{size_at}
+use Rattle.ranked.specs.Words.{size_at, lists_of}
 use Rattle.ranked.specs.Layout.{types_at, scratch_at}
 use Rattle.element_types.specs.Runs.{over}
-use Rattle.element_types.specs.Numbers.{Numberable, NumbersWritten, keys_to}
-use Rattle.element_types.specs.State.{Stepping, stepped_at}
-use Rattle.element_types.proofs.Parts.{run_front, over_front}
+use Rattle.element_types.specs.Numbers.{numbers_of, Numberable}
+use Rattle.element_types.specs.State.{types_in, Stepping, stepped_at}
+use Rattle.element_types.proofs.Parts.{run_take, length_over, put_over}
+use Rattle.element_types.proofs.Replaced.{rank-within}
 
-module _ (w v : List ℕ) (lists n base from out : ℕ) (r : Numberable w lists n base from out) (d : NumbersWritten w v lists n base from out) where
-  -- The program's copy is that run of words.
-  copied : paste v from (drop out v) (out + n - out) ≡ over v from (from + n) (slice out (out + n) v)
-  unfolding over
-  copied =
-      let e : out + n - out ≡ n = omega arith in
-      ap (paste v from (drop out v)) e
-      ∙ ap (λ (l : List ℕ). take from v ++ l ++ drop (from + n) v) (sym (run_front v out n (omega (arith, r.room, d.long))))
+-- The words w are the parts H and F, where F is free.
+module _ (sh : Shape) (w : List ℕ) (r base next : ℕ) (s : Stepping sh w r base next) (H F : List ℕ) (w_is : w ≡ H ++ F) (H_long : length H ≡ scratch_at sh) where
+  room : scratch_at sh ≤ length w
+  room = omega (arith, s.room)
 
-  stepped : (x : List ℕ) → x ≡ paste v from (drop out v) (out + n - out)
-      → take out x ≡ over (take out w) from (from + n) (renumber eq_list (keys_to w lists base from out n))
-  stepped x e =
-      ap (take out) (e ∙ copied)
-      ∙ over_front v from (from + n) (slice out (out + n) v) (ap (λ (k : ℕ). from + k) (length-slice out (out + n) v (omega (arith, r.room, d.long)) ∙ omega arith)) (omega (arith, r.own, r.room, d.long))
-      out r.own (omega (arith, r.room, d.long))
-      ∙ ap₂ (λ (l m : List ℕ). over l from (from + n) m) d.kept d.numbers
+  front : take (scratch_at sh) w ≡ H
+  front = ap (take (scratch_at sh)) w_is ∙ take_at H F (scratch_at sh) H_long
 
--- In the code's terms, n, from and out are what it read of the shape.
-module _ (sh : Shape) (w : List ℕ) (r lists base : ℕ) (s : Stepping sh w r lists base) (n from out : ℕ) (en : n ≡ size_at sh r) (ef : from ≡ types_at sh r)
-    (eo : out ≡ scratch_at sh) where
-  pub numbers_ready : Numberable w lists n base from out
-  numbers_ready = rw (en, ef, eo) s.ready
+  lists-same : lists_of sh H ≡ lists_of sh w
+  lists-same = ap (lists_of sh) (sym front) ∙ take-take sh.low (scratch_at sh) w (omega arith)
 
-  pub stepped_at_lem : (v : List ℕ) → NumbersWritten w v lists n base from out → (x : List ℕ) → x ≡ paste v from (drop out v) (out + n - out)
-      → take (scratch_at sh) x ≡ stepped_at sh w r lists base
-  unfolding stepped_at
-  stepped_at_lem v d x e = rw (en, ef, eo) at (stepped w v lists n base from out numbers_ready d x e)
+  types-same : (q : ℕ) → q ≤ sh.rank → types_in sh H q ≡ types_in sh w q
+  unfolding types_in
+  types-same q k =
+      ap (λ (l : List ℕ). take (size_at sh q) (drop (types_at sh q) l)) (sym front)
+      ∙ run_take w (scratch_at sh) (types_at sh q) (size_at sh q) room (omega (arith, rank-within sh w s.held q k))
+
+  many : length (types_in sh H r) ≡ size_at sh r
+  unfolding types_in
+  many = simp (length-take, length-drop) (omega (arith, H_long, rank-within sh w s.held r s.within))
+
+  -- In the code's terms, this is what it read, and the parts of the free words.
+  module _ (l own beside : List ℕ) (l_is : l ≡ lists_of sh H) (own_is : own ≡ types_in sh H r) (beside_is : beside ≡ types_in sh H next) where
+    module _ (numbers rest places keys : List ℕ) (n : ℕ) (n_is : n ≡ size_at sh r) (F_is : F ≡ numbers ++ rest) (a : length numbers ≡ n) (rest_is : rest ≡ places ++ keys) (b : length places ≡ n) where
+      pub numberable : Numberable l base own beside numbers places keys
+      numberable = rw (l_is, own_is, beside_is) record {
+        neighbours = rw (lists-same, types-same r s.within, types-same next s.beside) s.ready;
+        numbered = a ∙ n_is ∙ sym many;
+        placed = omega (arith, b, n_is, many);
+        room = rw (lists-same, many)
+            (omega (arith, s.room, many, H_long, n_is, a, b, ap length w_is ∙ length-append H F, ap length F_is ∙ length-append numbers rest, ap length rest_is ∙ length-append places keys));
+      }
+
+    pub stepped_at_lem : (N G : List ℕ) → N ≡ numbers_of l base own beside → (n from : ℕ) → n ≡ size_at sh r → from ≡ types_at sh r → length N ≡ n
+        → take (scratch_at sh) (put_mid from (from + n - from) H N ++ G) ≡ stepped_at sh w r base next
+    unfolding stepped_at
+    stepped_at_lem N G N_is n from n_is from_is long =
+        let e : put_mid from (from + n - from) H N ≡ over H from (from + n) N = put_over H from (from + n - from) (from + n) N (omega (arith, long)) (omega arith) in
+        let fits : from + n ≤ length H = omega (arith, H_long, n_is, from_is, rank-within sh w s.held r s.within) in
+        let f : numbers_of l base own beside ≡ numbers_of (lists_of sh w) base (types_in sh w r) (types_in sh w next) =
+        rw (l_is ∙ lists-same, own_is ∙ types-same r s.within, beside_is ∙ types-same next s.beside) refl in
+        take_at (put_mid from (from + n - from) H N) G (scratch_at sh) (ap length e ∙ length_over H from (from + n) N (omega (arith, long)) fits ∙ H_long)
+        ∙ e ∙ ap₂ (λ (h x : List ℕ). over h from (from + n) x) (sym front) (N_is ∙ f)
+        ∙ ap₂ (λ (m k : ℕ). over (take (scratch_at sh) w) k (k + m) (numbers_of (lists_of sh w) base (types_in sh w r) (types_in sh w next))) n_is from_is

@@ -1,13 +1,14 @@
 pub mod Keys
 pub mod Parts
 pub mod Sorts
-pub mod Written
 pub mod Places
+pub mod Appeared
 pub mod Compared
-pub mod Noted
 pub mod Scanned
 pub mod Copied
+pub mod Replaced
 pub mod States
 pub mod Room
 pub mod Sweeps
 pub mod Tallied
+pub mod Given

@@ -10,48 +10,27 @@ use mathlib.Core.Path.{◌≡◌, refl, sym, ◌∙◌, ap, ap₂}
 use mathlib.Core.Logic.{inl, inr}
 use mathlib.Core.Bool.{Bool, true, false, cond, not}
 use mathlib.Core.List.{List, [], ◌∷◌, map}
-use Prim.Native.Nat.{ℕ, suc, ◌+◌, ◌-◌, ◌≤◌, ◌<◌}
+use Prim.Native.Nat.{ℕ, suc, ◌+◌, ◌<◌}
 use native.Mathlib.Omega.{arith}
 use lib.Dec.{ltb}
-use lib.ListN.{length, get_or, take, drop, length-map, length-take, length-drop}
-use lib.Seq.{ext_get_or, get_or-take, get_or-drop}
-use Rattle.spec.specs.Lists.{In, place, range}
-use Rattle.laws.proofs.Lists.{map-map, get_d_table, length_table}
+use lib.ListN.{length, get_or, length-map}
+use Rattle.spec.specs.Lists.{In, place}
+use Rattle.laws.proofs.Lists.{in_get_d}
 
 counted : (b : Bool) (n : ℕ) → cond (not b) (1 + n) 0 ≡ cond b 0 (1 + n)
 counted true n = refl
 counted false n = refl
 
 -- A test that is made of what f gives finds in l what the test finds in those.
-position-map : {A B : Type 0} (p : B → Bool) (f : A → B) (l : List A) → position (λ a. p (f a)) l ≡ position p (map f l)
+pub position-map : {A B : Type 0} (p : B → Bool) (f : A → B) (l : List A) → position (λ a. p (f a)) l ≡ position p (map f l)
 position-map p f l =
     let e : position_or_len p (map f l) ≡ position_or_len (λ a. p (f a)) l =
     is_position_or_len (λ m. position_or_len p (map f m)) (λ a. p (f a)) refl (λ x xs. counted (p (f x)) (position_or_len p (map f xs))) l in
     ap₂ (λ (i n : ℕ). cond (ltb i n) (Some i) None) (sym e) (sym (length-map l f))
 
--- The m words from a on are what is read there one after another.
-run_table : (w : List ℕ) (a m : ℕ) → a + m ≤ length w → take (a + m - a) (drop a w) ≡ map (λ j. get_or w (a + j) 0) (range 0 m)
-run_table w a m h =
-    let e : a + m - a ≡ m = omega arith in
-    let f : ℕ → ℕ = λ j. get_or w (a + j) 0 in
-    let long : length (take m (drop a w)) ≡ m = simp (length-take, length-drop) (omega arith) in
-    ap (λ (n : ℕ). take n (drop a w)) e
-    ∙ ext_get_or 0 (take m (drop a w)) (map f (range 0 m)) (long ∙ sym (length_table f m))
-    (λ j b. let c : j < m = rw long at b in get_or-take m (drop a w) j 0 c ∙ get_or-drop a w j 0 ∙ sym (get_d_table f 0 m j c))
-
--- What holds of each that is read there holds of all of them.
-pub run_all : (P : ℕ → Type 0) (w : List ℕ) (a m : ℕ) → a + m ≤ length w → ((j : ℕ) → j < m → P (get_or w (a + j) 0)) → All P (take (a + m - a) (drop a w))
-run_all P w a m h k j d b =
-    let f : ℕ → ℕ = λ i. get_or w (a + i) 0 in
-    let c : j < m = rw (run_table w a m h, length_table f m) at b in
-    rw (run_table w a m h, get_d_table f d m j c) (k j c)
-
--- Among what f gives of the m words from a on, that is the place of x.
-pub found_among : {B : Type 0} (same : B → B → Bool) (x : B) (f : ℕ → B) (w : List ℕ) (a m : ℕ) → a + m ≤ length w
-    → position (λ p. same (f p) x) (take (a + m - a) (drop a w)) ≡ position (λ k. same k x) (map (λ j. f (get_or w (a + j) 0)) (range 0 m))
-found_among same x f w a m h =
-    ap (position (λ p. same (f p) x)) (run_table w a m h) ∙ position-map (λ k. same k x) f (map (λ j. get_or w (a + j) 0) (range 0 m))
-    ∙ ap (position (λ k. same k x)) (map-map (λ j. get_or w (a + j) 0) f (range 0 m))
+-- What holds of each member of a list holds of all of them.
+pub all_in : {A : Type 0} (P : A → Type 0) (l : List A) → ((x : A) → In x l → P x) → All P l
+all_in P l h j d b = h (get_or l j d) (in_get_d d l j b)
 
 module _ {A : Type 0} (same : A → A → Bool) (k : A) where
   place_is : (l : List A) → place same k l ≡ position_or_len (λ x. same x k) l
@@ -61,9 +40,6 @@ module _ {A : Type 0} (same : A → A → Bool) (k : A) where
       go : (b : Bool) (n : ℕ) → elim b [ true ↦ 0 | false ↦ suc n ] ≡ cond b 0 (1 + n)
       go true n = refl
       go false n = omega arith
-
-  pub place-within : (l : List A) → place same k l ≤ length l
-  place-within l = rw (place_is l) (prefix_len-le-length _ l)
 
   module _ (l : List A) (found : Option ℕ) (e : found ≡ position (λ x. same x k) l) where
     abbrev first : ℕ

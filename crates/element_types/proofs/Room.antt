@@ -126,10 +126,10 @@ module _ (sh : Shape) (l : List ℕ) (h : Held sh l) where
       rw (rank-entries s r) at
       (sum_has (λ q. sum (map length (get_or s q []))) (range 2 (top s - 2)) r (in_range_lem 2 (top s - 2) r a (omega (arith, top_is sh l))))
 
-  least-one : size s 0 ≡ 1
+  pub least-one : size s 0 ≡ 1
   least-one = ap length h.sound.least
 
-  top_one : size s sh.rank ≡ 1
+  pub top_one : size s sh.rank ≡ 1
   top_one = rw (top_is sh l) at h.sound.one
 
   up_few : (r : ℕ) → 1 ≤ r → r ≤ sh.rank → 2 ≤ sh.rank → entries s (up r) ≤ E + I

@@ -1,336 +1,209 @@
--- The elements of a rank are numbered one after another, and this file says what holds when e are done.
+-- The elements of a rank are numbered by their keys one after another, and this file says what holds when e are done.
 -- Assumes nothing.
+use Rattle.std.specs.Prelude.{Option, Some, None, position, All}
+use borrow.Rule.Slice.PartMut.{put_mid, post_of}
+use Rattle.std.proofs.lemmas.Slice.{take-put_mid_below}
 use mathlib.Core.Path.{◌≡◌, refl, sym, ◌∙◌, ap, ap₂}
-use mathlib.Core.Logic.{◌≢◌}
-use mathlib.Core.Bool.{Bool, true, false}
-use mathlib.Core.List.{List, [], ◌∷◌, ◌++◌, map}
-use Prim.Native.Nat.{ℕ, zero, suc, ◌+◌, ◌*◌, ◌-◌, ◌≤◌, ◌<◌}
+use mathlib.Core.Logic.{◌≢◌, ◌⊎◌, inl, inr}
+use mathlib.Core.List.{List, [], ◌∷◌, ◌++◌, map, map-append, append_assoc}
+use Prim.Native.Nat.{ℕ, zero, suc, ◌+◌, ◌-◌, ◌^◌, ◌≤◌, ◌<◌}
 use native.Mathlib.Omega.{arith}
-use native.Mathlib.Nat.{add-suc, add-zero, add_assoc}
+use native.Mathlib.Nat.{add-zero}
 use native.Mathlib.Numerals.{add-one}
-use borrow.Author.Tests.{leb-true, leb-false}
-use lib.Dec.{leb}
-use lib.ListN.{length, get_or, set, take, drop, length-set}
-use lib.Seq.{slice, slice_empty, take-take, take-append-le, drop-append-le, length-take-le, take-set-le, take-suc-set, get_or-set_same, get_or-set_other}
-use Rattle.spec.specs.Lists.{In, distinct, place, renumber, eq_list, range}
-use Rattle.laws.proofs.Distinct.{Test, in_distinct, of-distinct, place_at, in?}
+use lib.ListN.{length, get_or, set, take, drop, length-map, length-append, length-take, length-drop}
+use lib.Seq.{take_all, take-suc-set, take_at, length-take-le, get_or-drop, drop-drop, drop_at}
+use Rattle.spec.specs.Lists.{In, distinct, place, renumber, eq_list, range, written}
+use Rattle.laws.proofs.Lists.{map_same}
 use Rattle.laws.proofs.Counts.{lists}
-use Rattle.laws.proofs.Scan.{renumber-snoc, distinct_new, distinct_old, place_out}
-use Rattle.ranked.specs.Words.{list_at}
-use Rattle.ranked.specs.Reading.{Lies}
-use Rattle.element_types.specs.Runs.{key_of, key_at, rep_keys, under, Writable, written_at}
-use Rattle.element_types.specs.Numbers.{number_of, noted, Open, key_in, keys_to, space_to, Numberable, NumbersWritten}
-use Rattle.element_types.proofs.Parts.{get_d_kept, take-kept, list-kept}
-use Rattle.element_types.proofs.Compared.{length-keys}
-use Rattle.element_types.proofs.Written.{under-kept, length-written, written_low, written_count, written-key}
-use Rattle.element_types.proofs.Noted.{keys_kept, key_set, keys-set, noted-low, noted_high}
-
-test : Test eq_list
-test = lists
-
--- ---- the keys' places
-
--- The first m keys stand where the words from reps say, from word top on and below q.
-abbrev pub Slots : List ℕ → ℕ → ℕ → ℕ → ℕ → Type 0
-Slots v reps m top q = (j : ℕ) → j < m → (top ≤ get_or v (reps + j) 0) × (get_or v (reps + j) 0 + 2 + get_or v (get_or v (reps + j) 0) 0 ≤ q)
-
-slots_kept : (u v : List ℕ) (reps m top q : ℕ) → take q u ≡ take q v → reps + m ≤ q → Slots v reps m top q → Slots u reps m top q
-slots_kept u v reps m top q e h s j k =
-    let r = s j k in
-    let a : get_or u (reps + j) 0 ≡ get_or v (reps + j) 0 = get_d_kept u v q (reps + j) e (omega arith) in
-    let b : get_or u (get_or v (reps + j) 0) 0 ≡ get_or v (get_or v (reps + j) 0) 0 = get_d_kept u v q (get_or v (reps + j) 0) e (omega arith) in
-    rw (a, b) r
-
-slots_set : (v : List ℕ) (c x reps m top q : ℕ) → c < top → ((j : ℕ) → j < m → reps + j ≢ c) → Slots v reps m top q → Slots (set v c x) reps m top q
-slots_set v c x reps m top q h n s j k =
-    let r = s j k in
-    let a : get_or (set v c x) (reps + j) 0 ≡ get_or v (reps + j) 0 = get_or-set_other v c (reps + j) x 0 (n j k) in
-    let b : get_or (set v c x) (get_or v (reps + j) 0) 0 ≡ get_or v (get_or v (reps + j) 0) 0 = get_or-set_other v c (get_or v (reps + j) 0) x 0 (λ e. omega arith) in
-    rw (a, b) r
-
-slots-snoc : (v : List ℕ) (reps m top q z : ℕ) → Slots v reps m top q → get_or v (reps + m) 0 ≡ q → top ≤ q → q + 2 + get_or v q 0 ≤ z → Slots v reps (m + 1) top z
-slots-snoc v reps m top q z s e h g j k = go (native.Mathlib.Decide.ℕ_discrete j m)
-  where
-    go : Dec (j ≡ m) → (top ≤ get_or v (reps + j) 0) × (get_or v (reps + j) 0 + 2 + get_or v (get_or v (reps + j) 0) 0 ≤ z)
-    go (yes p) = rw (p, e) (h, g)
-    go (no p) = let r = s j (omega arith) in (r.0, omega (arith, r.1))
-
-pub table_snoc : {B : Type 0} (f : ℕ → B) (a n b : ℕ) → b ≡ a + n → map f (range a (suc n)) ≡ map f (range a n) ++ f b ∷ []
-unfolding range
-table_snoc {B} f a zero b e = ap (λ (x : ℕ). f x ∷ []) (sym (e ∙ add-zero a))
-table_snoc {B} f a (suc n) b e = ap (λ (l : List B). f a ∷ l) (table_snoc f (suc a) n b (omega arith))
-
-keys-snoc : (v : List ℕ) (reps m : ℕ) → rep_keys v reps (suc m) ≡ rep_keys v reps m ++ key_at v (get_or v (reps + m) 0) ∷ []
-unfolding rep_keys
-keys-snoc v reps m = table_snoc (λ j. key_at v (get_or v (reps + j) 0)) 0 m m (omega arith)
+use Rattle.laws.proofs.FlagList.{in_either}
+use Rattle.ranked.specs.Words.{list_at, list_word}
+use Rattle.element_types.specs.Runs.{key_of, key_at, Keyed, Writable}
+use Rattle.element_types.specs.Numbers.{key_in, numbers_of, space_to, Numberable}
+use Rattle.element_types.proofs.Appeared.{table_snoc, numbered_next, kind_old, kind_new}
+use Rattle.element_types.proofs.Keys.{length-sorted}
+use Rattle.element_types.proofs.Parts.{get_d_kept, run-kept}
+use Rattle.element_types.proofs.Places.{all_in, position-map, found_place, unfound_place}
+use Rattle.element_types.proofs.Sorts.{length-under}
 
 -- ---- room
 
-space_le : (l : List ℕ) (lists k e n : ℕ) → e + k ≡ n → space_to l lists e ≤ space_to l lists n
+space_le : (l : List ℕ) (base k e n : ℕ) → e + k ≡ n → space_to l base e ≤ space_to l base n
 unfolding space_to
-space_le l lists zero e n h = let q : e ≡ n = omega arith in rw q (omega arith)
-space_le l lists (suc k) e n h = omega (arith, space_le l lists k (suc e) n (omega arith))
+space_le l base zero e n h = let q : e ≡ n = omega arith in rw q (omega arith)
+space_le l base (suc k) e n h = omega (arith, space_le l base k (suc e) n (omega arith))
 
-space_in : (l : List ℕ) (lists e n : ℕ) → e < n → space_to l lists e + 2 + length (list_at l (lists + 4 * e)) ≤ space_to l lists n
+space_in : (l : List ℕ) (base e n : ℕ) → e < n → space_to l base e + 2 + length (list_at l (list_word base e)) ≤ space_to l base n
 unfolding space_to
-space_in l lists e n h = omega (arith, space_le l lists (n - suc e) (suc e) n (omega arith))
+space_in l base e n h = omega (arith, space_le l base (n - suc e) (suc e) n (omega arith))
+
+-- ---- a key that is written
+
+-- The keys below word q are kept.
+key-kept : (u v : List ℕ) (q p : ℕ) → take q u ≡ take q v → length u ≡ length v → q ≤ length v → p + 2 + get_or v p 0 ≤ q → key_at u p ≡ key_at v p
+unfolding key_at
+key-kept u v q p e g b h =
+    ap (λ (n : ℕ). take (n + 1) (drop (p + 1) u)) (get_d_kept u v q p e (omega arith))
+    ∙ run-kept u v q (p + 1) (get_or v p 0 + 1) e g b (omega arith)
+
+-- The key that was written with its length before it stands there.
+module _ (v : List ℕ) (q n : ℕ) (k r : List ℕ) (e : drop q v ≡ n ∷ (k ++ r)) where
+  count-read : get_or v q 0 ≡ n
+  count-read = ap (λ (i : ℕ). get_or v i 0) (sym (add-zero q)) ∙ sym (get_or-drop q v 0 0) ∙ ap (λ (l : List ℕ). get_or l 0 0) e
+
+  key-read : length k ≡ n + 1 → key_at v q ≡ k
+  unfolding key_at
+  key-read m = ap₂ (λ (i : ℕ) (l : List ℕ). take (i + 1) l) count-read (sym (drop-drop 1 q v) ∙ ap (drop 1) e) ∙ take_at k r (n + 1) m
 
 -- ---- the loop
 
-pub record KeysScan (w : List ℕ) (lists n base from out : ℕ) (v : List ℕ) (m q e : ℕ) : Type 0 where
-  pub bound : e ≤ n
-  pub long : length v ≡ length w
-  pub kept : take out v ≡ take out w
-  pub numbers : slice out (out + e) v ≡ renumber eq_list (keys_to w lists base from out e)
-  pub keys : rep_keys v (out + n) m ≡ distinct eq_list (keys_to w lists base from out e)
+-- The first e of the numbers v are those of the elements' keys. The first m of the places x are below q and have one key of each kind.
+pub record KeysScan (l : List ℕ) (base : ℕ) (own next v x keys : List ℕ) (m q e : ℕ) : Type 0 where
   pub few : m ≤ e
-  pub slots : Slots v (out + n) m (out + n + n) q
-  pub past : out + n + n ≤ q
-  pub high : q ≤ out + n + n + space_to (take out w) lists e
+  pub numbers : take e v ≡ renumber eq_list (map (key_in l base own next) (range 0 e))
+  pub kinds : map (key_at keys) (take m x) ≡ distinct eq_list (map (key_in l base own next) (range 0 e))
+  pub low : (p : ℕ) → In p (take m x) → p + 2 + get_or keys p 0 ≤ q
+  pub high : q ≤ space_to l base e
 
--- What the words are counted by, in a turn, is below their number.
-abbrev pub Sums : List ℕ → ℕ → ℕ → ℕ → ℕ → ℕ → Type 0
-Sums w lists from out q e =
-    (q + 2 + length (list_at (take out w) (lists + 4 * e)) ≤ length w) × (lists + 4 * e < length w) × (from + e < length w) × (out + e < length w)
+module _ (l : List ℕ) (base : ℕ) (own next : List ℕ) where
+  abbrev Key : ℕ → List ℕ
+  Key = key_in l base own next
 
-module _ (w : List ℕ) (lists n base from out : ℕ) (r : Numberable w lists n base from out) where
-  pub scan-first : KeysScan w lists n base from out w 0 (out + n + n) 0
-  unfolding keys_to rep_keys space_to renumber distinct range
-  scan-first = record {
-    bound = omega arith;
-    long = refl;
-    kept = refl;
-    numbers = ap (λ (a : ℕ). slice out a w) (add-zero out) ∙ slice_empty out w;
-    keys = refl;
-    few = omega arith;
-    slots = λ j h. absurd (omega arith);
-    past = omega arith;
-    high = omega arith;
-  }
+  pub scan-first : (v x keys : List ℕ) → KeysScan l base own next v x keys 0 0 0
+  unfolding renumber distinct range space_to
+  scan-first v x keys = record { few = omega arith; numbers = refl; kinds = refl; low = λ p h. absurd h; high = omega arith }
 
-  pub scan-end : (v : List ℕ) (m q e : ℕ) → KeysScan w lists n base from out v m q e → n ≤ e → NumbersWritten w v lists n base from out
-  scan-end v m q e s h =
-      let g : e ≡ n = omega (arith, s.bound) in
-      record { long = s.long; kept = s.kept; numbers = rw g at s.numbers }
+  pub scan-end : (v x keys : List ℕ) (m q e : ℕ) → KeysScan l base own next v x keys m q e → length own ≤ e → e ≤ length own → length v ≡ length own → v ≡ numbers_of l base own next
+  unfolding numbers_of
+  scan-end v x keys m q e s h k long =
+      let z : e ≡ length own = omega arith in
+      sym (take_all e v (omega arith)) ∙ s.numbers ∙ ap (λ (n : ℕ). renumber eq_list (map Key (range 0 n))) z
 
-  module _ (v : List ℕ) (m q e : ℕ) (s : KeysScan w lists n base from out v m q e) (h : e < n) where
-    abbrev i : ℕ
-    i = lists + 4 * e
-
-    abbrev l : List ℕ
-    l = list_at (take out w) i
-
-    tall : q + 2 + length l ≤ out + n + n + space_to (take out w) lists n
-    tall = omega (arith, s.high, space_in (take out w) lists e n h)
-
-    -- The element's list stands where it stood.
-    list_same : Lies (take q v) i × (list_at (take q v) i ≡ l)
-    list_same = list-kept v w out q i s.kept (omega (arith, s.past)) (omega (arith, s.long, tall, r.room)) (r.lie e h)
-
-    pub writable : Writable v i base (from + e) q
-    writable = record {
-      lies = list_same.0;
-      members = rw list_same.1 (λ y k. omega (arith, r.members e y h k, s.past));
-      typed = omega (arith, r.own, s.past);
-      room = rw (list_same.1, s.long) (omega (arith, tall, r.room));
-    }
-
-    key_same : key_of v base (from + e) (list_at (take q v) i) ≡ key_in w lists base from out e
-    unfolding key_in key_of
-    key_same =
-        ap₂ (λ (t : ℕ) (x : List ℕ). t ∷ Rattle.spec.specs.Search.sorted x) (get_d_kept v w out (from + e) s.kept (omega (arith, r.own)))
-        (ap (under v base) list_same.1 ∙ under-kept v w out base l s.kept (λ y k. r.members e y h k))
-
-    abbrev u : List ℕ
-    u = written_at v i base (from + e) q
-
-    abbrev key : List ℕ
-    key = key_in w lists base from out e
+  module _ (v x keys : List ℕ) (m q e : ℕ) (s : KeysScan l base own next v x keys m q e) (h : e < length own) (f : Numberable l base own next v x keys) where
+    abbrev es : List ℕ
+    es = list_at l (list_word base e)
 
     abbrev done : List (List ℕ)
-    done = keys_to w lists base from out e
+    done = map Key (range 0 e)
 
-    u-low : take q u ≡ take q v
-    u-low = written_low v i base (from + e) q writable
+    tall : q + 2 + length es ≤ space_to l base (length own)
+    tall = omega (arith, s.high, space_in l base e (length own) h)
 
-    u_long : length u ≡ length v
-    u_long = length-written v i base (from + e) q writable
+    pub q-small : q + (2 + length es) < 2 ^ 32
+    q-small = omega (arith, tall, f.neighbours.small)
 
-    u-key : key_at u q ≡ key
-    u-key = written-key v i base (from + e) q writable ∙ key_same
+    pub q-in : q ≤ length keys
+    q-in = omega (arith, tall, f.room)
 
-    u-count : get_or u q 0 ≡ length l
-    u-count = written_count v i base (from + e) q writable ∙ ap length list_same.1
+    -- The key is written behind those that were met.
+    abbrev rest : List ℕ
+    rest = take (length keys - q) (drop q keys)
 
-    u-keys : rep_keys u (out + n) m ≡ distinct eq_list done
-    u-keys = keys_kept u v q u-low u_long (omega (arith, s.long, tall, r.room)) (out + n) m (omega (arith, s.few, s.past)) (λ j k. (s.slots j k).1) ∙ s.keys
+    rest_long : length rest ≡ length keys - q
+    rest_long = simp (length-take, length-drop) (omega arith)
 
-    u-slots : Slots u (out + n) m (out + n + n) q
-    u-slots = slots_kept u v (out + n) m (out + n + n) q u-low (omega (arith, s.few, s.past)) s.slots
-
-    -- So the key can be found, and its number stored.
-    pub opened : Open u (out + e) (out + n) m q
-    opened = record {
-      key = rw (u-count, u_long, s.long) (omega (arith, tall, r.room));
-      number = omega arith;
-      places = omega (arith, s.few, s.past);
-      keys = λ j k. (u-slots j k).1;
-      small = omega (arith, tall, r.small);
+    pub writable : Writable es next rest
+    writable = record {
+      members = λ y i. f.neighbours.members e y h i;
+      room = omega (arith, tall, f.room, rest_long);
+      small = omega (arith, tall, f.neighbours.small);
     }
 
-    p : ℕ
-    p = number_of u (out + n) m q
+    -- This is what stands there then, and where the keys are.
+    module _ (fresh : List ℕ) (long : length fresh ≡ length rest) (fresh_is : fresh ≡ written (length es ∷ key_of next (get_or own e 0) es) rest) where
+      abbrev u : List ℕ
+      u = put_mid q (length keys - q) keys fresh
 
-    p_is : p ≡ place eq_list key (distinct eq_list done)
-    unfolding p number_of
-    p_is = ap₂ (place eq_list) u-key u-keys
+      u_long : length u ≡ length keys
+      u_long = simp (length-append, length-take, length-drop) (omega (arith, long, rest_long, q-in))
 
-    many : length (distinct eq_list done) ≡ m
-    many = ap length (sym u-keys) ∙ length-keys u (out + n) m
+      u-front : take q u ≡ take q keys
+      u-front = take-put_mid_below q (length keys - q) keys fresh q (omega arith) q-in
 
-    -- ---- the numbers
+      key-long : length (Key e) ≡ length es + 1
+      unfolding key_in key_of
+      key-long = omega (arith, length-sorted _ ∙ length-under next es)
 
-    module _ (x : List ℕ) (front : take (suc (out + e)) x ≡ take (out + e) v ++ p ∷ []) where
-      inside : out + e ≤ length v
-      inside = omega (arith, s.long, tall, r.room)
+      behind : drop q u ≡ length es ∷ (Key e ++ (drop (length (length es ∷ Key e)) rest ++ post_of q (length keys - q) keys))
+      unfolding key_in written
+      behind =
+          drop_at (take q keys) (fresh ++ post_of q (length keys - q) keys) q (length-take-le q keys q-in)
+          ∙ ap (λ (r : List ℕ). r ++ post_of q (length keys - q) keys) fresh_is
+          ∙ append_assoc (length es ∷ Key e) (drop (length (length es ∷ Key e)) rest) (post_of q (length keys - q) keys)
 
-      next-kept : take out x ≡ take out w
-      next-kept =
-          sym (take-take out (suc (out + e)) x (omega arith)) ∙ ap (take out) front
-          ∙ take-append-le out (take (out + e) v) (p ∷ []) (rw (length-take-le (out + e) v inside) (omega arith))
-          ∙ take-take out (out + e) v (omega arith) ∙ s.kept
+      u-key : key_at u q ≡ Key e
+      u-key = key-read u q (length es) (Key e) _ behind key-long
 
-      next_numbers : slice out (out + (e + 1)) x ≡ renumber eq_list (keys_to w lists base from out (e + 1))
-      unfolding keys_to
-      next_numbers =
-          ap (λ (a : ℕ). slice out (out + a) x) (add-one e) ∙ ap (λ (a : ℕ). slice out a x) (add-suc out e)
-          ∙ ap (drop out) front
-          ∙ drop-append-le out (take (out + e) v) (p ∷ []) (rw (length-take-le (out + e) v inside) (omega arith))
-          ∙ ap₂ (λ (l : List ℕ) (a : ℕ). l ++ a ∷ []) s.numbers p_is
-          ∙ sym (renumber-snoc eq_list test done key)
-          ∙ ap (λ (a : ℕ). renumber eq_list (keys_to w lists base from out a)) (sym (add-one e))
+      u-count : get_or u q 0 ≡ length es
+      u-count = count-read u q (length es) (Key e) _ behind
 
-    stored : take (suc (out + e)) (set u (out + e) p) ≡ take (out + e) v ++ p ∷ []
-    stored =
-        take-suc-set u (out + e) p (omega (arith, u_long, s.long, tall, r.room))
-        ∙ ap (λ (l : List ℕ). l ++ p ∷ []) (take-kept u v q (out + e) u-low (omega (arith, s.past)))
+      pub keyed : Keyed u q
+      keyed = omega (arith, u-count, u_long, tall, f.room)
 
-    -- The number is stored before the places and the keys.
-    abbrev u₁ : List ℕ
-    u₁ = set u (out + e) p
+      u-kinds : map (key_at u) (take m x) ≡ distinct eq_list done
+      u-kinds = map_same (key_at u) (key_at keys) (take m x) (λ p i. key-kept u keys q p u-front u_long q-in (s.low p i)) ∙ s.kinds
 
-    keys₁ : rep_keys u₁ (out + n) m ≡ distinct eq_list done
-    keys₁ = keys-set u (out + e) p (out + n) m (λ j k c. omega arith) (λ j k. omega (arith, (u-slots j k).0)) ∙ u-keys
+      u-low : (p : ℕ) → In p (take m x) → p + 2 + get_or u p 0 ≤ q
+      u-low p i = omega (arith, s.low p i, get_d_kept u keys q p u-front (omega (arith, s.low p i)))
 
-    slots₁ : Slots u₁ (out + n) m (out + n + n) q
-    slots₁ = slots_set u (out + e) p (out + n) m (out + n + n) q (omega arith) (λ j k c. omega arith) u-slots
+      pub places_keyed : All (Keyed u) (take m x)
+      places_keyed = all_in (Keyed u) (take m x) (λ p i. omega (arith, u-low p i, u_long, q-in))
 
-    long₁ : length u₁ ≡ length w
-    long₁ = length-set u (out + e) p ∙ u_long ∙ s.long
+      m-in : m < length x
+      m-in = omega (arith, s.few, f.placed)
 
-    -- ---- a key that was there
+      many : length (distinct eq_list done) ≡ m
+      many = ap length (sym u-kinds) ∙ length-map (take m x) (key_at u) ∙ length-take-le m x (omega (arith, m-in))
 
-    met : p < m → In key done
-    met k = go (in? eq_list test key (distinct eq_list done))
-      where
-        go : Dec (In key (distinct eq_list done)) → In key done
-        go (yes a) = of-distinct eq_list test key done a
-        go (no a) = absurd (omega (arith, p_is, many, place_out eq_list test (distinct eq_list done) key a))
+      -- ---- its number
 
-    keys_old : p < m → distinct eq_list done ≡ distinct eq_list (keys_to w lists base from out (e + 1))
-    unfolding keys_to
-    keys_old k = rw (add-one e) (sym (distinct_old eq_list test done key (met k)))
+      module _ (found : Option ℕ) (o : found ≡ position (λ p. eq_list (key_at u p) (key_at u q)) (take m x)) where
+        among : found ≡ position (λ k. eq_list k (Key e)) (distinct eq_list done)
+        among =
+            o ∙ position-map (λ k. eq_list k (key_at u q)) (key_at u) (take m x)
+            ∙ ap₂ (λ (k : List ℕ) (ks : List (List ℕ)). position (λ z. eq_list z k) ks) u-key u-kinds
 
-    scan-low : p < m → KeysScan w lists n base from out u₁ m q (e + 1)
-    scan-low k = record {
-      bound = omega arith;
-      long = long₁;
-      kept = next-kept u₁ stored;
-      numbers = next_numbers u₁ stored;
-      keys = keys₁ ∙ keys_old k;
-      few = omega (arith, s.few);
-      slots = slots₁;
-      past = s.past;
-      high = rw (add-one e) (omega (arith, s.high, space_le (take out w) lists 1 e (suc e) (omega arith)));
-    }
+        pub key_old : (p : ℕ) → found ≡ Some p → (p ≡ place eq_list (Key e) (distinct eq_list done)) × (p < m)
+        key_old p k =
+            let both = found_place eq_list (Key e) (distinct eq_list done) found among p k in
+            (both.0, omega (arith, both.1, many))
 
-    -- ---- a key that is new
+        pub key_new : found ≡ None → m ≡ place eq_list (Key e) (distinct eq_list done)
+        key_new k = sym (unfound_place eq_list (Key e) (distinct eq_list done) found among k ∙ many)
 
-    unmet : m ≤ p → ¬ In key done
-    unmet k a = let b = place_at eq_list test [] (distinct eq_list done) (in_distinct eq_list test key done a) in omega (arith, b.0, p_is, many)
+      module _ (p : ℕ) (number : p ≡ place eq_list (Key e) (distinct eq_list done)) where
+        more : map Key (range 0 (e + 1)) ≡ done ++ Key e ∷ []
+        more = ap (λ (i : ℕ). map Key (range 0 i)) (add-one e) ∙ table_snoc Key 0 e e (omega arith)
 
-    abbrev u₂ : List ℕ
-    u₂ = set u₁ (out + n + m) q
+        numbers-next : take (e + 1) (set v e p) ≡ renumber eq_list (map Key (range 0 (e + 1)))
+        numbers-next = numbered_next eq_list lists done (Key e) m p many number v e (omega (arith, f.numbered)) s.numbers ∙ ap (renumber eq_list) (sym more)
 
-    place_in : out + n + m < length u₁
-    place_in = omega (arith, long₁, tall, r.room, s.few, s.past)
+        -- The key was met before.
+        pub scan_old : p ≢ m → KeysScan l base own next (set v e p) x u m q (e + 1)
+        scan_old z = record {
+          few = omega (arith, s.few);
+          numbers = numbers-next;
+          kinds = u-kinds ∙ sym (ap (distinct eq_list) more ∙ kind_old eq_list lists done (Key e) m p many number z);
+          low = u-low;
+          high = rw (add-one e) (omega (arith, s.high, space_le l base 1 e (suc e) (omega arith)));
+        }
 
-    u₂-place : get_or u₂ (out + n + m) 0 ≡ q
-    u₂-place = get_or-set_same u₁ (out + n + m) q 0 place_in
+        -- The key is new, and stays.
+        places : take (m + 1) (set x m q) ≡ take m x ++ q ∷ []
+        places = ap (λ (i : ℕ). take i (set x m q)) (add-one m) ∙ take-suc-set x m q m-in
 
-    u₂-key : key_at u₂ q ≡ key
-    u₂-key =
-        key_set u₁ (out + n + m) q q (omega (arith, s.few, s.past)) ∙ key_set u (out + e) p q (omega (arith, s.past)) ∙ u-key
-
-    u₂-count : get_or u₂ q 0 ≡ length l
-    u₂-count =
-        get_or-set_other u₁ (out + n + m) q q 0 (λ c. omega (arith, s.few, s.past))
-        ∙ get_or-set_other u (out + e) q p 0 (λ c. omega (arith, s.past))
-        ∙ u-count
-
-    keys₂ : rep_keys u₂ (out + n) m ≡ distinct eq_list done
-    keys₂ = keys-set u₁ (out + n + m) q (out + n) m (λ j k c. omega arith) (λ j k. omega (arith, (slots₁ j k).0, s.few)) ∙ keys₁
-
-    slots₂ : Slots u₂ (out + n) m (out + n + n) q
-    slots₂ = slots_set u₁ (out + n + m) q (out + n) m (out + n + n) q (omega (arith, s.few)) (λ j k c. omega arith) slots₁
-
-    keys_new : m ≤ p → rep_keys u₂ (out + n) (m + 1) ≡ distinct eq_list (keys_to w lists base from out (e + 1))
-    unfolding keys_to
-    keys_new k =
-        ap (rep_keys u₂ (out + n)) (add-one m) ∙ keys-snoc u₂ (out + n) m
-        ∙ ap₂ (λ (l : List (List ℕ)) (x : List ℕ). l ++ x ∷ []) keys₂ (ap (key_at u₂) u₂-place ∙ u₂-key)
-        ∙ sym (distinct_new eq_list test done key (unmet k))
-        ∙ ap (λ (a : ℕ). distinct eq_list (keys_to w lists base from out a)) (sym (add-one e))
-
-    stored₂ : take (suc (out + e)) u₂ ≡ take (out + e) v ++ p ∷ []
-    stored₂ = take-set-le (suc (out + e)) u₁ (out + n + m) q (omega arith) ∙ stored
-
-    scan_high : m ≤ p → KeysScan w lists n base from out u₂ (m + 1) (q + 2 + length l) (e + 1)
-    scan_high k = record {
-      bound = omega arith;
-      long = length-set u₁ (out + n + m) q ∙ long₁;
-      kept = next-kept u₂ stored₂;
-      numbers = next_numbers u₂ stored₂;
-      keys = keys_new k;
-      few = omega (arith, s.few);
-      slots = slots-snoc u₂ (out + n) m (out + n + n) q (q + 2 + length l) slots₂ u₂-place s.past (omega (arith, u₂-count));
-      past = omega (arith, s.past);
-      high = rw (add-one e) (omega (arith, s.high, space_in (take out w) lists e (suc e) (omega arith)));
-    }
-
-    -- ---- as the code has it: x is what writing the key left, k says how many neighbours the element has, y is what numbering left, and b tells whether the
-    -- key is new
-
-    module _ (x : List ℕ) (c : x ≡ u) where
-      pub asked : Open x (out + e) (out + n) m q
-      asked = rw c opened
-
-      module _ (y : List ℕ) (b : Bool) (f : b ≡ leb m (number_of x (out + n) m q)) (g : y ≡ noted x (out + e) (out + n) m q) where
-        pub scan_old : b ≡ false → KeysScan w lists n base from out y m q (e + 1)
-        unfolding p
-        scan_old k =
-            let a : p < m = leb-false m p (sym (rw c at f) ∙ k) in
-            rw (g, c, noted-low u (out + e) (out + n) m q a) (scan-low a)
-
-        pub scan_new : b ≡ true → (k : ℕ) → k ≡ length (list_at (take q v) i) → KeysScan w lists n base from out y (m + 1) (q + (2 + k)) (e + 1)
-        unfolding p
-        scan_new d k z =
-            let a : m ≤ p = leb-true m p (sym (rw c at f) ∙ d) in
-            rw (g, c, noted_high u (out + e) (out + n) m q a, z, list_same.1, sym (add_assoc q 2 (length l))) (scan_high a)
-
-    pub sums_fit : Sums w lists from out q e
-    sums_fit =
-        let a = r.lie e h in
-        let b : out ≤ length w = omega (arith, r.room) in
-        let c : lists + 4 * e + 1 < out = rw (length-take-le out w b) at a.head in
-        (omega (arith, tall, r.room), omega arith, omega (arith, r.own, r.room), omega (arith, r.room))
+        pub scan_new : p ≡ m → (k : ℕ) → k ≡ 2 + length es → KeysScan l base own next (set v e p) (set x m q) u (m + 1) (q + k) (e + 1)
+        scan_new z k k_is = record {
+          few = omega (arith, s.few);
+          numbers = numbers-next;
+          kinds =
+              ap (map (key_at u)) places ∙ map-append (key_at u) (take m x) (q ∷ [])
+              ∙ ap₂ (λ (ks : List (List ℕ)) (z : List ℕ). ks ++ z ∷ []) u-kinds u-key
+              ∙ sym (ap (distinct eq_list) more ∙ kind_new eq_list lists done (Key e) m p many number z);
+          low = λ g i. side g (in_either g (take m x) (q ∷ []) (rw places at i));
+          high = rw (add-one e) (omega (arith, s.high, space_in l base e (suc e) (omega arith)));
+        }
+          where
+            side : (g : ℕ) → In g (take m x) ⊎ In g (q ∷ []) → g + 2 + get_or u g 0 ≤ q + k
+            side g (inl i) = omega (arith, u-low g i)
+            side g (inr (inl i)) = rw i (omega (arith, u-count))
+            side g (inr (inr i)) = elim i [ ]

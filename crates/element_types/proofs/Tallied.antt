@@ -3,7 +3,7 @@
 use Rattle.std.specs.Prelude.{Option, Some, None}
 use Rattle.std.specs.List.{fold, reduce}
 use Rattle.std.specs.Option.{unwrap_or}
-use mathlib.Core.Path.{◌≡◌, refl, sym, ◌∙◌, ap}
+use mathlib.Core.Path.{◌≡◌, refl, sym, ap}
 use mathlib.Core.Logic.{inl, inr}
 use mathlib.Core.List.{List, [], ◌∷◌, map}
 use Prim.Native.Nat.{ℕ, suc, max, ◌+◌, ◌-◌, ◌≤◌, ◌<◌}
@@ -11,10 +11,10 @@ use native.Mathlib.Decide.{dec_lt}
 use native.Mathlib.Numerals.{add-one}
 use native.Mathlib.Omega.{arith}
 use lib.Dec.{eqb}
-use lib.ListN.{length, take, drop, length-take, length-drop}
+use lib.ListN.{length, length-take, length-drop}
 use Rattle.spec.specs.Lists.{In, distinct, range, sum}
 use Rattle.spec.specs.Types.{types_at, proper_ranks, type_count, in_use}
-use Rattle.laws.proofs.Lists.{map_same, get_d_table, in_range_lem, of_range}
+use Rattle.laws.proofs.Lists.{map_same, in_range_lem, of_range}
 use Rattle.laws.proofs.Distinct.{pigeons, in_distinct, of-distinct, once_distinct}
 use Rattle.laws.proofs.Counts.{numbers}
 use Rattle.ranked.specs.declared.Shape.{Shape}
@@ -22,6 +22,7 @@ use Rattle.ranked.specs.Words.{first_at, size_at, total, lists_of, abs_in}
 use Rattle.ranked.specs.Layout as layout
 use Rattle.ranked.proofs.Solids.{top_is, in_order_lem}
 use Rattle.element_types.specs.State.{types_in, state_in, Countable}
+use Rattle.element_types.proofs.States.{types-at}
 
 -- ---- one rank
 
@@ -80,16 +81,12 @@ unfoldable pub counts_from : Shape → List ℕ → ℕ → ℕ
 counts_from sh w r = sum (map (count_in sh w) (range r (sh.rank - r)))
 
 module _ (sh : Shape) (w : List ℕ) where
-  types-at : (q : ℕ) → q ≤ sh.rank → types_at (state_in sh w) q ≡ types_in sh w q
-  unfolding state_in
-  types-at q h = get_d_table (types_in sh w) [] (suc sh.rank) q (omega arith)
-
   pub counts_all : counts_from sh w 1 ≡ type_count (abs_in sh (lists_of sh w)) (state_in sh w)
   unfolding counts_from type_count proper_ranks count_in
   counts_all =
       rw (top_is sh (lists_of sh w))
       (ap sum (map_same (count_in sh w) (λ r. length (distinct eqb (types_at (state_in sh w) r))) (range 1 (sh.rank - 1))
-      (λ r m. ap (λ (t : List ℕ). length (distinct eqb t)) (sym (types-at r (omega (arith, of_range 1 (sh.rank - 1) r m)))))))
+      (λ r m. ap (λ (t : List ℕ). length (distinct eqb t)) (sym (types-at sh w r (omega (arith, of_range 1 (sh.rank - 1) r m)))))))
 
   counts-next : (r : ℕ) → r < sh.rank → counts_from sh w r ≡ count_in sh w r + counts_from sh w (r + 1)
   unfolding counts_from range sum
@@ -114,40 +111,28 @@ module _ (sh : Shape) (w : List ℕ) (a : Countable sh w) (n r : ℕ) (i : Types
     pub offsets : (first_at sh r < first_at sh (suc r)) × (first_at sh (suc r) ≤ total sh)
     offsets = (a.held.some r (omega arith), in_order_lem sh (lists_of sh w) a.held (suc r) (suc sh.rank) (omega arith) (omega arith))
 
-    -- In the code's terms, the types of the rank's `many` elements stand from word `from` on.
-    module _ (from many : ℕ) (f : from ≡ layout.types_at sh r) (m : many ≡ size_at sh r) where
-      pub run_in : from + many ≤ length w
-      run_in = omega (arith, offsets, a.room)
+    -- There is a type for each of the rank's elements.
+    run_in : layout.types_at sh r + size_at sh r ≤ length w
+    run_in = omega (arith, offsets, a.room)
 
-      -- These are their types, as a slice of the words has them.
-      abbrev run : List ℕ
-      run = take (from + many - from) (drop from w)
+    pub run_long : length (types_in sh w r) ≡ size_at sh r
+    unfolding types_in
+    run_long = simp (length-take, length-drop) (omega (arith, run_in))
 
-      pub run_long : length run ≡ many
-      run_long = simp (length-take, length-drop) (omega (arith, run_in))
+    pub run_numbered : distinct eqb (types_in sh w r) ≡ range 0 (length (distinct eqb (types_in sh w r)))
+    unfolding in_use
+    run_numbered = rw (sym (types-at sh w r (omega arith))) (a.numbered r i.proper h).first
 
-      run_is : run ≡ types_at (state_in sh w) r
-      unfolding types_in
-      run_is =
-          let e : from + many - from ≡ many = omega arith in
-          ap (λ (k : ℕ). take k (drop from w)) e ∙ rw (f, m) (sym (types-at sh w r (omega arith)))
+    module _ (k : ℕ) (e : k ≡ length (distinct eqb (types_in sh w r))) where
+      few_more : n + k ≤ first_at sh (suc r)
+      few_more = omega (arith, e, types_few (types_in sh w r), run_long, i.few, offsets)
 
-      pub run_numbered : distinct eqb run ≡ range 0 (length (distinct eqb run))
-      unfolding in_use
-      run_numbered = rw run_is (a.numbered r i.proper h).first
+      pub sum_fits : n + k ≤ length w
+      sum_fits = omega (arith, few_more, offsets, a.room)
 
-      module _ (k : ℕ) (e : k ≡ length (distinct eqb run)) where
-        few_more : n + k ≤ first_at sh (suc r)
-        few_more = omega (arith, e, types_few run, run_long, i.few, offsets)
-
-        pub sum_fits : n + k ≤ length w
-        sum_fits = omega (arith, few_more, offsets, a.room)
-
-        pub tally_next : TypesTally sh w (n + k) (r + 1)
-        unfolding count_in
-        tally_next =
-            let c : k ≡ count_in sh w r = e ∙ ap (λ (t : List ℕ). length (distinct eqb t)) (run_is ∙ types-at sh w r (omega arith)) in
-            record { proper = omega arith; few = rw (add-one r) few_more; rest = omega (arith, i.rest, counts-next sh w r h) }
+      pub tally_next : TypesTally sh w (n + k) (r + 1)
+      unfolding count_in
+      tally_next = record { proper = omega arith; few = rw (add-one r) few_more; rest = omega (arith, e, i.rest, counts-next sh w r h) }
 
   pub tally_end : sh.rank ≤ r → n ≡ type_count (abs_in sh (lists_of sh w)) (state_in sh w)
   tally_end h = omega (arith, i.rest, counts_end sh w r h, counts_all sh w)

@@ -4,3 +4,4 @@ pub mod State
 pub mod Start
 pub mod Settle
 pub mod Typed
+pub mod Read

@@ -1,59 +1,34 @@
--- The elements of a rank are numbered by their keys one after another.
+-- The elements of a rank are numbered by their keys.
 -- Assumes nothing.
-use Rattle.std.specs.Prelude.{◌≡◌, true, false, List, [], ◌∷◌, ◌++◌, ℕ, zero, suc, ◌+◌, ◌*◌, ◌^◌, ◌≤◌, ◌<◌, length, get_or, take, set, ltb}
-use Rattle.std.proofs.Math.Seq.{slice}
-use Rattle.spec.specs.Lists.{In, place, renumber, eq_list}
-use Rattle.ranked.specs.Words.{list_at}
+use Rattle.std.specs.Prelude.{◌≡◌, List, map, ℕ, zero, suc, ◌+◌, ◌^◌, ◌≤◌, ◌<◌, length, get_or}
+use Rattle.spec.specs.Lists.{In, range, renumber, eq_list}
+use Rattle.ranked.specs.Words.{list_at, list_word}
 use Rattle.ranked.specs.Reading.{Lies}
-use Rattle.element_types.specs.Runs.{key_of, key_at, rep_keys, Keyed}
+use Rattle.element_types.specs.Runs.{key_of}
 
--- ---- one element
+-- Gives the key of element e. Its type is entry e of `own`, the list of its neighbours is at word list_word base e of the lists l, and `next` has their
+-- types.
+unfoldable pub key_in : List ℕ → ℕ → List ℕ → List ℕ → ℕ → List ℕ
+key_in l base own next e = key_of next (get_or own e 0) (list_at l (list_word base e))
 
--- Gives the number of the first of the m keys that is the key at word q, or m if none is, which is then its number.
-unfoldable pub number_of : List ℕ → ℕ → ℕ → ℕ → ℕ
-number_of v reps m q = place eq_list (key_at v q) (rep_keys v reps m)
+-- Gives the numbers of the elements, by first appearance of their keys.
+unfoldable pub numbers_of : List ℕ → ℕ → List ℕ → List ℕ → List ℕ
+numbers_of l base own next = renumber eq_list (map (key_in l base own next) (range 0 (length own)))
 
--- Gives the words with that number at word `cell` and, where the key is new, with its place behind the places of the other keys.
-unfoldable pub noted : List ℕ → ℕ → ℕ → ℕ → ℕ → List ℕ
-noted v cell reps m q =
-    let p = number_of v reps m q in
-    elim (ltb p m) [ true ↦ set v cell p | false ↦ set (set v cell p) (reps + m) q ]
-
--- The keys that are there lie below the one at word q, and there is room for its number and its place.
-pub record Open (w : List ℕ) (cell reps m q : ℕ) : Type 0 where
-  pub key : Keyed w q
-  pub number : cell < reps
-  pub places : reps + m < q
-  pub keys : (j : ℕ) → j < m → get_or w (reps + j) 0 + 2 + get_or w (get_or w (reps + j) 0) 0 ≤ q
-  pub small : q < 2 ^ 32
-
--- ---- a rank
-
--- Gives the key of element e, whose list is at word lists + 4 * e and whose type is at word from + e. All this stands below word `out`.
-unfoldable pub key_in : List ℕ → ℕ → ℕ → ℕ → ℕ → ℕ → List ℕ
-key_in w lists base from out e = key_of w base (from + e) (list_at (take out w) (lists + 4 * e))
-
--- Lists the keys of the elements below e.
-unfoldable pub keys_to : List ℕ → ℕ → ℕ → ℕ → ℕ → ℕ → List (List ℕ)
-keys_to w lists base from out zero = []
-keys_to w lists base from out (suc e) = keys_to w lists base from out e ++ key_in w lists base from out e ∷ []
-
--- Counts the words that those keys take at most.
+-- Counts the words that the keys of the elements below e take at most.
 unfoldable pub space_to : List ℕ → ℕ → ℕ → ℕ
-space_to l lists zero = 0
-space_to l lists (suc e) = space_to l lists e + (2 + length (list_at l (lists + 4 * e)))
+space_to l base zero = 0
+space_to l base (suc e) = space_to l base e + (2 + length (list_at l (list_word base e)))
 
--- The lists of the n elements, the types of their neighbours and their own stand below word `out`. From there on there is room for n numbers, n places
--- and the keys.
-pub record Numberable (w : List ℕ) (lists n base from out : ℕ) : Type 0 where
-  pub lie : (e : ℕ) → e < n → Lies (take out w) (lists + 4 * e)
-  pub members : (e y : ℕ) → e < n → In y (list_at (take out w) (lists + 4 * e)) → base + y < out
-  pub own : from + n ≤ out
-  pub room : out + n + n + space_to (take out w) lists n ≤ length w
-  pub small : out + n + n + space_to (take out w) lists n < 2 ^ 32
+-- Each element has a list of neighbours, and each of these a type. A word can hold the number of any element, and of any word of their keys.
+pub record Neighbouring (l : List ℕ) (base : ℕ) (own next : List ℕ) : Type 0 where
+  pub lie : (e : ℕ) → e < length own → Lies l (list_word base e)
+  pub members : (e y : ℕ) → e < length own → In y (list_at l (list_word base e)) → y < length next
+  pub small : length own + space_to l base (length own) < 2 ^ 32
 
--- Nothing below `out` has changed, and the numbers stand from there on.
-pub record NumbersWritten (w v : List ℕ) (lists n base from out : ℕ) : Type 0 where
-  pub long : length v ≡ length w
-  pub kept : take out v ≡ take out w
-  pub numbers : slice out (out + n) v ≡ renumber eq_list (keys_to w lists base from out n)
+-- There is room for a number of each element, and for all keys and their places.
+pub record Numberable (l : List ℕ) (base : ℕ) (own next numbers places keys : List ℕ) : Type 0 where
+  pub neighbours : Neighbouring l base own next
+  pub numbered : length numbers ≡ length own
+  pub placed : length own ≤ length places
+  pub room : space_to l base (length own) ≤ length keys

@@ -1,7 +1,7 @@
 -- A program numbers elements in lent words as section 4 says:
 -- "Start: elements of a proper rank share a type exactly when they share a distance class."
 -- Assumes nothing.
-use Rattle.std.specs.Prelude.{◌≡◌, ◌⊎◌, List, map, ℕ, ◌+◌, ◌^◌, ◌≤◌, ◌<◌, length, get_or, take, drop, eqb, Float}
+use Rattle.std.specs.Prelude.{◌≡◌, List, map, ℕ, ◌^◌, ◌≤◌, ◌<◌, length, get_or, take, eqb, Float}
 use Rattle.std.specs.Float.{nan}
 use Rattle.spec.specs.Lists.{renumber, range}
 use Rattle.spec.specs.Types.{start}
@@ -15,30 +15,20 @@ use Rattle.element_types.specs.State.{state_in, Sweepable}
 
 -- ---- a rank
 
--- Gives the class of element e. The classes of its rank stand from cell `from` on.
-abbrev pub cell_at : List Float → ℕ → ℕ → Float
-cell_at cells from e = get_or cells (from + e) nan
+-- Two elements have the same number exactly when their classes are one.
+abbrev pub Shares : List Float → (ℕ → ℕ) → Type 0
+Shares classes cls =
+    (e g : ℕ) → e < length classes → g < length classes → eqb (cls e) (cls g) ≡ same_class (get_or classes e nan) (get_or classes g nan)
 
--- Lists the classes of the m elements whose numbers the words from `reps` on hold.
-unfoldable pub rep_cells : List ℕ → ℕ → ℕ → List Float → ℕ → List Float
-rep_cells w reps m cells from = map (λ j. cell_at cells from (get_or w (reps + j) 0)) (range 0 m)
+-- There is room for a number of each element, and for the elements that are the first of a class.
+pub record ClassesFit (classes : List Float) (numbers firsts : List ℕ) : Type 0 where
+  pub numbered : length numbers ≡ length classes
+  pub room : length classes ≤ length firsts
+  pub small : length classes < 2 ^ 32
 
--- Two of the n elements have the same number exactly when their cells are one class.
-abbrev pub Shares : List Float → ℕ → ℕ → (ℕ → ℕ) → Type 0
-Shares cells from n cls = (e g : ℕ) → e < n → g < n → eqb (cls e) (cls g) ≡ same_class (cell_at cells from e) (cell_at cells from g)
-
--- There is room for n numbers from word `to` on and for n elements from word `reps` on, and there are n cells from cell `from` on.
-pub record ClassesFit (w : List ℕ) (to reps n : ℕ) (cells : List Float) (from : ℕ) : Type 0 where
-  pub apart : to + n ≤ reps
-  pub room : reps + n ≤ length w
-  pub inside : from + n ≤ length cells
-  pub small : n < 2 ^ 32
-
--- The n numbers are those of the classes, by first appearance, and nothing else below `reps` changed.
-pub record ByClass (w v : List ℕ) (to reps n : ℕ) (cells : List Float) (from : ℕ) : Type 0 where
-  pub long : length v ≡ length w
-  pub others : (i : ℕ) → i < reps → (i < to) ⊎ (to + n ≤ i) → get_or v i 0 ≡ get_or w i 0
-  pub numbers : (cls : ℕ → ℕ) → Shares cells from n cls → take n (drop to v) ≡ renumber eqb (map cls (range 0 n))
+-- The numbers are those of the classes, by first appearance.
+abbrev pub ByClass : List Float → List ℕ → Type 0
+ByClass classes numbers = (cls : ℕ → ℕ) → Shares classes cls → numbers ≡ renumber eqb (map cls (range 0 (length classes)))
 
 -- ---- all ranks
 

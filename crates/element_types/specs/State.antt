@@ -1,14 +1,13 @@
 -- Section 4's state, "a type number for each element", stands in lent words behind the solid's lists.
 -- Assumes nothing.
 use Rattle.std.specs.Prelude.{List, map, reverse, ℕ, suc, ◌+◌, ◌-◌, ◌*◌, ◌^◌, ◌≤◌, ◌<◌, length, take, drop}
-use Rattle.spec.specs.Limits.{max_rank}
-use Rattle.spec.specs.Lists.{range, renumber, eq_list, sum}
+use Rattle.spec.specs.Lists.{range, sum}
 use Rattle.spec.specs.Types.{Solid, size, State, Step, up, down, at, neighbours, Numbered}
 use Rattle.ranked.specs.declared.Shape.{Shape}
-use Rattle.ranked.specs.Words.{first_at, size_at, lists_of, Held}
+use Rattle.ranked.specs.Words.{size_at, lists_of, Held}
 use Rattle.ranked.specs.Layout.{types_at, scratch_at, abstract_in}
 use Rattle.element_types.specs.Runs.{over}
-use Rattle.element_types.specs.Numbers.{Numberable, keys_to}
+use Rattle.element_types.specs.Numbers.{numbers_of, space_to, Neighbouring}
 
 -- Lists the types of the elements of rank r.
 unfoldable pub types_in : Shape → List ℕ → ℕ → List ℕ
@@ -36,18 +35,19 @@ pub record Steppable (sh : Shape) (w : List ℕ) (x : Step) : Type 0 where
   -- A word can hold the number of any of these words.
   pub small : needed sh w x < 2 ^ 32
 
--- A step at rank r can be done, where the list of element e's neighbours is at word lists + 4 * e, and the neighbours' types stand from word base on.
-pub record Stepping (sh : Shape) (w : List ℕ) (r lists base : ℕ) : Type 0 where
-  pub tall : sh.rank ≤ max_rank
+-- A step at rank r can be done, where the neighbours of element e are of rank `next`, and their list is at word list_word base e.
+pub record Stepping (sh : Shape) (w : List ℕ) (r base next : ℕ) : Type 0 where
+  pub held : Held sh (lists_of sh w)
   pub within : r ≤ sh.rank
-  pub some : first_at sh r < first_at sh (suc r)
-  pub ready : Numberable w lists (size_at sh r) base (types_at sh r) (scratch_at sh)
+  pub beside : next ≤ sh.rank
+  pub ready : Neighbouring (lists_of sh w) base (types_in sh w r) (types_in sh w next)
+  pub room : scratch_at sh + size_at sh r + size_at sh r + space_to (lists_of sh w) base (size_at sh r) ≤ length w
 
 -- Gives the words below the free ones after that step: the elements of rank r have the numbers of their keys as types.
 unfoldable pub stepped_at : Shape → List ℕ → ℕ → ℕ → ℕ → List ℕ
-stepped_at sh w r lists base =
+stepped_at sh w r base next =
     let from = types_at sh r in
-    over (take (scratch_at sh) w) from (from + size_at sh r) (renumber eq_list (keys_to w lists base from (scratch_at sh) (size_at sh r)))
+    over (take (scratch_at sh) w) from (from + size_at sh r) (numbers_of (lists_of sh w) base (types_in sh w r) (types_in sh w next))
 
 -- Any step at a proper rank can be done.
 pub record Sweepable (sh : Shape) (w : List ℕ) : Type 0 where

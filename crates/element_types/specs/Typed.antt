@@ -23,7 +23,7 @@ pub record AtStart (sh : Shape) (w v : List ℕ) (fs gs : List Float) : Type 0 w
   pub started : Started sh v
 
 -- The types of the solid that lies in words w and floats fs are worked out into the words v and floats gs.
-pub record Typed (sh : Shape) (w v : List ℕ) (fs gs : List Float) (ending : Result ⊤ Refusal) : Type 0 where
+pub record TypesMade (sh : Shape) (w v : List ℕ) (fs gs : List Float) (ending : Result ⊤ Refusal) : Type 0 where
   pub lists : lists_of sh v ≡ lists_of sh w
   pub points : take (coordinates sh) gs ≡ take (coordinates sh) fs
   pub lengths : (length v ≡ length w) × (length gs ≡ length fs)

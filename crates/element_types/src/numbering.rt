@@ -1,49 +1,40 @@
 // "numbers go from 0 in each rank by first appearance": this file numbers the elements of a rank by their keys.
-ghost use Rattle.std.specs.Prelude.{◌≡◌, ◌+◌, ◌<◌, leb};
-ghost use Rattle.element_types.specs.Numbers.{Open, number_of, noted, Numberable, NumbersWritten};
+ghost use Rattle.std.specs.Prelude.{◌≡◌};
+ghost use Rattle.element_types.specs.Numbers.{Numberable, numbers_of};
 
 use crate::compare::find_key;
 use crate::sorting::write_key;
-use ranked::lists::list_word;
+use ranked::lists::{entries_at, list_word};
 
-// Numbers the element whose key stands at word q: its number, to word `cell`, is the key's place among the m that stand where the words from `reps`
-// say. A new key's place joins them. Tells whether the key is new.
-fn number_one(words: &mut [u32], cell: usize, reps: usize, m: usize, q: usize) -> bool
-    requires { Open words.old cell reps m q }
-    ensures value { result ≡ leb m (number_of words.old reps m q) }
-    ensures words_after { words.new ≡ noted words.old cell reps m q }
+// Numbers the elements of a rank by first appearance of their keys. Element e's type is entry e of `own`, its list of neighbours is at word
+// list_word(base, e), and `next` has the types of the neighbours' rank. `keys` has one key of each kind, and `places` says where these stand. Unlike a
+// class, a key is written behind those that were met before it is compared, so one function for both numberings would need a closure that changes the
+// words and its own state.
+pub fn number_rank(
+    lists: &[u32],
+    base: usize,
+    own: &[u32],
+    next: &[u32],
+    numbers: &mut [u32],
+    places: &mut [u32],
+    keys: &mut [u32],
+)
+    requires { Numberable lists.now base own.now next.now numbers.old places.old keys.old }
+    ensures { numbers.new ≡ numbers_of lists.now base own.now next.now }
 {
-    let held = &words[..];
-    match find_key(held, &held[reps..reps + m], q) {
-        Some(p) => {
-            words[cell] = p as u32;
-            false
-        }
-        None => {
-            words[cell] = m as u32;
-            words[reps + m] = q as u32;
-            true
-        }
-    }
-}
-
-// Numbers the n elements of a rank, to the words from `out`. Element e's list is at word list_word(lists, e), its type at word from + e; its neighbours'
-// types stand from word `base`. Unlike a class, a key is written behind those that were met before it is compared, so one function for both numberings
-// would need a closure that changes the words and its own state.
-pub fn number_rank(words: &mut [u32], lists: usize, n: usize, base: usize, from: usize, out: usize)
-    requires { Numberable words.old lists n base from out }
-    ensures { NumbersWritten words.old words.new lists n base from out }
-{
-    let reps = out + n;
-    let mut q = reps + n;
+    let mut q: usize = 0;
     let mut m: usize = 0;
-    for e in 0..n {
-        let list = list_word(lists, e);
-        let k = write_key(words, list, base, from + e, q);
-        let is_new = number_one(words, out + e, reps, m, q);
-        if is_new {
-            q += 2 + k;
-            m += 1;
+    for (e, t) in own.iter().enumerate() {
+        let list = entries_at(lists, list_word(base, e));
+        let k = write_key(list, next, *t, &mut keys[q..]);
+        match find_key(keys, &places[..m], q) {
+            Some(p) => numbers[e] = p as u32,
+            None => {
+                numbers[e] = m as u32;
+                places[m] = q as u32;
+                m += 1;
+                q += k;
+            }
         }
     }
 }

@@ -1,7 +1,7 @@
 // This module has section 4's start from the distance classes, the sweeps until one leaves the number of types unchanged, and the types of a solid
 // that lies in lent words and floats.
 ghost use Rattle.preflight.specs.Bench.{Bench};
-ghost use Rattle.element_types.specs.Typed.{AtStart, Typed};
+ghost use Rattle.element_types.specs.Typed.{AtStart, TypesMade};
 
 use geometry::elements::all_classes;
 use ranked::Shape;
@@ -20,7 +20,7 @@ fn begin(words: &mut [u32], sh: Shape, floats: &mut [f64])
     requires { Bench sh words.old floats.old }
     ensures { AtStart sh words.old words.new floats.old floats.new }
 {
-    all_classes(sh.lists(words), sh, floats);
+    all_classes(&sh.solid(words), floats);
     let cell = sh.classes();
     start(words, sh, &floats[cell..]);
 }
@@ -28,7 +28,7 @@ fn begin(words: &mut [u32], sh: Shape, floats: &mut [f64])
 // Makes the types of the solid that lies in the words and floats: section 4's start, and then the sweeps.
 pub fn types_of(words: &mut [u32], sh: Shape, floats: &mut [f64]) -> Result<(), Refusal>
     requires { Bench sh words.old floats.old }
-    ensures { Typed sh words.old words.new floats.old floats.new result }
+    ensures { TypesMade sh words.old words.new floats.old floats.new result }
 {
     begin(words, sh, floats);
     settle(words, sh)

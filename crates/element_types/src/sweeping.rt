@@ -1,4 +1,5 @@
-// This module makes sweeps: "A sweep is up at 1 to R−1, then down at R−1 to 1".
+// This module makes sweeps: "A sweep is up at 1 to R−1, then down at R−1 to 1". The words and their shape stay two parameters: a struct of both would
+// have to promise, wherever it is changed, that its words are the same ones and its shape is the same.
 ghost use Rattle.std.specs.Prelude.{◌≡◌};
 ghost use Rattle.spec.specs.Types.{play, sweep};
 ghost use Rattle.ranked.specs.Layout.{abstract_in};
@@ -21,7 +22,8 @@ fn sweep_up(words: &mut [u32], sh: Shape)
     }
 }
 
-// Makes the steps down of a sweep, at ranks R − 1 to 1. It stands beside `sweep_up`, since the definition has both, each with its own order of ranks.
+// Makes the steps down of a sweep, at ranks R − 1 to 1. It stands beside `sweep_up`, since one function for both would take the ranks and the step, and its
+// contract would have to say of a closure what `step_up` and `step_down` say of themselves.
 fn sweep_down(words: &mut [u32], sh: Shape)
     requires { Sweepable sh words.old }
     ensures words_unchanged { lists_of sh words.new ≡ lists_of sh words.old }

@@ -19,25 +19,15 @@ use Rattle.flag.proofs.Order.{Last, After, starts_to, after-up, last_up, cross_u
 
 -- ---- where x stands in a list
 
-module _ (x : ℕ) where
-  pub place_in : (l : List ℕ) → place eqb x l ≤ length l
-  unfolding place
-  place_in [] = omega arith
-  place_in (y ∷ l) = go (ℕ_discrete y x) (place_in l)
-    where
-      go : Dec (y ≡ x) → place eqb x l ≤ length l → place eqb x (y ∷ l) ≤ suc (length l)
-      go (yes e) n = omega (arith, place_here x y l e)
-      go (no e) n = omega (arith, place_past x y l e)
-
-  pub split : (l : List ℕ) → In x l → l ≡ take (place eqb x l) l ++ (x ∷ drop (suc (place eqb x l)) l)
-  split [] m = absurd m
-  split (y ∷ l) m = go (ℕ_discrete y x) m (λ n. split l n)
-    where
-      go : Dec (y ≡ x) → In x (y ∷ l) → (In x l → l ≡ take (place eqb x l) l ++ (x ∷ drop (suc (place eqb x l)) l))
-          → y ∷ l ≡ take (place eqb x (y ∷ l)) (y ∷ l) ++ (x ∷ drop (suc (place eqb x (y ∷ l))) (y ∷ l))
-      go (yes e) m ih = rw (place_here x y l e) (ap (λ (z : ℕ). z ∷ l) e)
-      go (no e) (inl q) ih = absurd (e (sym q))
-      go (no e) (inr n) ih = rw (place_past x y l e) (ap (λ (z : List ℕ). y ∷ z) (ih n))
+split : (x : ℕ) (l : List ℕ) → In x l → l ≡ take (place eqb x l) l ++ (x ∷ drop (suc (place eqb x l)) l)
+split x [] m = absurd m
+split x (y ∷ l) m = go (ℕ_discrete y x) m (λ n. split x l n)
+  where
+    go : Dec (y ≡ x) → In x (y ∷ l) → (In x l → l ≡ take (place eqb x l) l ++ (x ∷ drop (suc (place eqb x l)) l))
+        → y ∷ l ≡ take (place eqb x (y ∷ l)) (y ∷ l) ++ (x ∷ drop (suc (place eqb x (y ∷ l))) (y ∷ l))
+    go (yes e) m ih = rw (place_here x y l e) (ap (λ (z : ℕ). z ∷ l) e)
+    go (no e) (inl q) ih = absurd (e (sym q))
+    go (no e) (inr n) ih = rw (place_past x y l e) (ap (λ (z : List ℕ). y ∷ z) (ih n))
 
 -- ---- up the ranks of a flag
 

@@ -44,7 +44,8 @@ fn other_between(solid: &Solid, r: usize, g: usize, h: usize, e: usize) -> Optio
     }
 }
 
-// Returns the elements as they are at rank `from` and above, with first subs below it.
+// Returns the elements as they are at rank `from` and above, with first subs below it. Each turn of the loop reads the cell after the one that it writes,
+// and an iterator over the cells would need that element beside it, and the rank as well.
 fn down(solid: &Solid, start: [usize; RANKS], from: usize) -> [usize; RANKS]
     requires { (from ≤ solid.now.shape.rank) × (get_or start from 0 < size_at solid.now.shape from) }
     ensures { take (suc solid.now.shape.rank) result
@@ -64,12 +65,10 @@ fn moved_at(solid: &Solid, elements: [usize; RANKS], r: usize) -> Option<Flag>
     ensures { Moved (abs_of solid.now) solid.now.shape.rank elements r result }
 {
     let above = solid.subs(r + 1, elements[r + 1]);
-    let k = place(above, elements[r]) + 1;
-    if above.len() <= k {
-        return None;
-    }
+    let here = place(above, elements[r])?;
+    let next = *above.get(here + 1)?;
     let mut moved = elements;
-    moved[r] = above[k] as usize;
+    moved[r] = next as usize;
     Some(Flag {
         elements: down(solid, moved, r),
     })
@@ -103,11 +102,6 @@ impl Flag {
         requires { IsFlag (abs_of solid.now) (flag_in solid.now.shape.rank self) }
         ensures { Follows (abs_of solid.now) (flag_in solid.now.shape.rank self) (option_map (flag_in solid.now.shape.rank) result) }
     {
-        for r in 0..solid.rank() {
-            if let Some(flag) = moved_at(solid, self.elements, r) {
-                return Some(flag);
-            }
-        }
-        None
+        (0..solid.rank()).find_map(|r| moved_at(solid, self.elements, r))
     }
 }

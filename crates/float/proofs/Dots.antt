@@ -1,46 +1,34 @@
--- In the loop of a dot product, what is left to add gives what the whole gives.
+-- A dot product is what the chain over its products gives.
 -- Assumes nothing.
-use mathlib.Core.Path.{◌≡◌, refl, sym, ap, ap₂, ◌∙◌}
+use mathlib.Core.Path.{◌≡◌, refl, ap, ap₂}
 use mathlib.Core.Bool.{Bool, true, false, cond}
 use mathlib.Core.List.{List, [], ◌∷◌}
-use Prim.Native.Nat.{ℕ, ◌+◌, ◌*◌, ◌≤◌, ◌<◌}
-use native.Mathlib.Numerals.{add-one}
+use Prim.Native.Nat.{◌*◌, ◌<◌}
 use native.Mathlib.Nat.{mul_comm}
 use native.Mathlib.Omega.{arith}
 use lib.Dec.{eqb}
-use lib.ListN.{get_or, drop, length, drop_of_length-le}
-use lib.Seq.{drop-cons}
+use lib.ListN.{get_or, drop, length}
 use lib.Ieee.{Float, nan, inf, fin, binary64, up, down, unlike, mul, of_bits}
+use Rattle.std.specs.List.{fold, zip as pairs}
 use Rattle.spec.specs.Float.{zero_f, plus, times, zip, add_on, total, dot}
 
--- The float t is the sum of the first i products.
-abbrev pub DotSummed : List Float → List Float → Float → ℕ → Type 0
-DotSummed a b t i = add_on t (zip times (drop i a) (drop i b)) ≡ dot a b
+folded : (t : Float) (a b : List Float) → fold (λ s p. plus s (times p.0 p.1)) t (pairs a b) ≡ add_on t (zip times a b)
+unfolding add_on zip
+folded t [] b = refl
+folded t (x ∷ a) [] = refl
+folded t (x ∷ a) (y ∷ b) = folded (plus t (times x y)) a b
 
 pub none : (a b : List Float) → 0 ≡ length a → of_bits binary64 0 ≡ dot a b
 unfolding dot total zip zero_f
 none [] b h = refl
 none (x ∷ a) b h = absurd (omega arith)
 
-pub first : (a b : List Float) → 0 < length a → 0 < length b → DotSummed a b (times (get_or a 0 nan) (get_or b 0 nan)) 1
+pub dot-folded : (a b : List Float) → 0 < length a → 0 < length b →
+    fold (λ s p. plus s (times p.0 p.1)) (times (get_or a 0 nan) (get_or b 0 nan)) (pairs (drop 1 a) (drop 1 b)) ≡ dot a b
 unfolding dot total zip
-first [] b h k = absurd (omega arith)
-first (x ∷ a) [] h k = absurd (omega arith)
-first (x ∷ a) (y ∷ b) h k = refl
-
-module _ (a b : List Float) (t : Float) (i : ℕ) where
-  one_more : i < length a → i < length b →
-      add_on t (zip times (drop i a) (drop i b))
-      ≡ add_on (plus t (times (get_or a i nan) (get_or b i nan))) (zip times (drop (i + 1) a) (drop (i + 1) b))
-  unfolding add_on zip
-  one_more h k = rw (add-one, drop-cons a i nan, drop-cons b i nan)
-
-  pub next : i < length a → i < length b → DotSummed a b t i → DotSummed a b (plus t (times (get_or a i nan) (get_or b i nan))) (i + 1)
-  next h k s = sym (one_more h k) ∙ s
-
-  pub end : length a ≤ i → DotSummed a b t i → t ≡ dot a b
-  unfolding add_on zip
-  end h s = rw (drop_of_length-le a h) at s
+dot-folded [] b h k = absurd (omega arith)
+dot-folded (x ∷ a) [] h k = absurd (omega arith)
+dot-folded (x ∷ a) (y ∷ b) h k = folded (times x y) a b
 
 -- ---- the two lists in each other's place
 

@@ -14,11 +14,8 @@ pub fn dot(a: &[f64], b: &[f64]) -> f64
     if a.is_empty() {
         return 0.0;
     }
-    let mut t = a[0] * b[0];
-    for i in 1..a.len() {
-        t += a[i] * b[i];
-    }
-    t
+    let others = a[1..].iter().zip(&b[1..]);
+    others.fold(a[0] * b[0], |sum, (x, y)| sum + x * y)
 }
 
 // Returns the dot product of the first d entries of two arrays.
@@ -29,7 +26,8 @@ pub fn dot_of(a: [f64; DIMENSION], b: [f64; DIMENSION], d: usize) -> f64
     dot(&a[..d], &b[..d])
 }
 
-// Returns the slice a less the first entries of b, entry by entry. The entries past a's length are free.
+// Returns the slice a less the first entries of b, entry by entry. The entries past a's length are free. The loop goes by the number, because after a zip
+// of `iter_mut` the library promises nothing of the cells that were written.
 pub fn difference(a: &[f64], b: [f64; DIMENSION]) -> [f64; DIMENSION]
     requires { length a.now ≤ max_dimension }
     ensures { take (length a.now) result ≡ zip minus a.now (take (length a.now) b) }
@@ -47,9 +45,7 @@ pub fn load(p: &[f64]) -> [f64; DIMENSION]
     ensures { result ≡ padded p.now }
 {
     let mut r = [0.0; DIMENSION];
-    for i in 0..p.len() {
-        r[i] = p[i];
-    }
+    r[..p.len()].copy_from_slice(p);
     r
 }
 

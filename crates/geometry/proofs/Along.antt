@@ -3,7 +3,7 @@
 use mathlib.Core.Path.{◌≡◌, sym, ◌∙◌}
 use mathlib.Core.List.{List, map}
 use Prim.Native.Nat.{ℕ, suc, ◌+◌, ◌-◌, ◌*◌, ◌≤◌, ◌<◌}
-use native.Mathlib.Nat.{sub-zero, add-sub_cancel_left}
+use native.Mathlib.Nat.{add-sub_cancel_left}
 use native.Mathlib.Numerals.{add-one}
 use native.Mathlib.Omega.{arith}
 use lib.ListN.{take, drop, length, length-drop}
@@ -30,9 +30,6 @@ unfolding along range
 one_more b n away q k h = let e : n - k ≡ suc (n - (k + 1)) = omega arith in rw (e, add-one k)
 
 module _ {b : ℕ → Vector} {n : ℕ} {away q₀ : Vector} where
-  pub none : Along b n away q₀ q₀ 0
-  none = record { is = rw sub-zero }
-
   pub next : {q r : Vector} {k : ℕ} {s : Float} → k < n → s ≡ dot away (b k) → r ≡ zip (by s) q (b k) → Along b n away q₀ q k → Along b n away q₀ r (k + 1)
   next {q} {r} {k} h es er w = record { is = rw (er, es) (sym (one_more b n away q k h) ∙ w.is) }
 

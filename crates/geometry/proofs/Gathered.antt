@@ -2,36 +2,31 @@
 -- Assumes nothing.
 use mathlib.Core.Path.{◌≡◌, refl, sym, ap, ◌∙◌}
 use mathlib.Core.List.{List, [], ◌∷◌, map}
-use Prim.Native.Nat.{ℕ, suc, ◌+◌, ◌-◌, ◌*◌, ◌≤◌, ◌<◌}
+use Prim.Native.Nat.{ℕ, suc, ◌+◌, ◌-◌, ◌≤◌, ◌<◌}
 use native.Mathlib.Numerals.{add-one}
 use native.Mathlib.Omega.{arith}
 use lib.ListN.{take, drop, length, get_or, length-drop, drop_of_length-le}
 use lib.Seq.{drop-cons, length-take-le, take_all, get_or-take, get_or-drop}
-use lib.Ieee.{Float}
 use borrow.Author.Tests.{eq-eqb, ne_eqb}
 use Rattle.spec.specs.Matrix.{Vector}
 use Rattle.spec.specs.Hull as spec
 use Rattle.spec.specs.Hull.{add, add_all, hull_of}
 use Rattle.geometry.specs.declared.hull.Hull.{Hull}
 use Rattle.laws.proofs.Lists.{length_table}
-use Rattle.geometry.specs.Reading.{vector_at, hull_in, point_at}
+use Rattle.geometry.specs.Reading.{vector_at, hull_in}
 
 -- There are as many vectors as are counted.
 pub length_basis : (d : ℕ) (h : Hull) → length (hull_in d h).basis ≡ h.count
 unfolding hull_in
 length_basis d h = length_table (vector_at d h.basis) h.count
 
--- The point is d wide.
-pub point-wide : (d v : ℕ) (points : List Float) (p : Vector) → (v + 1) * d ≤ length points → p ≡ point_at d points v → length p ≡ d
-point-wide d v points p h e = ap length e ∙ length-take-le d _ (rw length-drop (omega arith))
-
--- The points after the first are those of the list's other numbers.
-pub item-is : (l : List ℕ) (k v : ℕ) → k < length (take (length l - 1) (drop 1 l)) → v ≡ get_or (take (length l - 1) (drop 1 l)) k 0 → (k + 1 < length l) × (v ≡ get_or l (k + 1) 0)
-item-is l k v h e =
+-- The points after the first are those of the list's other numbers, so what holds of all its numbers holds of theirs.
+pub item-in : (l : List ℕ) (k v n : ℕ) → ((j : ℕ) → j < length l → get_or l j 0 < n) → k < length (take (length l - 1) (drop 1 l))
+    → v ≡ get_or (take (length l - 1) (drop 1 l)) k 0 → v < n
+item-in l k v n all h e =
     let long : length (take (length l - 1) (drop 1 l)) ≡ length l - 1 = length-take-le (length l - 1) (drop 1 l) (omega (arith, length-drop 1 l)) in
-    let more : k < length l - 1 = omega arith in
-    let same : 1 + k ≡ k + 1 = omega arith in
-    (omega arith, rw same at (e ∙ get_or-take (length l - 1) (drop 1 l) k 0 more ∙ get_or-drop 1 l k 0))
+    let is : v ≡ get_or l (1 + k) 0 = e ∙ get_or-take (length l - 1) (drop 1 l) k 0 (omega arith) ∙ get_or-drop 1 l k 0 in
+    rw is (all (1 + k) (omega arith))
 
 pub whole : (d : ℕ) (f : ℕ → Vector) (l : List ℕ) → 0 < length l
     → add_all d (record { offset = f (get_or l 0 0); basis = [] }) (map f (take (length l - 1) (drop 1 l))) ≡ hull_of d (map f l)
@@ -55,9 +50,6 @@ unfolding add_all
 one_more d h p ps ne = rw (add_all, ne_eqb (length h.basis) d ne)
 
 module _ {d : ℕ} {ps : List Vector} {h₀ : spec.Hull} where
-  pub first : Gathered d ps h₀ h₀ 0
-  first = record { is = refl }
-
   -- Once there are d vectors, the other points change nothing.
   pub stop : {h : spec.Hull} {k : ℕ} → length h.basis ≡ d → Gathered d ps h₀ h k → h ≡ add_all d h₀ ps
   stop {h} {k} e w = full d h (drop k ps) e ∙ w.is

@@ -4,11 +4,12 @@ use Rattle.std.specs.Prelude.{Some, None}
 use mathlib.Core.Path.{◌≡◌, sym, ap, ap₂, ◌∙◌}
 use mathlib.Core.Bool.{true, false}
 use mathlib.Core.List.{List, [], ◌∷◌, ◌++◌, map}
-use Prim.Native.Nat.{ℕ, ◌+◌, ◌*◌, ◌≤◌, ◌<◌}
+use Prim.Native.Nat.{ℕ, ◌+◌, ◌-◌, ◌*◌, ◌≤◌, ◌<◌}
 use native.Mathlib.Numerals.{add-one}
 use native.Mathlib.Omega.{arith}
-use lib.ListN.{take, drop, length}
-use lib.Seq.{take-take}
+use lib.ListN.{take, drop, length, length-append}
+use lib.Seq.{take-take, take_at, drop_at, length-take-le}
+use borrow.Rule.Slice.PartMut.{post_of, put_mid}
 use lib.Ieee.{Float, lt}
 use Rattle.spec.specs.Limits.{max_dimension}
 use Rattle.spec.specs.Lists.{range}
@@ -26,18 +27,30 @@ agree n a d r l h hr hl e =
     ∙ ap (drop a) (sym (take-take (a + d) n r h) ∙ ap (take (a + d)) e ∙ take-take (a + d) n l h)
     ∙ drop-take a d l
 
--- One vector more joins the basis.
-pub one_more : (d n : ℕ) (b r : List Float) (v : Vector) → d ≤ max_dimension → n < max_dimension →
-    length b ≡ max_dimension * max_dimension → length r ≡ max_dimension * max_dimension →
-    take (n * max_dimension) r ≡ take (n * max_dimension) b → vector_at d r n ≡ v →
-    map (vector_at d r) (range 0 (n + 1)) ≡ map (vector_at d b) (range 0 n) ++ v ∷ []
-one_more d n b r v hd hn lb lr e ev =
-    ap (λ (k : ℕ). map (vector_at d r) (range 0 k)) (add-one n)
-    ∙ sym (range_snoc (vector_at d r) 0 n n (omega arith))
-    ∙ ap₂
-    (λ (y : List Vector) (z : Vector). y ++ z ∷ [])
-    (map_same (vector_at d r) (vector_at d b) (range 0 n) (λ k m. let o = of_range 0 n k m in agree (n * max_dimension) (k * max_dimension) d r b (omega arith) (omega arith) (omega arith) e))
-    ev
+-- One vector more joins the basis, where it is put behind the others.
+module _ (d n : ℕ) (b v : List Float) (hd : d ≤ max_dimension) (hn : n < max_dimension) (lb : length b ≡ max_dimension * max_dimension) (lv : length v ≡ d) where
+  abbrev at : ℕ
+  at = n * max_dimension
+
+  abbrev after : List Float
+  after = put_mid at (at + d - at) b v
+
+  front-long : length (take at b) ≡ at
+  front-long = length-take-le at b (omega arith)
+
+  after-long : at ≤ length after
+  after-long = simp length-append (omega (arith, front-long))
+
+  pub one_more : map (vector_at d after) (range 0 (n + 1)) ≡ map (vector_at d b) (range 0 n) ++ v ∷ []
+  one_more =
+      let front : take at after ≡ take at b = take_at (take at b) (v ++ post_of at (at + d - at) b) at front-long in
+      let last : vector_at d after n ≡ v = ap (take d) (drop_at (take at b) (v ++ post_of at (at + d - at) b) at front-long) ∙ take_at v (post_of at (at + d - at) b) d lv in
+      ap (λ (k : ℕ). map (vector_at d after) (range 0 k)) (add-one n)
+      ∙ sym (range_snoc (vector_at d after) 0 n n (omega arith))
+      ∙ ap₂
+      (λ (y : List Vector) (z : Vector). y ++ z ∷ [])
+      (map_same (vector_at d after) (vector_at d b) (range 0 n) (λ k m. let o = of_range 0 n k m in agree at (k * max_dimension) d after b (omega arith) after-long (omega arith) front))
+      last
 
 -- The length of what is left of p decides between the two cases.
 module _ (h : Hull) (p : Vector) (l : Float) (e : l ≡ norm (rest h p)) where

@@ -1,14 +1,13 @@
--- Distances join a list one after another, and the list and the classes stand in cells.
+-- Distances join a list one after another, and the list and the classes stand in lent floats.
 -- Assumes nothing.
-use Rattle.std.specs.Prelude.{◌≡◌, List, [], ◌∷◌, ◌++◌, map, ℕ, ◌+◌, ◌≤◌, ◌<◌, length, take, drop, Float}
+use Rattle.std.specs.Prelude.{◌≡◌, List, [], ◌∷◌, map, ℕ, ◌+◌, ◌≤◌, length, take, drop, Float}
 use Rattle.spec.specs.Lists.{range}
 use Rattle.spec.specs.Types.{size}
 use Rattle.spec.specs.Hull.{listing, classes_from, classes}
 use Rattle.spec.specs.Classes.{distance_of, distances}
 use Rattle.spec.specs.Solid.{Concrete}
 use Rattle.ranked.specs.declared.Shape.{Shape}
-use Rattle.ranked.specs.Words.{Held}
-use Rattle.ranked.specs.Layout.{proper, before, coordinates, classes_at, solid_on, classes_in}
+use Rattle.ranked.specs.Layout.{proper, coordinates, solid_on, classes_in}
 
 -- Gives the list that results when distances join the list l one after another.
 unfoldable pub list_after : List Float → List Float → List Float
@@ -19,23 +18,11 @@ list_after l (x ∷ xs) = list_after (listing l x).1 xs
 unfoldable pub rank_distances : Concrete → ℕ → List Float
 rank_distances c r = map (distance_of c r) (range 0 (size c.abs r))
 
--- The distances xs were taken. The list stands from cell `from` on, and had n values before and has m now. The classes stand from `cell` on, behind
--- the k classes that stood there before. The cells below `from` are as they were.
-pub record ListGrown (from cell k : ℕ) (old new : List Float) (n m : ℕ) (xs : List Float) : Type 0 where
-  pub same : take from new ≡ take from old
-  pub long : length new ≡ length old
+-- The distances xs were taken. The list had n values before and has m now, and `values` are those that the distances took.
+pub record ListGrown (old new : List Float) (n m : ℕ) (xs values : List Float) : Type 0 where
   pub few : m ≤ n + length xs
-  pub list : take m (drop from new) ≡ list_after (take n (drop from old)) xs
-  pub cells : take (k + length xs) (drop cell new) ≡ take k (drop cell old) ++ classes_from (take n (drop from old)) xs
-
--- Taking the distances of rank r needs that r is proper, that no more values are listed than elements were taken, and that there is room for the list
--- and the classes.
-pub record Classable (sh : Shape) (w : List ℕ) (floats : List Float) (n r : ℕ) : Type 0 where
-  pub held : Held sh w
-  pub low : 1 ≤ r
-  pub high : r < sh.rank
-  pub few : n ≤ before sh r
-  pub room : classes_at sh + proper sh ≤ length floats
+  pub list : take m new ≡ list_after (take n old) xs
+  pub taken : values ≡ classes_from (take n old) xs
 
 -- The whole solid is classed: n values are listed, and each proper element has its class.
 pub record Classed (sh : Shape) (w : List ℕ) (old new : List Float) (n : ℕ) : Type 0 where

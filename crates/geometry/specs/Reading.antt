@@ -14,7 +14,3 @@ vector_at d b k = take d (drop (k * max_dimension) b)
 -- Gives the hull in d dimensions that the struct holds: its offset, and `count` vectors of its basis.
 unfoldable pub hull_in : ℕ → Hull → spec.Hull
 hull_in d h = record { offset = take d h.offset; basis = map (vector_at d h.basis) (range 0 h.count) }
-
--- Gives the coordinates of point v, where the points stand one after another.
-abbrev pub point_at : ℕ → List Float → ℕ → Vector
-point_at d l v = take d (drop (v * d) l)

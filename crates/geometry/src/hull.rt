@@ -20,7 +20,8 @@ pub struct Hull {
     pub count: usize,
 }
 
-// The step is "q += b times s", on as many entries as b has.
+// The step is "q += b times s", on as many entries as b has. The loop goes by the number, because after a zip of `iter_mut` the library promises nothing of
+// the cells that were written.
 fn step_along(q: &mut [f64; DIMENSION], b: &[f64], s: f64)
     requires { length b.now ≤ max_dimension }
     ensures { take (length b.now) q.new ≡ zip (λ x y. plus x (times y s)) (take (length b.now) q.old) b.now }
@@ -30,17 +31,14 @@ fn step_along(q: &mut [f64; DIMENSION], b: &[f64], s: f64)
     }
 }
 
-// Returns the basis with v divided by l as its vector k.
-fn with_vector(basis: [f64; ROOM], k: usize, v: [f64; DIMENSION], l: f64, d: usize) -> [f64; ROOM]
-    requires { (d ≤ max_dimension) × (k < max_dimension) }
-    ensures { (take (k * max_dimension) result ≡ take (k * max_dimension) basis) × (take d (drop (k * max_dimension) result) ≡ map (λ x. over x l) (take d v)) }
+// Fills the cells with the first entries of v, divided by l.
+fn fill_divided(v: [f64; DIMENSION], l: f64, cells: &mut [f64])
+    requires { length cells.old ≤ max_dimension }
+    ensures { cells.new ≡ map (λ x. over x l) (take (length cells.old) v) }
 {
-    let mut r = basis;
-    let at = k * DIMENSION;
-    for j in 0..d {
-        r[at + j] = v[j] / l;
+    for (j, cell) in cells.iter_mut().enumerate() {
+        *cell = v[j] / l;
     }
-    r
 }
 
 impl Hull {
@@ -96,7 +94,9 @@ impl Hull {
         let v = self.rest(p);
         let length = vector::norm(v, p.len());
         if Tolerance::EPS < length {
-            self.basis = with_vector(self.basis, self.count, v, length, p.len());
+            let at = self.count * DIMENSION;
+            let end = at + p.len();
+            fill_divided(v, length, &mut self.basis[at..end]);
             self.count += 1;
             return (self, Some(length));
         }

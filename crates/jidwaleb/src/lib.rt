@@ -25,7 +25,7 @@ fn code(answer: Answer) -> u64
     match answer {
         Ok(n) => n as u64,
         Err(refused) => {
-            let refusal = refused.why.number() as u64;
+            let refusal = u64::from(refused.why.number());
             let count = refused.kept as u64;
             refusal * 0x1_0000_0000 + count
         }

@@ -1,25 +1,23 @@
--- The element whose subs are the images of an element's own is looked for by the words.
+-- The element whose subs are the images of an element's own is looked for among those over the image of its first sub.
 -- Assumes nothing.
-use Rattle.std.specs.Prelude.{Option, Some, None}
-use mathlib.Core.Path.{◌≡◌, sym, ◌∙◌, ap}
-use mathlib.Core.Bool.{Bool, true, false}
-use mathlib.Core.List.{List, ◌∷◌}
-use Prim.Native.Nat.{ℕ, suc, ◌+◌, ◌*◌, ◌≤◌, ◌<◌}
+use Rattle.std.specs.Prelude.{Some}
+use Rattle.std.specs.List.{find}
+use mathlib.Core.Path.{◌≡◌, refl, ◌∙◌}
+use mathlib.Core.Bool.{Bool, true, false, cond}
+use mathlib.Core.List.{List, [], ◌∷◌}
+use Prim.Native.Nat.{ℕ, suc, ◌+◌, ◌≤◌, ◌<◌}
 use native.Mathlib.Numerals.{add-one}
-use native.Mathlib.Omega.{arith}
-use lib.ListN.{length, get_or, drop, drop_of_length-le}
-use lib.Seq.{drop-cons}
+use lib.ListN.{length, get_or}
 use lib.Dec.{eqb}
 use borrow.Author.Tests.{eq-eqb, ne_eqb}
 use Rattle.spec.specs.Lists.{In, holds, keep, every}
-use Rattle.spec.specs.Types.{subs, sups}
+use Rattle.spec.specs.Types.{Solid, subs, sups}
 use Rattle.laws.proofs.Lists.{in_get_d}
 use Rattle.points.specs.Finding.{first_of}
-use Rattle.ranked.specs.declared.Shape.{Shape}
-use Rattle.ranked.specs.Words.{first_at, size_at, total, list_at, abs_in, Held, subs_word, sups_word}
-use Rattle.ranked.specs.Reading.{Lies, Each}
-use Rattle.ranked.proofs.Solids.{size_is, number_in, subs_lie, sups_lie, subs-listed, sups-listed, sub_in, sup_in}
-use Rattle.ranked.proofs.Agree.{keep_same}
+use Rattle.ranked.specs.declared.solid.Solid as declared
+use Rattle.ranked.specs.Words.{size_at}
+use Rattle.ranked.specs.Lying.{abs_of}
+use Rattle.ranked.proofs.Solids.{size_is, sub_in, sup_in}
 use Rattle.marks.specs.Rises.{onto, rises_to}
 
 -- ---- exactly onto
@@ -35,75 +33,33 @@ module _ (to : ℕ → ℕ) (es gs : List ℕ) where
 
 -- ---- the first that passes
 
-module _ (p : ℕ → Bool) where
-  kept_no : (x : ℕ) (l : List ℕ) → p x ≡ false → first_of (keep p (x ∷ l)) ≡ first_of (keep p l)
-  unfolding keep
-  kept_no x l e = rw (e, keep)
-
-  kept_yes : (x : ℕ) (l : List ℕ) → p x ≡ true → first_of (keep p (x ∷ l)) ≡ Some x
-  unfolding keep
-  kept_yes x l e = rw (e, keep)
-
-  -- After k elements, what is left gives what the whole gives.
-  abbrev pub First : List ℕ → ℕ → Type 0
-  First l k = first_of (keep p (drop k l)) ≡ first_of (keep p l)
-
-  module _ (l : List ℕ) (k : ℕ) (more : k < length l) (inv : First l k) where
-    pub first_no : p (get_or l k 0) ≡ false → First l (k + 1)
-    first_no e = rw add-one (sym (ap (λ (m : List ℕ). first_of (keep p m)) (drop-cons l k 0 more) ∙ kept_no _ _ e) ∙ inv)
-
-    pub first_yes : p (get_or l k 0) ≡ true → Some (get_or l k 0) ≡ first_of (keep p l)
-    first_yes e = sym (ap (λ (m : List ℕ). first_of (keep p m)) (drop-cons l k 0 more) ∙ kept_yes _ _ e) ∙ inv
-
-  pub first-end : (l : List ℕ) (k : ℕ) → length l ≤ k → First l k → None ≡ first_of (keep p l)
-  unfolding keep
-  first-end l k h inv = rw (drop_of_length-le l h) at inv
+find_first : (p : ℕ → Bool) (l : List ℕ) → find p l ≡ first_of (keep p l)
+unfolding keep
+find_first p [] = refl
+find_first p (x ∷ l) = go (p x) (find_first p l)
+  where
+    go : (b : Bool) → find p l ≡ first_of (keep p l) → cond b (Some x) (find p l) ≡ first_of (elim b [ true ↦ x ∷ keep p l | false ↦ keep p l ])
+    go true e = refl
+    go false e = e
 
 -- ---- an element and its subs' images
 
-module _ (sh : Shape) (w : List ℕ) (h : Held sh w) (cells : List ℕ) (r e : ℕ) (high : suc r ≤ sh.rank) (he : e < size_at sh (suc r))
-    (room : total sh ≤ length cells) (low : (f : ℕ) → f < size_at sh r → get_or cells (first_at sh r + f) 0 < size_at sh r) where
-  pub list_is : list_at w (subs_word (first_at sh (suc r)) e) ≡ subs (abs_in sh w) (suc r) e
-  list_is = subs-listed sh w h (suc r) e high he
+-- The subs es of element e of rank r + 1, of which the first goes to y, and the elements ups over y.
+module _ (s : Solid) (to : ℕ → ℕ) (r e : ℕ) (es ups : List ℕ) (es-is : es ≡ subs s (r + 1) e) (y : ℕ) (y-is : y ≡ to (get_or es 0 0)) (ups-is : ups ≡ sups s r y) where
+  pub rises : find (λ g. onto to es (subs s (r + 1) g)) ups ≡ rises_to s to r e
+  unfolding rises_to
+  rises = find_first (λ g. onto to es (subs s (r + 1) g)) ups ∙ rw (ups-is, y-is, es-is, add-one r) refl
 
-  pub some_sub : 0 < length (list_at w (subs_word (first_at sh (suc r)) e))
-  some_sub = rw list_is (h.filled r e (rw (size_is sh w (suc r) high) he))
+module _ (s : declared.Solid) (r e : ℕ) (high : suc r ≤ s.shape.rank) (he : e < size_at s.shape (suc r)) (es : List ℕ) (es-is : es ≡ subs (abs_of s) (r + 1) e) where
+  pub some_sub : 0 < length es
+  some_sub = rw (es-is, add-one r) (s.held.filled r e (rw (size_is s.shape s.lists.now (suc r) high) he))
 
-  pub sub-cell : (f : ℕ) → In f (list_at w (subs_word (first_at sh (suc r)) e)) → first_at sh r + f < length cells
-  sub-cell f m = omega (arith, number_in sh w h r f (omega arith) (sub_in sh w h r e f high (rw list_is at m)))
+  pub sub_low : (f : ℕ) → In f es → f < size_at s.shape r
+  sub_low f m = sub_in s.shape s.lists.now s.held r e f high (rw (es-is, add-one r) at m)
 
-  -- The first sub is f, and it goes to y.
-  module _ (f y : ℕ) (f-is : f ≡ get_or (list_at w (subs_word (first_at sh (suc r)) e)) 0 0) (y-is : y ≡ get_or cells (first_at sh r + f) 0) where
-    sub_low : f < size_at sh r
-    sub_low = sub_in sh w h r e f high (rw (f-is, list_is) (in_get_d 0 (subs (abs_in sh w) (suc r) e) 0 (rw list_is at some_sub)))
+  pub first_low : get_or es 0 0 < size_at s.shape r
+  first_low = sub_low (get_or es 0 0) (in_get_d 0 es 0 some_sub)
 
-    pub image-low : y < size_at sh r
-    image-low = rw y-is (low f sub_low)
-
-    pub over_lie : Lies w (sups_word (first_at sh r) y)
-    over_lie = sups_lie sh w h r y (omega arith) image-low
-
-    over_is : list_at w (sups_word (first_at sh r) y) ≡ sups (abs_in sh w) r y
-    over_is = sups-listed sh w h r y (omega arith) image-low
-
-    over-low : (g : ℕ) → In g (list_at w (sups_word (first_at sh r) y)) → g < size_at sh (suc r)
-    over-low g m = sup_in sh w h r y g high (rw over_is at m)
-
-    pub each_lie : Each w (sups_word (first_at sh r) y) (subs_word (first_at sh (suc r)) 0)
-    each_lie g m =
-        let q : subs_word (first_at sh (suc r)) 0 + 4 * g ≡ subs_word (first_at sh (suc r)) g = omega arith in
-        rw q (subs_lie sh w h (suc r) g high (over-low g m))
-
-    pub rises : (x : Option ℕ) → x ≡ first_of (keep (λ g. onto (λ k. get_or cells (first_at sh r + k) 0) (list_at w (subs_word (first_at sh (suc r)) e)) (list_at w (subs_word (first_at sh (suc r)) 0 + 4 * g)))
-        (list_at w (sups_word (first_at sh r) y))) → x ≡ rises_to (abs_in sh w) (λ k. get_or cells (first_at sh r + k) 0) r e
-    unfolding rises_to
-    rises x q =
-        let s = abs_in sh w in
-        let to : ℕ → ℕ = λ k. get_or cells (first_at sh r + k) 0 in
-        let es = subs s (suc r) e in
-        let tests = keep_same (λ g. onto to (list_at w (subs_word (first_at sh (suc r)) e)) (list_at w (subs_word (first_at sh (suc r)) 0 + 4 * g))) (λ g. onto to es (subs s (suc r) g))
-        (list_at w (sups_word (first_at sh r) y)) (λ g m.
-        let z : subs_word (first_at sh (suc r)) 0 + 4 * g ≡ subs_word (first_at sh (suc r)) g = omega arith in
-        rw (list_is, z, subs-listed sh w h (suc r) g high (over-low g m))) in
-        let first : y ≡ to (get_or es 0 0) = y-is ∙ ap to (f-is ∙ ap (λ (l : List ℕ). get_or l 0 0) list_is) in
-        q ∙ ap first_of (tests ∙ ap (keep (λ g. onto to es (subs s (suc r) g))) (over_is ∙ ap (sups s r) first))
+-- What lies over an element of rank r is an element of rank r + 1.
+pub over-low : (s : declared.Solid) (r y : ℕ) → suc r ≤ s.shape.rank → (ups : List ℕ) → ups ≡ sups (abs_of s) r y → (g : ℕ) → In g ups → g < size_at s.shape (r + 1)
+over-low s r y high ups is g m = rw add-one (sup_in s.shape s.lists.now s.held r y g high (rw is at m))

@@ -1,13 +1,11 @@
 -- In the loop that looks whether a row permutes the vertices, what is marked is what was met.
 -- Assumes nothing.
 use mathlib.Core.Path.{◌≡◌, refl, sym, ◌∙◌, ap}
-use Prim.Native.Nat.{ℕ, zero, suc, ◌+◌, ◌≤◌, ◌<◌}
+use Prim.Native.Nat.{ℕ, zero, suc, ◌≤◌, ◌<◌}
 use mathlib.Core.Bool.{Bool, true, false, false≢true}
 use mathlib.Core.List.{List, [], ◌∷◌}
 use native.Mathlib.Omega.{arith}
-use native.Mathlib.Decide.{ℕ_discrete}
-use lib.ListN.{length, get_or, set, replicate, length-set, length-replicate}
-use lib.Seq.{get_or-set_same, get_or-set_other}
+use lib.ListN.{length, get_or, replicate, length-replicate}
 use lib.Dec.{eqb, ltb}
 use borrow.Author.Tests.{lt-ltb}
 use Rattle.spec.specs.Lists.{In, place, holds, every, no_repeats}
@@ -80,33 +78,6 @@ seen_none row m h = record {
 }
 
 module _ {row : List ℕ} {seen : List Bool} {k : ℕ} (a : Seen row seen k) (v : ℕ) (is : v ≡ get_or row k 0) (inside : k < length row) where
-  pub seen_next : v < length row → get_or seen v false ≡ false → Seen row (set seen v true) (k + 1)
-  seen_next low new = record {
-    room = rw length-set a.room;
-    back = λ u e. go_back u e (ℕ_discrete v u);
-    there = λ j h. go_there j h (ℕ_discrete j k);
-    apart = λ i j p q e. go_apart i j p q e (ℕ_discrete j k);
-  }
-    where
-      here : get_or (set seen v true) v false ≡ true
-      here = get_or-set_same seen v true false (omega (arith, a.room))
-
-      go_back : (u : ℕ) → get_or (set seen v true) u false ≡ true → Dec (v ≡ u) → (j : ℕ) × (j < k + 1) × (get_or row j 0 ≡ u)
-      go_back u e (yes q) = (k, omega arith, sym is ∙ q)
-      go_back u e (no q) = let b = a.back u (sym (get_or-set_other seen v u true false (λ z. q (sym z))) ∙ e) in (b.0, omega (arith, b.1), b.2)
-
-      go_there : (j : ℕ) → j < k + 1 → Dec (j ≡ k) → (get_or row j 0 < length row) × (get_or (set seen v true) (get_or row j 0) false ≡ true)
-      go_there j h (yes q) = let z : get_or row j 0 ≡ v = ap (λ (i : ℕ). get_or row i 0) q ∙ sym is in rw z (low, here)
-      go_there j h (no q) =
-          let b = a.there j (omega arith) in
-          (b.0, get_or-set_other seen v (get_or row j 0) true false (λ z. false≢true (sym new ∙ ap (λ (x : ℕ). get_or seen x false) (sym z) ∙ b.1)) ∙ b.1)
-
-      go_apart : (i j : ℕ) → i < j → j < k + 1 → get_or row i 0 ≡ get_or row j 0 → Dec (j ≡ k) → ⊥
-      go_apart i j p q e (no z) = a.apart i j p (omega arith) e
-      go_apart i j p q e (yes z) =
-          let w : get_or row i 0 ≡ v = e ∙ ap (λ (x : ℕ). get_or row x 0) z ∙ sym is in
-          false≢true (sym new ∙ ap (λ (x : ℕ). get_or seen x false) (sym w) ∙ (a.there i (omega arith)).1)
-
   pub seen_high : length row ≤ v → false ≡ permutes row
   seen_high p = sym (not_passed (permutes row) (λ e. omega (arith, (permuted row e).low (get_or row k 0) (in_get_d 0 row k inside), is)))
 

@@ -12,7 +12,7 @@ use lib.Dec.{eqb}
 use Rattle.spec.specs.Lists.{In, holds, range, keep, every, in_order}
 use Rattle.spec.specs.Demand.{RisingAbove, Rising}
 use Rattle.laws.proofs.Distinct.{Once, pigeons, in?}
-use Rattle.laws.proofs.Lists.{map_in, in_map}
+use Rattle.laws.proofs.Lists.{map_in, in_map, in_range_lem, of_range}
 use Rattle.laws.proofs.Counts.{numbers, holds_in, in_holds}
 use Rattle.laws.proofs.Carry.{above}
 use Rattle.laws.proofs.Marked.{both, every_in, in_order_lem, of_order, order_same}
@@ -28,6 +28,14 @@ pub every_of : {A : Type 0} (p : A → Bool) (l : List A) → ((x : A) → In x 
 unfolding every
 every_of p [] h = refl
 every_of p (x ∷ l) h = rw (h x (inl refl), every) (every_of p l (λ y m. h y (inr m)))
+
+-- Of the n numbers from a on, all pass, or one of them fails.
+module _ (p : ℕ → Bool) (a n : ℕ) where
+  pub all_pass : ((x : ℕ) → a ≤ x → x < a + n → p x ≡ true) → true ≡ every p (range a n)
+  all_pass h = sym (every_of p (range a n) (λ x m. let k = of_range a n x m in h x k.0 k.1))
+
+  pub one_fails : (x : ℕ) → a ≤ x → x < a + n → p x ≡ false → false ≡ every p (range a n)
+  one_fails x l k e = sym (not_passed (every p (range a n)) (λ t. false≢true (sym e ∙ every_in p (range a n) t x (in_range_lem a n x l k))))
 
 -- ---- rising lists
 

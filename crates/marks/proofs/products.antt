@@ -1,3 +1,3 @@
 pub mod Composed
-pub mod Factors
+pub mod Factored
 pub mod Marked

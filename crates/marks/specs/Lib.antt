@@ -1,5 +1,6 @@
 pub mod Rises
 pub mod Rows
+pub mod Carrying
 pub mod Products
 pub mod Table
 pub mod Marking

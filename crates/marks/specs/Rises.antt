@@ -1,6 +1,6 @@
 -- This file says where an element goes, found from where its subs go and without any vertex set.
 -- Assumes nothing.
-use Rattle.std.specs.Prelude.{◌≡◌, ℕ, suc, ◌<◌, Bool, true, false, ◌&&◌, List, length, get_or, eqb, Option, Some, None}
+use Rattle.std.specs.Prelude.{◌≡◌, ℕ, suc, ◌<◌, Bool, false, ◌&&◌, List, length, get_or, eqb, Option, Some, None}
 use Rattle.spec.specs.Lists.{holds, keep, every}
 use Rattle.spec.specs.Types.{Solid, size, subs, sups, Classes}
 use Rattle.spec.specs.Mark.{goes, carries_element}
@@ -20,8 +20,3 @@ rises_to s to r e = first_of (keep (λ g. onto to (subs s (suc r) e) (subs s (su
 abbrev pub Reached : Solid → Classes → List ℕ → ℕ → ℕ → Option ℕ → Type 0
 Reached s cls row r e (Some x) = (x ≡ goes s row r e) × (x < size s r) × (carries_element s cls row r e ≡ eqb (cls r x) (cls r e))
 Reached s cls row r e None = carries_element s cls row r e ≡ false
-
--- Says what an answer tells of e after the classes have been compared: either e is carried to x, or e is not carried.
-abbrev pub Landed : Solid → Classes → List ℕ → ℕ → ℕ → Option ℕ → Type 0
-Landed s cls row r e (Some x) = (x ≡ goes s row r e) × (x < size s r) × (carries_element s cls row r e ≡ true)
-Landed s cls row r e None = carries_element s cls row r e ≡ false

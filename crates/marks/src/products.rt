@@ -1,21 +1,15 @@
 // This module gives the marks of a list of rows. A row that is the product of two confirmed rows is confirmed, because the symmetries of a solid are
 // a group. So nearly every row of a search is settled by comparing it with a product, and only the others are followed element by element.
 ghost use Rattle.std.specs.Prelude.{◌≡◌, true, ◌+◌, ◌*◌, ◌≤◌, ◌<◌, length};
-ghost use Rattle.spec.specs.Limits.{max_count, max_elements};
-ghost use Rattle.spec.specs.Mark.{sets_apart};
-ghost use Rattle.spec.specs.Lists.{parts};
-ghost use Rattle.spec.specs.Search.{mark_of};
+ghost use Rattle.spec.specs.Limits.{max_count};
 ghost use Rattle.spec.specs.Demand3Calls.{row_at};
-ghost use Rattle.ranked.specs.Words.{size_at, abs_in};
-ghost use Rattle.ranked.specs.Layout.{solid_on};
-ghost use Rattle.marks.specs.Rows.{classes_on};
 ghost use Rattle.marks.specs.Products.{composed};
 ghost use Rattle.marks.specs.Table.{table_places};
-ghost use Rattle.marks.specs.Marking.{marks_in, Markable, Factored};
+ghost use Rattle.marks.specs.Marking.{Factored};
 
-use crate::{CONFIRMED, mark};
+use crate::{CONFIRMED, Markable};
 use points::lookup::{FREE, mixed, store};
-use ranked::{ELEMENTS, Shape};
+use ranked::ELEMENTS;
 
 // The table has this many places. A free place holds FREE and no None, since that keeps a place at the 16 bits that every table of `points::lookup` has.
 const PLACES: usize = 16384;
@@ -32,7 +26,7 @@ const GENERATORS: usize = 15;
 const FEW: usize = 16;
 
 // A generator is a confirmed row, given by its number, together with the places of the vertices 0 to 7 in it. So the first entries of the other factor
-// are known, and a table finds the rows that have them. A wrong guess costs only time, so nothing is promised of what the table and the generators are.
+// are known, and a table finds the rows that have them.
 #[derive(Clone, Copy)]
 struct Generator {
     row: usize,
@@ -70,31 +64,40 @@ fn row_at(rows: &[u16], v: usize, k: usize) -> &[u16]
 fn place(row: &[u16], places: &[u16; ENTRIES]) -> usize
     ensures { result < table_places }
 {
-    let mut h: u64 = 0;
-    for &p in places {
+    let h = places.iter().fold(0, |h: u64, &p| {
         let entry = row.get(usize::from(p)).copied().unwrap_or(0);
-        h = mixed(h, u64::from(entry)) / 0x10_0000;
-    }
+        mixed(h, u64::from(entry)) / 0x10_0000
+    });
     (h % PLACES as u64) as usize
 }
 
-// Adds a confirmed row, which has number k, to the table.
-fn keep(row: &[u16], k: usize, guesses: &mut [u16; PLACES]) {
-    if k < usize::from(FREE) {
-        store(guesses, place(row, &FIRST), TRIES, k);
-    }
+// The confirmed rows in which a factor of the next row is looked for: the table of all, and the generators. A wrong guess costs only time, so nothing
+// is promised of them.
+#[derive(Drop)]
+struct Factors {
+    guesses: [u16; PLACES],
+    generators: [Option<Generator>; GENERATORS],
 }
 
-// Adds a confirmed row, which has number k, to the generators, if there is room. Row 0 is nearly always the identity, which makes no new product, so it
-// is left out.
-fn join(row: &[u16], k: usize, generators: &mut [Option<Generator>; GENERATORS])
-    requires { length row.now ≤ max_count }
-{
-    if k == 0 {
-        return;
+impl Factors {
+    // Adds a confirmed row, which has number k, to the table.
+    fn keep(&mut self, row: &[u16], k: usize) {
+        if k < usize::from(FREE) {
+            store(&mut self.guesses, place(row, &FIRST), TRIES, k);
+        }
     }
-    if let Some(j) = generators.iter().position(|g| g.is_none()) {
-        generators[j] = Some(Generator::of(row, k));
+
+    // Adds a confirmed row, which has number k, to the generators, if there is room. Row 0 is nearly always the identity, which makes no new product,
+    // so it is left out.
+    fn join(&mut self, row: &[u16], k: usize)
+        requires { length row.now ≤ max_count }
+    {
+        if k == 0 {
+            return;
+        }
+        if let Some(j) = self.generators.iter().position(|g| g.is_none()) {
+            self.generators[j] = Some(Generator::of(row, k));
+        }
     }
 }
 
@@ -108,163 +111,136 @@ fn is_product(row: &[u16], a: &[u16], g: &[u16]) -> bool
         .all(|(x, p)| a.get(usize::from(*p)) == Some(x))
 }
 
-// Tells whether the row after those that have the marks `done` is the product of row g and then row a, both of which are confirmed.
-fn is_factored(rows: &[u16], v: usize, done: &[u8], g: usize, a: usize) -> bool
-    requires { length done.now * v + v ≤ length rows.now }
-    ensures { result ≡ true → Factored v rows.now done.now }
-{
-    let k = done.len();
-    g < k
-        && a < k
-        && done[g] == CONFIRMED
-        && done[a] == CONFIRMED
-        && is_product(row_at(rows, v, k), row_at(rows, v, a), row_at(rows, v, g))
+// The row that is marked next is the one after those that have the marks `done`. Each row has an entry for each vertex.
+#[derive(Clone, Copy)]
+struct NextRow<'a> {
+    rows: &'a [u16],
+    vertices: usize,
+    done: &'a [u8],
+    ghost room: { length done.now * vertices + vertices ≤ length rows.now },
 }
 
-// Tells whether that row is found to be the product of the generator and then a row of the table.
-fn is_met(
-    rows: &[u16],
-    v: usize,
-    done: &[u8],
-    guesses: &[u16; PLACES],
-    generator: &Generator,
-) -> bool
-    requires { length done.now * v + v ≤ length rows.now }
-    ensures { result ≡ true → Factored v rows.now done.now }
-{
-    let from = place(row_at(rows, v, done.len()), &generator.places);
-    for i in 0..TRIES {
-        let a = usize::from(guesses[(from + i) % PLACES]);
-        if is_factored(rows, v, done, generator.row, a) {
-            return true;
+impl<'a> NextRow<'a> {
+    // Returns row k, which is the next row or one before it.
+    fn row(&self, k: usize) -> &'a [u16]
+        requires { k ≤ length self.now.done.now }
+        ensures value { result.now ≡ row_at self.now.vertices k self.now.rows.now }
+        ensures len { length result.now ≡ self.now.vertices }
+    {
+        row_at(self.rows, self.vertices, k)
+    }
+
+    // Tells whether the next row is the product of row g and then row a, both of which are confirmed.
+    fn is_factored(&self, g: usize, a: usize) -> bool
+        ensures { result ≡ true → Factored self.now.vertices self.now.rows.now self.now.done.now }
+    {
+        let k = self.done.len();
+        g < k
+            && a < k
+            && self.done[g] == CONFIRMED
+            && self.done[a] == CONFIRMED
+            && is_product(self.row(k), self.row(a), self.row(g))
+    }
+
+    // Tells whether it is found to be the product of the generator and then a row of the table.
+    fn is_met(&self, factors: &Factors, generator: &Generator) -> bool
+        ensures { result ≡ true → Factored self.now.vertices self.now.rows.now self.now.done.now }
+    {
+        let from = place(self.row(self.done.len()), &generator.places);
+        (0..TRIES).any(|i| {
+            let a = usize::from(factors.guesses[(from + i) % PLACES]);
+            self.is_factored(generator.row, a)
+        })
+    }
+
+    // Tells whether it is found to be a product of two confirmed rows.
+    fn is_known(&self, factors: &Factors) -> bool
+        ensures { result ≡ true → Factored self.now.vertices self.now.rows.now self.now.done.now }
+    {
+        factors
+            .generators
+            .iter()
+            .flatten()
+            .any(|generator| self.is_met(factors, generator))
+    }
+}
+
+impl<'a> Markable<'a> {
+    ghost use Rattle.spec.specs.Lists.{parts};
+    ghost use Rattle.spec.specs.Search.{mark_of};
+    ghost use Rattle.ranked.specs.Words.{size_at, total};
+    ghost use Rattle.ranked.specs.Lying.{abs_of};
+    ghost use Rattle.marks.specs.Carrying.{concrete_in, classes_of};
+    ghost use Rattle.marks.specs.Marking.{marks_in, MarkedTo};
+
+    // Returns the mark of the next row. A row that has to be followed element by element, and is confirmed, becomes a generator.
+    fn mark_next(&self, next: &NextRow, goes: &mut [u16], factors: &mut Factors) -> u8
+        requires apart { self.now.apart ≡ true }
+        requires room { total self.now.solid.shape ≤ length goes.old }
+        requires vertices { next.now.vertices ≡ size_at self.now.solid.shape 1 }
+        requires done { MarkedTo self.now next.now.vertices next.now.rows.now next.now.done.now (length next.now.done.now) }
+        ensures { result ≡ mark_of (abs_of self.now.solid) (classes_of self.now) (row_at next.now.vertices (length next.now.done.now) next.now.rows.now) }
+    {
+        if next.is_known(factors) {
+            return CONFIRMED;
         }
-    }
-    false
-}
-
-// Tells whether that row is found to be a product of two confirmed rows.
-fn is_known(
-    rows: &[u16],
-    v: usize,
-    done: &[u8],
-    guesses: &[u16; PLACES],
-    generators: &[Option<Generator>; GENERATORS],
-) -> bool
-    requires { length done.now * v + v ≤ length rows.now }
-    ensures { result ≡ true → Factored v rows.now done.now }
-{
-    generators
-        .iter()
-        .flatten()
-        .any(|generator| is_met(rows, v, done, guesses, generator))
-}
-
-// Returns the mark of the row after those that have the marks `done`. A row that has to be followed element by element, and is confirmed, becomes a
-// generator.
-fn mark_next(
-    lists: &[u32],
-    sh: Shape,
-    floats: &[f64],
-    rows: &[u16],
-    goes: &mut [u16],
-    done: &[u8],
-    guesses: &[u16; PLACES],
-    generators: &mut [Option<Generator>; GENERATORS],
-) -> u8
-    requires markable { Markable sh lists.now floats.now (length goes.old) × (sets_apart (abs_in sh lists.now) ≡ true) }
-    requires sh_in_bounds { length done.now * size_at sh 1 + size_at sh 1 ≤ length rows.now }
-    requires done_value { done.now ≡ marks_in (solid_on sh lists.now floats.now) (parts (length done.now) (size_at sh 1) rows.now) }
-    ensures { result ≡ mark_of (abs_in sh lists.now) (classes_on sh lists.now floats.now)
-        (row_at (size_at sh 1) (length done.now) rows.now) }
-{
-    let v = sh.vertices();
-    if is_known(rows, v, done, guesses, generators) {
-        return CONFIRMED;
-    }
-    let k = done.len();
-    let row = row_at(rows, v, k);
-    let m = mark(lists, sh, floats, true, row, goes);
-    if m == CONFIRMED {
-        join(row, k, generators);
-    }
-    m
-}
-
-// Marks a few rows, each element by element. `apart` says whether no two elements of a rank have one vertex set.
-fn mark_few(
-    lists: &[u32],
-    sh: Shape,
-    floats: &[f64],
-    apart: bool,
-    rows: &[u16],
-    goes: &mut [u16],
-    marks: &mut [u8],
-)
-    requires markable { Markable sh lists.now floats.now (length goes.old) × (apart ≡ sets_apart (abs_in sh lists.now)) }
-    requires sh_in_bounds { length marks.old * size_at sh 1 ≤ length rows.now }
-    ensures { marks.new
-        ≡ marks_in (solid_on sh lists.now floats.now) (parts (length marks.old) (size_at sh 1) rows.now) }
-{
-    let v = sh.vertices();
-    for k in 0..marks.len() {
-        marks[k] = mark(lists, sh, floats, apart, row_at(rows, v, k), goes);
-    }
-}
-
-// Marks many rows, each by a product where one is found.
-fn mark_many(
-    lists: &[u32],
-    sh: Shape,
-    floats: &[f64],
-    rows: &[u16],
-    goes: &mut [u16],
-    marks: &mut [u8],
-)
-    requires markable { Markable sh lists.now floats.now (length goes.old) × (sets_apart (abs_in sh lists.now) ≡ true) }
-    requires sh_in_bounds { length marks.old * size_at sh 1 ≤ length rows.now }
-    ensures { marks.new
-        ≡ marks_in (solid_on sh lists.now floats.now) (parts (length marks.old) (size_at sh 1) rows.now) }
-{
-    let v = sh.vertices();
-    let mut guesses = [FREE; PLACES];
-    let mut generators = [None; GENERATORS];
-    for k in 0..marks.len() {
-        let m = mark_next(
-            lists,
-            sh,
-            floats,
-            rows,
-            goes,
-            &marks[..k],
-            &guesses,
-            &mut generators,
-        );
-        marks[k] = m;
+        let k = next.done.len();
+        let row = next.row(k);
+        let m = self.mark(row, goes);
         if m == CONFIRMED {
-            keep(row_at(rows, v, k), k, &mut guesses);
+            factors.join(row, k);
+        }
+        m
+    }
+
+    // Marks a few rows, each element by element. A row's place is worked out from its number and not by `chunks_exact`, which wants parts that are not
+    // empty: a solid with R = 0 has no vertices.
+    fn mark_few(&self, rows: &[u16], marks: &mut [u8])
+        requires { length marks.old * size_at self.now.solid.shape 1 ≤ length rows.now }
+        ensures { marks.new ≡ marks_in (concrete_in self.now) (parts (length marks.old) (size_at self.now.solid.shape 1) rows.now) }
+    {
+        let vertices = self.solid.shape.vertices();
+        let mut goes = [0; ELEMENTS];
+        for (k, m) in marks.iter_mut().enumerate() {
+            *m = self.mark(row_at(rows, vertices, k), &mut goes);
         }
     }
-}
 
-// Writes the mark of each row. A row has an entry for each vertex, and there are as many rows as marks. `apart` says whether no two elements of a
-// rank have one vertex set.
-pub fn mark_rows(
-    lists: &[u32],
-    sh: Shape,
-    floats: &[f64],
-    apart: bool,
-    rows: &[u16],
-    marks: &mut [u8],
-)
-    requires markable { Markable sh lists.now floats.now max_elements × (apart ≡ sets_apart (abs_in sh lists.now)) }
-    requires sh_in_bounds { length marks.old * size_at sh 1 ≤ length rows.now }
-    ensures { marks.new
-        ≡ marks_in (solid_on sh lists.now floats.now) (parts (length marks.old) (size_at sh 1) rows.now) }
-{
-    let mut goes = [0u16; ELEMENTS];
-    if apart && FEW <= marks.len() {
-        mark_many(lists, sh, floats, rows, &mut goes, marks);
-    } else {
-        mark_few(lists, sh, floats, apart, rows, &mut goes, marks);
+    // Marks many rows, each by a product where one is found. The marks before a row are read while its own is written, so it has a number.
+    fn mark_many(&self, rows: &[u16], marks: &mut [u8])
+        requires apart { self.now.apart ≡ true }
+        requires rows { length marks.old * size_at self.now.solid.shape 1 ≤ length rows.now }
+        ensures { marks.new ≡ marks_in (concrete_in self.now) (parts (length marks.old) (size_at self.now.solid.shape 1) rows.now) }
+    {
+        let vertices = self.solid.shape.vertices();
+        let mut goes = [0; ELEMENTS];
+        let mut factors = Factors {
+            guesses: [FREE; PLACES],
+            generators: [None; GENERATORS],
+        };
+        for k in 0..marks.len() {
+            let next = NextRow {
+                rows,
+                vertices,
+                done: &marks[..k],
+            };
+            let m = self.mark_next(&next, &mut goes, &mut factors);
+            if m == CONFIRMED {
+                factors.keep(next.row(k), k);
+            }
+            marks[k] = m;
+        }
+    }
+
+    // Writes the mark of each row. A row has an entry for each vertex, and there are as many rows as marks.
+    pub fn mark_rows(&self, rows: &[u16], marks: &mut [u8])
+        requires { length marks.old * size_at self.now.solid.shape 1 ≤ length rows.now }
+        ensures { marks.new ≡ marks_in (concrete_in self.now) (parts (length marks.old) (size_at self.now.solid.shape 1) rows.now) }
+    {
+        if self.apart && FEW <= marks.len() {
+            self.mark_many(rows, marks);
+        } else {
+            self.mark_few(rows, marks);
+        }
     }
 }

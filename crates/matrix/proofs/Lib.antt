@@ -5,3 +5,4 @@ pub mod PivotScan
 pub mod Beside
 pub mod Columns
 pub mod Padded
+pub mod Made

@@ -9,6 +9,7 @@ ghost use Rattle.std.specs.Option.{option_map, option_map_or};
 ghost use Rattle.matrix.specs.Reading.{corner, leading, padded_rows};
 
 use float::{DIMENSION, tolerance};
+use std::array;
 
 const WIDTH: usize = 2 * DIMENSION;
 
@@ -18,9 +19,7 @@ fn beside(v: [f64; DIMENSION], i: usize, d: usize) -> [f64; WIDTH]
     ensures { take (d + d) result ≡ take d v ++ unit d i }
 {
     let mut r = [0.0; WIDTH];
-    for j in 0..d {
-        r[j] = v[j];
-    }
+    r[..d].copy_from_slice(&v[..d]);
     r[d + i] = 1.0;
     r
 }
@@ -74,11 +73,7 @@ fn row_cleared(v: [f64; WIDTH], pivot: [f64; WIDTH], c: usize) -> [f64; WIDTH]
     requires { c < max_dimension }
     ensures { result ≡ cleared c pivot v }
 {
-    let mut r = v;
-    for j in 0..WIDTH {
-        r[j] = v[j] - v[c] * pivot[j];
-    }
-    r
+    array::from_fn(|j| v[j] - v[c] * pivot[j])
 }
 
 // Returns what row r becomes when column c is cleared: the divided pivot row stays, and every other row is cleared by it.
@@ -131,13 +126,12 @@ fn right_half(v: [f64; WIDTH], d: usize) -> [f64; DIMENSION]
     ensures { result ≡ padded (drop d (take (d + d) v)) }
 {
     let mut r = [0.0; DIMENSION];
-    for j in 0..d {
-        r[j] = v[d + j];
-    }
+    r[..d].copy_from_slice(&v[d..d + d]);
     r
 }
 
-// Returns the right halves of the working rows. They are d rows of d entries, so that the matrix they make up can be read back from the array.
+// Returns the right halves of the working rows. They are d rows of d entries, so that the matrix they make up can be read back from the array. The loop goes
+// by the number, as those of the crate's root do, since the rows behind the first d stay zeros.
 fn right_halves(rows: [[f64; WIDTH]; DIMENSION], d: usize) -> [[f64; DIMENSION]; DIMENSION]
     requires { d ≤ max_dimension }
     ensures { (result ≡ padded_rows (map (drop d) (leading d (d + d) rows))) × (corner d result ≡ map (drop d) (leading d (d + d) rows)) }
@@ -202,6 +196,7 @@ pub fn eliminate(m: [[f64; DIMENSION]; DIMENSION], d: usize) -> Option<Eliminate
         if x == 0.0 {
             return None;
         }
+        // The checker takes no array that one statement both passes and assigns.
         let next = column(rows, p, x, c, d);
         rows = next;
         t = multiplied(t, x, c);

@@ -1,5 +1,6 @@
-// This crate has matrices of a dimension d up to DIMENSION, as rows of rows. Of an argument, the first d entries of the first d rows are read. In a
-// result, every other cell holds 0.0.
+// This crate has matrices of a dimension d up to DIMENSION, as rows of rows by value with d beside them, which is the form that this project asks for. Of
+// an argument, the first d entries of the first d rows are read. In a result, every other cell holds 0.0. So the loops go over the first d cells of an
+// array of zeros: `array::from_fn`, which makes every cell, would have to compare each number with d.
 #![tactic(auto)]
 
 ghost use Rattle.std.specs.Prelude.{◌≡◌, map, ◌≤◌, ◌<◌, take, get_or};

@@ -1,6 +1,7 @@
 pub mod Parts
 pub mod Nearness
 pub mod Tails
+pub mod Laid
 pub mod Finding
 pub mod Triangle
 pub mod Lone

@@ -8,7 +8,6 @@ use native.Mathlib.Nat.{zero-add}
 use native.Mathlib.Omega.{arith}
 use lib.ListN.{length, get_or, take, drop, replicate, get_or-replicate}
 use lib.Ieee.{Float}
-use borrow.Author.Count.{below_more}
 use Rattle.std.specs.Bool.{MatchBool}
 use Rattle.std.specs.List.{AllWithin, range_with_len}
 use Rattle.std.proofs.lemmas.List.FromFn.{length-range_with_len, get_or-range_with_len}
@@ -23,10 +22,6 @@ use Rattle.points.specs.Guesses.{wide_f, within, Clear, Lone, places, free, Gues
 pub far-part : (d : ℕ) (l : List Float) (j k : ℕ) (p q : Vector) → j * d + d ≤ length l → p ≡ take d (drop (j * d) l) → take d q ≡ take d (drop (k * d) l)
     → within wide_f p (take (length p) q) ≡ false → within wide_f (take d (drop (j * d) l)) (take d (drop (k * d) l)) ≡ false
 far-part d l j k p q h e f t = ap (within wide_f (take d (drop (j * d) l))) (sym f) ∙ sym (within-part wide_f d l q j p h e) ∙ t
-
-module _ {d : ℕ} {l : List Float} where
-  pub clear_next : {k j : ℕ} → Clear d l k j → within wide_f (take d (drop (j * d) l)) (take d (drop (k * d) l)) ≡ false → Clear d l k (j + 1)
-  clear_next s e = record { clear = below_more _ _ s.clear e }
 
 -- A test of every number below n that has passed says this of each.
 pub all_below : (P : ℕ → Type 0) (Q : Type 0) (n : ℕ) {r : Bool} → (let l = range_with_len 0 n in MatchBool r (AllWithin P l 0 (length l)) Q) → r ≡ true

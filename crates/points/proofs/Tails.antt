@@ -25,17 +25,6 @@ module _ {A : Type 0} (l ys : List A) (k : ℕ) (h : k ≤ length l) where
   unfolding written
   tail_written w new n e = tail_back ∙ ap (λ (y : List A). take k l ++ y) (e ∙ ap₂ (λ (a : ℕ) (b : List A). new ++ drop a b) n tail_is)
 
--- ---- an output that is filled from its front
-
--- A loop that writes a cell a turn, from the first on, has written them over the front of the output.
-module _ {A : Type 0} {old out : List A} {i : ℕ} (n : ℕ) (p : i ≤ n) (q : n ≤ i) where
-  pub front_written : {g : ℕ → A} → Written (λ x. x) g old out i → out ≡ written (map g (range 0 n)) old
-  unfolding written
-  front_written {g} w = whole n p q w ∙ ap (λ (k : ℕ). map g (range 0 n) ++ drop k old) (sym (length_table g n))
-
-  pub front_copied : (l : List A) (z : A) → n ≤ length l → Written (λ x. x) (λ k. get_or l k z) old out i → out ≡ written (take n l) old
-  front_copied l z h w = front_written w ∙ ap (λ (x : List A). written x old) (table_map (λ x. x) z l n h ∙ map-id (take n l))
-
 -- The list `cells` stands in the output, and `new` is written to the part after it.
 written_after : {A : Type 0} (cells new old : List A) → take (length cells) (written cells old) ++ written new (drop (length cells) (written cells old)) ≡ written (cells ++ new) old
 unfolding written

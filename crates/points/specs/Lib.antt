@@ -1,3 +1,4 @@
 pub mod Finding
 pub mod Guesses
 pub mod Cells
+pub mod Listed

@@ -1,16 +1,16 @@
 // This module finds a point among listed points, "within EPS, EPS included, on every axis (lowest number taken)", and is fast for many points. A
 // table guesses the number. Only points that are lone have one, which means that no two of them are within WIDE on every axis: a point that is near
 // the point sought is then the only one near, and so the lowest. Other points have an empty table and are compared one by one.
-ghost use Rattle.std.specs.Prelude.{◌≡◌, true, false, ◌+◌, ◌*◌, ◌≤◌, ◌<◌, length, take};
+ghost use Rattle.std.specs.Prelude.{◌≡◌, true, false, ◌+◌, ◌≤◌, ◌<◌, length, take};
 ghost use Rattle.spec.specs.Limits.{max_dimension, max_count};
 ghost use Rattle.spec.specs.Points.{find, row_of};
-ghost use Rattle.spec.specs.Lists.{parts};
 ghost use Rattle.matrix.specs.Reading.{corner};
 ghost use Rattle.points.specs.Finding.{found_at};
 ghost use Rattle.points.specs.Guesses.{places, free, mixed, mixed_limit, Lone, Clear, PlaceFilled, Guesses, Guessed};
 ghost use Rattle.points.specs.Cells.{Tabled};
+ghost use Rattle.points.specs.Listed.{listed};
 
-use crate::{find, loaded, near, near_at, point};
+use crate::{Points, near};
 use float::{DIMENSION, bits};
 use spec::MAX_COUNT;
 
@@ -18,7 +18,7 @@ use spec::MAX_COUNT;
 pub const PLACES: usize = 2 * MAX_COUNT;
 // This many places in a row are looked at, from the first one on.
 const TRIES: usize = 16;
-// This is the number that stands in a free place of a table.
+// This is the number that stands in a free place of a table. It is no None, since an Option of a number would take twice the room of a table on the stack.
 pub const FREE: u16 = 65535;
 // Fewer points than this are compared one by one, without a guess.
 const FEW: usize = 32;
@@ -57,117 +57,100 @@ pub fn store(table: &mut [u16], from: usize, tries: usize, k: usize)
     ensures { PlaceFilled k table.old table.new }
 {
     let size = table.len();
-    for i in 0..tries {
-        let p = (from + i) % size;
-        if table[p] == FREE {
-            table[p] = k as u16;
-            return;
-        }
+    let free = (0..tries)
+        .map(|i| (from + i) % size)
+        .find(|&p| table[p] == FREE);
+    if let Some(p) = free {
+        table[p] = k as u16;
     }
 }
 
 // Tells whether no point before point k is within WIDE of it on every axis.
-fn is_clear(points: &[f64], d: usize, k: usize) -> bool
-    requires { (d ≤ max_dimension) × (k * d + d ≤ length points.now) }
-    ensures { result ≡ true → Clear d points.now k k }
+fn is_clear(points: &Points, k: usize) -> bool
+    requires { k < points.now.count }
+    ensures { result ≡ true → Clear points.now.dimension points.now.floats.now k k }
 {
-    let q = loaded(points, d, k);
-    for j in 0..k {
-        if near(point(points, d, j), q, WIDE) {
-            return false;
-        }
-    }
-    true
+    let q = points.loaded(k);
+    (0..k).all(|j| !near(points.get(j), q, WIDE))
 }
 
-// Tells whether no two of the n points are within WIDE on every axis.
-pub fn is_lone(points: &[f64], d: usize, n: usize) -> bool
-    requires { (d ≤ max_dimension) × (n ≤ max_count) × (n * d ≤ length points.now) }
-    ensures { result ≡ true → Lone (parts n d points.now) }
+// Tells whether no two of the points are within WIDE on every axis.
+pub fn is_lone(points: &Points) -> bool
+    ensures { result ≡ true → Lone (listed points.now) }
 {
-    (0..n).all(|k| is_clear(points, d, k))
+    (0..points.count).all(|k| is_clear(points, k))
 }
 
-// Returns the table of guesses of the n points, which is empty where they are not lone. An empty table would always give the same answers and take
+// Returns the table of guesses of the points, which is empty where they are not lone. An empty table would always give the same answers and take
 // longer, which no proof can show and the benchmark does (tools/bench.sh).
-pub fn places(points: &[f64], d: usize, n: usize) -> [u16; PLACES]
-    requires { (d ≤ max_dimension) × (n ≤ max_count) × (n * d ≤ length points.now) }
-    ensures { Guesses (parts n d points.now) result }
+pub fn places(points: &Points) -> [u16; PLACES]
+    requires { points.now.count ≤ max_count }
+    ensures { Guesses (listed points.now) result }
 {
     let mut table = [FREE; PLACES];
-    if !is_lone(points, d, n) {
+    if !is_lone(points) {
         return table;
     }
-    for k in 0..n {
-        let at = place(loaded(points, d, k), d);
+    for k in 0..points.count {
+        let at = place(points.loaded(k), points.dimension);
         store(&mut table, at, TRIES, k);
     }
     table
 }
 
-// Returns the point near q, if the table tells it. `None` says only that the table does not tell it.
-fn guess(
-    points: &[f64],
-    d: usize,
-    n: usize,
-    places: &[u16; PLACES],
-    q: [f64; DIMENSION],
-) -> Option<usize>
-    requires le_d { (1 ≤ d) × (d ≤ max_dimension) × (n * d ≤ length points.now) }
-    requires guesses { Guesses (parts n d points.now) places.now }
-    ensures { Guessed n (find (parts n d points.now) (take d q)) result }
-{
-    let at = place(q, d);
-    for i in 0..TRIES {
-        let k = usize::from(places[(at + i) % PLACES]);
-        if n <= k {
-            return None;
+// These are points with their table of guesses.
+#[derive(Clone, Copy)]
+pub struct Lookup<'a> {
+    pub points: Points<'a>,
+    pub places: &'a [u16; PLACES],
+    pub ghost within_limits: { (1 ≤ points.dimension) × (points.count ≤ max_count) },
+    pub ghost guesses: { Guesses (listed points) places.now },
+}
+
+impl Lookup<'_> {
+    // Returns the point near q, if the table tells it. `None` says only that the table does not tell it. A number that is no point's ends the looking
+    // and a point that is near is the answer, so that a chain over the places would have to test each number twice.
+    fn guess(&self, q: [f64; DIMENSION]) -> Option<usize>
+        ensures { Guessed self.now.points.count (find (listed self.now.points) (take self.now.points.dimension q)) result }
+    {
+        let at = place(q, self.points.dimension);
+        for i in 0..TRIES {
+            let k = usize::from(self.places[(at + i) % PLACES]);
+            if self.points.count <= k {
+                return None;
+            }
+            if self.points.near_at(k, q) {
+                return Some(k);
+            }
         }
-        if near_at(points, d, k, q) {
+        None
+    }
+
+    // Returns the lowest of the points that is near q.
+    fn found(&self, q: [f64; DIMENSION]) -> Option<usize>
+        ensures { result ≡ found_at self.now.points.count (find (listed self.now.points) (take self.now.points.dimension q)) }
+    {
+        if FEW <= self.points.count
+            && let Some(k) = self.guess(q)
+        {
             return Some(k);
         }
+        self.points.find(q)
     }
-    None
-}
 
-// Returns the lowest of the n points that is near q.
-fn found(
-    points: &[f64],
-    d: usize,
-    n: usize,
-    places: &[u16; PLACES],
-    q: [f64; DIMENSION],
-) -> Option<usize>
-    requires le_d { (1 ≤ d) × (d ≤ max_dimension) × (n * d ≤ length points.now) }
-    requires guesses { Guesses (parts n d points.now) places.now }
-    ensures { result ≡ found_at n (find (parts n d points.now) (take d q)) }
-{
-    if n < FEW {
-        return find(points, d, n, q);
+    // Writes the number of each point's image under m, which is that of the lowest point that the image is near, and says whether there is one for
+    // every image. The points are taken by rising number, and the first image that is not found ends the writing.
+    pub fn row_of(&self, m: [[f64; DIMENSION]; DIMENSION], row: &mut [u16]) -> bool
+        requires { self.now.points.count ≤ length row.old }
+        ensures { Tabled self.now.points.count (row_of (listed self.now.points) (corner self.now.points.dimension m)) row.old row.new result }
+    {
+        for k in 0..self.points.count {
+            let q = matrix::image(m, self.points.loaded(k), self.points.dimension);
+            let Some(at) = self.found(q) else {
+                return false;
+            };
+            row[k] = at as u16;
+        }
+        true
     }
-    guess(points, d, n, places, q).or_else(|| find(points, d, n, q))
-}
-
-// Writes the number of each point's image under m, which is that of the lowest point that the image is near, and says whether there is one for
-// every image. The points are taken by rising number, and the first image that is not found ends the writing.
-pub fn row_of(
-    points: &[f64],
-    d: usize,
-    n: usize,
-    places: &[u16; PLACES],
-    m: [[f64; DIMENSION]; DIMENSION],
-    row: &mut [u16],
-) -> bool
-    requires le_d { (1 ≤ d) × (d ≤ max_dimension) × (n ≤ max_count) × (n * d ≤ length points.now) × (n ≤ length row.old) }
-    requires guesses { Guesses (parts n d points.now) places.now }
-    ensures { Tabled n (row_of (parts n d points.now) (corner d m)) row.old row.new result }
-{
-    for k in 0..n {
-        let q = matrix::image(m, loaded(points, d, k), d);
-        let Some(at) = found(points, d, n, places, q) else {
-            return false;
-        };
-        row[k] = at as u16;
-    }
-    true
 }

@@ -18,7 +18,7 @@ use Rattle.ranked.specs.Layout.{sub_entries}
 use Rattle.ranked.proofs.Low.{entries_0, entries_1}
 use Rattle.ranked.proofs.Low.{sub-entries_is}
 use Rattle.ranked.specs.Shapes.{running}
-use Rattle.preflight.specs.Derive.{pairs_to, pairs}
+use Rattle.preflight.specs.Derive.{rank_pairs, pairs_to, pairs}
 use Rattle.ranked.proofs.Solids.{top_is, size_is}
 use Rattle.preflight.proofs.store.Flat.{rank-length}
 use Rattle.preflight.proofs.store.SheetSolid.{sum_lengths}
@@ -62,7 +62,7 @@ module _ (sh : Shape) (w : List ℕ) (v : Sound (abs_in sh w)) (full : (r e : �
   pairs-run zero = omega (arith, none)
   pairs-run (suc n) =
       let ls = get_or s (suc n) [] in
-      omega (arith, rank-length sh s (pairs_to sh s n) n (length ls) (omega arith), ap (λ (l : List (List ℕ)). length (join l)) (take-length ls), pairs-run n)
+      omega (arith, length-append (pairs_to sh s n) (rank_pairs sh s n (length ls)), rank-length sh s n (length ls) (omega arith), ap (λ (l : List (List ℕ)). length (join l)) (take-length ls), pairs-run n)
 
   vertices : count 1 ≡ size s 1
   unfolding subs

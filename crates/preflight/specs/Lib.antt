@@ -1,4 +1,5 @@
 pub mod Derive
+pub mod Pairs
 pub mod Store
 pub mod Bench
 pub mod Check

@@ -1,16 +1,17 @@
 -- What the library's words say of a list is what the definitions of section 2 say of it.
 -- Assumes nothing.
-use mathlib.Core.Path.{◌≡◌, refl, sym, ◌∙◌, ap}
+use mathlib.Core.Path.{◌≡◌, refl, sym, ◌∙◌, ap, subst}
 use mathlib.Core.Bool.{Bool, true, false, cond, ◌&&◌, ◌||◌}
 use mathlib.Core.List.{List, [], ◌∷◌}
-use Prim.Native.Nat.{ℕ, zero, suc, ◌+◌, ◌-◌, ◌≤◌}
+use Prim.Native.Nat.{ℕ, zero, suc, ◌+◌, ◌-◌, ◌≤◌, ◌<◌}
+use native.Mathlib.Nat.{zero-add}
 use native.Mathlib.Numerals.{add-one}
 use native.Mathlib.Omega.{arith}
 use lib.ListN.{length}
 use lib.Dec.{eqb, ltb}
 use Rattle.std.specs.Prelude.{Option, Some, None}
-use Rattle.std.specs.List.{filter, list_all, list_any, position_or_len, range_with_len, FoldsTo}
-use Rattle.std.specs.Option.{unwrap_or, MatchOption}
+use Rattle.std.specs.List.{filter, list_all, list_any, position, position_or_len, range_with_len, FoldsTo}
+use Rattle.std.specs.Option.{MatchOption, IfSome, IsSomeAnd, option_map}
 use Rattle.std.specs.Fn.{Called}
 use Rattle.std.specs.Iterator.{CallableAtEachTurn, YieldsThen}
 use Rattle.std.specs.declared.slice.Iter.{Iter}
@@ -21,11 +22,12 @@ use denote.Param.Members.{Mut}
 use Rattle.std.proofs.iter.Yields.{fronts, nat_range_steps}
 use Rattle.std.proofs.lemmas.Iterator.{YieldsList-from_slice, YieldsList-from_range}
 use Rattle.std.proofs.lemmas.Iterator.Adapters.{serves_from_places}
+use Rattle.std.proofs.iter.runs.Sources.{range_runs}
+use Rattle.std.specs.Iterator.Runs.{Run, SomeRun, ItemsCountUp, AllItemsGive, IsFirstToGive, CallKeepsClosure}
 use Rattle.std.proofs.lemmas.Iterator.Search.{all_from_yields_List}
-use Rattle.laws.proofs.Lists.{in_get_d}
-use Rattle.std.proofs.lemmas.Bool.{cond_both, ltb-false}
+use Rattle.laws.proofs.Lists.{in_get_d, length-range, get_d_range}
+use Rattle.std.proofs.lemmas.Bool.{cond_both, ltb-true, ltb-false}
 use Rattle.std.proofs.lemmas.List.Recursion.{is_position_or_len}
-use Rattle.std.proofs.lemmas.List.Sums.{prefix_len-le-length}
 use Rattle.spec.specs.Lists.{In, range, holds, place, every, keep}
 
 pub any_holds : (x : ℕ) (l : List ℕ) → list_any (λ y. eqb y x) l ≡ holds eqb x l
@@ -68,14 +70,20 @@ place_is x l = is_position_or_len (place eqb x) (λ y. eqb y x) refl (λ y ys. g
     go true n = refl
     go false n = omega arith
 
--- Where the list does not hold x, its length is the place of x.
-pub place_found : (x : ℕ) (l : List ℕ) (found : Option ℕ)
-    → found ≡ cond (ltb (position_or_len (λ y. eqb y x) l) (length l)) (Some (position_or_len (λ y. eqb y x) l)) None
-    → unwrap_or found (length l) ≡ place eqb x l
-place_found x l found e =
-    let k = position_or_len (λ y. eqb y x) l in
-    let few : k ≤ length l = prefix_len-le-length _ l in
-    rw e (cond_both (ltb k (length l)) (Some k) None (λ (o : Option ℕ). unwrap_or o (length l) ≡ place eqb x l) (λ t. sym (place_is x l)) (λ f. omega (arith, ltb-false k (length l) f, place_is x l)))
+-- What was found is the place of x, which lies within the list, and where nothing was found, the place is the list's length.
+pub place_some : (x : ℕ) (l : List ℕ) (k : ℕ) → position (λ y. eqb y x) l ≡ Some k → (k ≡ place eqb x l) × (k < length l)
+place_some x l k =
+    let n = position_or_len (λ y. eqb y x) l in
+    cond_both (ltb n (length l)) (Some n) None (λ (o : Option ℕ). o ≡ Some k → (k ≡ place eqb x l) × (k < length l))
+    (λ t q. let same : n ≡ k = cc in (sym same ∙ sym (place_is x l), omega (arith, ltb-true n (length l) t)))
+    (λ f q. cc)
+
+pub place_none : (x : ℕ) (l : List ℕ) → position (λ y. eqb y x) l ≡ None → length l ≤ place eqb x l
+place_none x l =
+    let n = position_or_len (λ y. eqb y x) l in
+    cond_both (ltb n (length l)) (Some n) None (λ (o : Option ℕ). o ≡ None → length l ≤ place eqb x l)
+    (λ t q. cc)
+    (λ f q. omega (arith, ltb-false n (length l) f, place_is x l))
 
 -- ---- chains over a slice and over a range
 
@@ -100,3 +108,46 @@ pub all_numbers : {F : Type 0} {g : Mut F (ℕ × Unit {0}) Bool} {s u : Range �
     → ((x : ℕ) (t : Bool) (q : F) → Called g f (x, tt) t q → (q ≡ f) × (t ≡ test x)) → r ≡ every test (range a n)
 all_numbers test a b n e many ran says =
     all_from_yields_List test _ _ _ ran (YieldsList-from_range a b n e many) says ∙ all_every test (range_with_len a n) ∙ ap (every test) (range_is a n)
+
+-- A closure may be called at each number below b, if it may at each of them.
+pub serves_numbers : {F : Type 0} {R : F → ℕ → F → Type 0} {Q : F → ℕ → Type 0} {s : Range ℕ} {f : F} (b : ℕ) → s ≡ record { start = 0; end = b }
+    → ((x : ℕ) (q : F) → R f x q → q ≡ f) → ((x : ℕ) → x < b → Q f x) → CallableAtEachTurn nat_range_steps R Q s f
+serves_numbers b e keeps may =
+    serves_from_places (YieldsList-from_range 0 b b e (omega arith)) keeps (λ x k h at.
+    let low : k < b = rw (range_is, length-range) at h in
+    let is : x ≡ 0 + k = (rw range_is at at) ∙ get_d_range 0 b x k low in
+    may x (omega arith))
+
+-- What `find_map` said of these numbers, where each call tells M of its number and its answer.
+module _ {C F : Type 0} {g : Mut F (ℕ × Unit {0}) (Option C)} {s : Range ℕ} {f : F} (M : ℕ → Option C → Type 0) (b : ℕ) (e : s ≡ record { start = 0; end = b })
+    (tells : (x : ℕ) (o : Option C) (q : F) → Called g f (x, tt) o q → (q ≡ f) × M x o) where
+  module _ (p : Run nat_range_steps) (from : p.from ≡ s) where
+    counts : ItemsCountUp p 0 b
+    counts = subst (λ (q : Range ℕ). ItemsCountUp p q.start q.end) (from ∙ e) (range_runs p p.seen)
+
+    item : (o : Option ℕ) (n : ℕ) → option_map (λ y. y) o ≡ Some n → o ≡ Some n
+    item None n q = cc
+    item (Some x) n q = q
+
+    at_is : (k : ℕ) → k < p.len → p.at k ≡ Some k
+    at_is k l = item (p.at k) k (rw zero-add at (counts.3 k l))
+
+    keeps : CallKeepsClosure g f
+    keeps a o q c = (tells a.0 o q c).0
+
+    told : (k : ℕ) (o : Option C) → k < p.len → IsSomeAnd (p.at k) (λ x. Called g f (x, tt) o f) → M k o
+    told k o l h = (tells k o f (subst (λ (m : Option ℕ). IsSomeAnd m (λ x. Called g f (x, tt) o f)) (at_is k l) h)).1
+
+    first_of : (r : Option C) → MatchOption r ((p.whole ≡ true) × AllItemsGive p g f None) (λ y. (i : ℕ) × (i < p.len) × (p.len ≡ i + 1) × IsFirstToGive p g f (Some y) None i)
+        → MatchOption r ((k : ℕ) → k < b → M k None) (λ y. (i : ℕ) × (i < b) × M i (Some y) × ((k : ℕ) → k < i → M k None))
+    first_of None h = λ k l.
+        let low : k < p.len = omega (arith, counts.1 h.0) in
+        (tells k None f (subst (λ (m : Option ℕ). IfSome m (λ x. Called g f (x, tt) None f)) (at_is k low) (h.1 keeps k))).1
+    first_of (Some y) h =
+        let q = h.3 keeps in
+        (h.0, omega (arith, h.1, counts.0), told h.0 (Some y) h.1 q.0, λ k l. told k None (omega (arith, h.1)) (q.1 k l))
+
+  pub first_mapped : (r : Option C)
+      → SomeRun nat_range_steps s (λ p. MatchOption r ((p.whole ≡ true) × AllItemsGive p g f None) (λ y. (i : ℕ) × (i < p.len) × (p.len ≡ i + 1) × IsFirstToGive p g f (Some y) None i))
+      → MatchOption r ((k : ℕ) → k < b → M k None) (λ y. (i : ℕ) × (i < b) × M i (Some y) × ((k : ℕ) → k < i → M k None))
+  first_mapped r d = first_of d.0 d.1 r d.2

@@ -5,7 +5,6 @@ pub mod Low
 pub mod Shaping
 pub mod Solids
 pub mod Counted
-pub mod Parts
 pub mod Between
 pub mod Agree
 pub mod Forks

@@ -2,7 +2,7 @@
 -- they give.
 -- Assumes nothing.
 use mathlib.Core.Path.{◌≡◌, refl, sym, ◌∙◌}
-use mathlib.Core.Logic.{◌⊎◌, inl, inr, ◌≢◌}
+use mathlib.Core.Logic.{◌⊎◌, inl, inr}
 use Prim.Native.Nat.{ℕ, zero, suc, ◌+◌, ◌-◌, ◌*◌, ◌^◌, ◌≤◌, ◌<◌}
 use mathlib.Core.List.{List, map}
 use native.Mathlib.Numerals.{add-one}
@@ -37,14 +37,15 @@ module _ (R : ℕ) (counts : List ℕ) where
   unfolding size_in
   size_past k h = rw (le-ltb (suc k) R h, size_in)
 
-  -- At a number that is not 0, the size is the count before it.
-  pub proper-at : (r : ℕ) → r ≢ 0 → r < R → get_or counts (r - 1) 0 ≡ size_in R counts r
-  proper-at zero n h = absurd (n refl)
+  -- At a number from 1 to R - 1, the size is the count before it, and at every other it is 1.
+  pub proper-at : (r : ℕ) → 0 < r → r < R → get_or counts (r - 1) 0 ≡ size_in R counts r
+  proper-at zero n h = absurd (omega arith)
   proper-at (suc k) n h = let e : suc k - 1 ≡ k = omega arith in rw e (sym (size-proper k h))
 
-  pub past_at : (r : ℕ) → r ≢ 0 → R ≤ r → 1 ≡ size_in R counts r
-  past_at zero n h = absurd (n refl)
-  past_at (suc k) n h = sym (size_past k h)
+  pub other_at : (r : ℕ) → ((0 < r) × (R ≤ r)) ⊎ (r ≤ 0) → 1 ≡ size_in R counts r
+  other_at zero h = size-first zero refl
+  other_at (suc k) (inl h) = sym (size_past k h.1)
+  other_at (suc k) (inr h) = absurd (omega arith)
 
   module _ (fit : CountsFit R counts) where
     pub size_few : (r : ℕ) → size_in R counts r ≤ max_count

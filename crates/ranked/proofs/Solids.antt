@@ -6,8 +6,7 @@ use mathlib.Core.Bool.{false}
 use mathlib.Core.List.{List, [], ◌∷◌, map}
 use Prim.Native.Nat.{ℕ, suc, ◌+◌, ◌*◌, ◌≤◌, ◌<◌}
 use native.Mathlib.Omega.{arith}
-use native.Mathlib.Numerals.{add-one}
-use lib.ListN.{length, get_or, length-take, length-drop, get_or-eq_default}
+use lib.ListN.{length, get_or, get_or-eq_default}
 use lib.Dec.{eqb}
 use borrow.Author.Tests.{ne_eqb}
 use Rattle.spec.specs.Lists.{In, range, holds}
@@ -21,11 +20,6 @@ use Rattle.ranked.proofs.Between.{sup_means}
 use Rattle.ranked.proofs.Starts.{lt_or_le, first_rises}
 
 -- ---- a list
-
-module _ (w : List ℕ) (i : ℕ) (a : Lies w i) where
-  pub count_is : length (list_at w i) ≡ get_or w (i + 1) 0
-  unfolding list_at
-  count_is = let h = a.inside in rw add-one (simp (length-take, length-drop) (omega arith))
 
 -- A list does not hold what all its entries are below.
 pub none_larger : (n x : ℕ) → n ≤ x → (l : List ℕ) → ((k : ℕ) → get_or l k 0 < n) → holds eqb x l ≡ false

@@ -9,14 +9,7 @@ use lib.ListN.{length, get_or, drop, drop_of_length-le}
 use lib.Seq.{drop-cons}
 use lib.Dec.{eqb}
 use borrow.Author.Tests.{eq-eqb, ne_eqb}
-use Rattle.spec.specs.Lists.{In, range, every, place}
-use Rattle.laws.proofs.Lists.{length-range, get_d_range, in_get_d}
-
--- ---- what a reader finds
-
--- The entry that was read is in the list.
-pub entry_in : (l : List ℕ) (k y : ℕ) → k < length l → y ≡ get_or l k 0 → In y l
-entry_in l k y h e = rw e (in_get_d 0 l k h)
+use Rattle.spec.specs.Lists.{every, place}
 
 -- ---- every element passes
 
@@ -42,20 +35,6 @@ module _ {A : Type 0} (p : A → Bool) where
   pub every-end : (l : List A) (k : ℕ) → length l ≤ k → Every l k → true ≡ every p l
   unfolding every
   every-end l k h inv = rw (drop_of_length-le l h) at inv
-
--- The same holds over a, a + 1, .., a + n - 1, after k numbers, at the number x.
-module _ (p : ℕ → Bool) (a n k x : ℕ) (at : x ≡ a + k) (more : k < n) (inv : Every p (range a n) k) where
-  here : get_or (range a n) k 0 ≡ x
-  here = get_d_range a n 0 k more ∙ sym at
-
-  pub range_yes : p x ≡ true → Every p (range a n) (k + 1)
-  range_yes e = every_yes p 0 (range a n) k (rw length-range more) inv (ap p here ∙ e)
-
-  pub range_no : p x ≡ false → false ≡ every p (range a n)
-  range_no e = every_no p 0 (range a n) k (rw length-range more) inv (ap p here ∙ e)
-
-pub range-end : (p : ℕ → Bool) (a n k : ℕ) → n ≤ k → Every p (range a n) k → true ≡ every p (range a n)
-range-end p a n k h inv = every-end p (range a n) k (rw length-range h) inv
 
 -- ---- where x stands
 

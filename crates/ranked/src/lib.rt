@@ -18,8 +18,9 @@ pub const STARTS: usize = MAX_RANK + 2;
 // A solid can have at most this many elements, the least and the top among them.
 pub const ELEMENTS: usize = MAX_PROPER + 2;
 
-// This says how the words are laid out. An element is known by its rank r and its number e in it, or by its number over all ranks, first[r] + e. Word
-// 4 * g is where the list of g's subs starts, the next word its length; the two words after them say the same of its sups.
+// This says how the words are laid out. An element is known by its rank r and its number e in it, or by its number over all ranks, first[r] + e. The rank
+// and the number are two parameters everywhere, as in the definitions, since most callers go over the numbers of one rank. Word 4 * g is where the list
+// of g's subs starts, the next word its length; the two words after them say the same of its sups.
 #[derive(Clone, Copy)]
 pub struct Shape {
     pub rank: usize,
@@ -35,16 +36,11 @@ fn rank_size(rank: usize, counts: [usize; PROPER_RANKS], r: usize) -> usize
     requires { rank ≤ max_rank }
     ensures { result ≡ size_in rank counts r }
 {
-    if r == 0 {
-        return 1;
-    }
-    if r < rank {
-        return counts[r - 1];
-    }
-    1
+    if 0 < r && r < rank { counts[r - 1] } else { 1 }
 }
 
-// Returns where the ranks of a solid of rank R start, by the counts of ranks 1 to R - 1.
+// Returns where the ranks of a solid of rank R start, by the counts of ranks 1 to R - 1. This is a running sum, and each turn of the loop reads the cell
+// before the one that it writes. An iterator over the cells would need a sum beside it, and two lines more.
 fn starts_of(rank: usize, counts: [usize; PROPER_RANKS]) -> [usize; STARTS]
     requires rank_le_max_rank { rank ≤ max_rank }
     requires counts_fit { CountsFit rank counts }
@@ -64,11 +60,10 @@ impl Shape {
         requires counts_fit { CountsFit rank counts }
         ensures { ShapeCounted rank dimension counts entries result }
     {
-        let first = starts_of(rank, counts);
         let ranks = Shape {
             rank,
             dimension,
-            first,
+            first: starts_of(rank, counts),
             low: 0,
         };
         ranks.sized(entries)
@@ -195,13 +190,7 @@ impl Shape {
         ensures { result ≡ sized_as self entries }
     {
         let low = self.sub_entries_at() + 2 * self.sub_entries(entries);
-        let first = self.first;
-        Shape {
-            rank: self.rank,
-            dimension: self.dimension,
-            first,
-            low,
-        }
+        Shape { low, ..self }
     }
 
     // Returns the word from which on the entries of the sups' lists stand, up to the end of the solid's words. They take as many words as the entries of

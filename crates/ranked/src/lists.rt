@@ -1,6 +1,7 @@
 // This module reads lists at offsets in lent words.
 ghost use Rattle.std.specs.Prelude.{◌≡◌, ◌+◌, ◌*◌, ◌^◌, ◌<◌, length, get_or, eqb};
-ghost use Rattle.spec.specs.Lists.{holds, place};
+ghost use Rattle.std.specs.List.{position};
+ghost use Rattle.spec.specs.Lists.{holds};
 ghost use Rattle.ranked.specs.Words.{list_at, list_word};
 ghost use Rattle.ranked.specs.Reading.{Lies};
 
@@ -20,23 +21,6 @@ pub fn entries_at(lists: &[u32], i: usize) -> &[u32]
     let start = get(lists, i);
     let n = get(lists, i + 1);
     &lists[start..start + n]
-}
-
-// Counts the entries of the list at word i.
-pub fn count_at(lists: &[u32], i: usize) -> usize
-    requires { Lies lists.now i }
-    ensures { result ≡ length (list_at lists.now i) }
-{
-    entries_at(lists, i).len()
-}
-
-// Returns entry k of the list at word i.
-pub fn entry_at(lists: &[u32], i: usize, k: usize) -> usize
-    requires lies { Lies lists.now i }
-    requires k_in_bounds { k < length (list_at lists.now i) }
-    ensures { result ≡ get_or (list_at lists.now i) k 0 }
-{
-    entries_at(lists, i)[k] as usize
 }
 
 // Returns the word that says where the list of the subs of the element with number g over all ranks starts. The next word is its length.
@@ -63,14 +47,11 @@ pub fn list_word(base: usize, e: usize) -> usize
     base + 4 * e
 }
 
-// Counts the entries that stand before x, which are all of them where x is absent.
-pub fn place(entries: &[u32], x: usize) -> usize
-    ensures { result ≡ place eqb x entries.now }
+// Returns where x first stands in a list, if the list holds it.
+pub fn place(entries: &[u32], x: usize) -> Option<usize>
+    ensures { result ≡ position (λ y. eqb y x) entries.now }
 {
-    entries
-        .iter()
-        .position(|&y| y as usize == x)
-        .unwrap_or(entries.len())
+    entries.iter().position(|&y| y as usize == x)
 }
 
 // Tells whether a list holds x. The library's `contains` takes a third longer than a loop where a list has a few entries, and a fifth of the time where
@@ -82,12 +63,4 @@ pub fn holds(entries: &[u32], x: usize) -> bool
         return false;
     };
     entries.contains(&entry)
-}
-
-// Tells whether the list at word i holds x.
-pub fn holds_at(lists: &[u32], i: usize, x: usize) -> bool
-    requires { Lies lists.now i }
-    ensures { result ≡ holds eqb x (list_at lists.now i) }
-{
-    holds(entries_at(lists, i), x)
 }

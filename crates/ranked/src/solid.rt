@@ -1,6 +1,7 @@
 // This module has a solid as it lies in lent words: its lists, together with the shape that says where they are.
-ghost use Rattle.std.specs.Prelude.{◌≡◌, ◌≤◌, ◌<◌};
+ghost use Rattle.std.specs.Prelude.{◌≡◌, ◌≤◌, ◌<◌, length};
 ghost use Rattle.ranked.specs.Words.{Held, size_at};
+ghost use Rattle.ranked.specs.Layout.{coordinates};
 ghost use Rattle.std.proofs.Props.{props};
 ghost use Rattle.ranked.specs.Once.{rising-prop};
 
@@ -13,6 +14,14 @@ pub struct Solid<'a> {
     pub lists: &'a [u32],
     pub shape: Shape,
     pub ghost held: { Held shape lists.now } by { Prim.hlevel (props, rising-prop) },
+}
+
+// A realization of a solid is the solid with its vertices' coordinates, which stand first in lent floats.
+#[derive(Clone, Copy)]
+pub struct Realized<'a> {
+    pub solid: Solid<'a>,
+    pub floats: &'a [f64],
+    pub ghost room: { coordinates solid.shape ≤ length floats.now },
 }
 
 impl<'a> Solid<'a> {

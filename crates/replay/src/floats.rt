@@ -12,10 +12,10 @@ fn read_matrix(from: i32, d: usize) -> [[f64; DIMENSION]; DIMENSION]
     requires { d ≤ max_dimension }
 {
     let mut m = [[0.0; DIMENSION]; DIMENSION];
-    for i in 0..d {
+    for cells in m[..d].iter_mut() {
         let mut row = [0.0; DIMENSION];
         reading::floats(from, &mut row[..d]);
-        m[i] = row;
+        *cells = row;
     }
     m
 }
@@ -30,8 +30,8 @@ fn write_matrix(run: Run, m: [[f64; DIMENSION]; DIMENSION], d: usize) -> Result<
     requires { d ≤ max_dimension }
 {
     let mut after = run;
-    for i in 0..d {
-        after = write_row(after, m[i], d)?;
+    for row in &m[..d] {
+        after = write_row(after, *row, d)?;
     }
     Ok(after)
 }

@@ -15,7 +15,7 @@ use spec::Answer;
 use std::fs::File;
 use std::os::fd::AsRawFd;
 use std::rt::{Env, Files};
-use wire::{End, Run};
+use wire::{End, Run, Target};
 
 // A file has fewer records than this.
 const RECORDS: usize = 100_000;
@@ -60,7 +60,7 @@ fn replay_one(word: &[u8], run: Run) -> Result<Run, End> {
 }
 
 // Answers each record in turn. A file that has too many records fails.
-fn replay(word: &[u8], from: i32, to: i32) -> End {
+fn replay(word: &[u8], from: i32, to: Target) -> End {
     let mut run = wire::start(from, to);
     for _ in 0..RECORDS {
         match replay_one(word, run) {
@@ -71,7 +71,8 @@ fn replay(word: &[u8], from: i32, to: i32) -> End {
     run.failed()
 }
 
-// Returns the descriptor of the file. Where it could not be opened this is -1, from which nothing is read.
+// Returns the descriptor of the file. Where it could not be opened this is -1, from which crate `io` reads nothing, so that a file that is missing is
+// replayed as an empty one. An Option would be matched only to leave the reading out.
 fn descriptor(file: &std::io::Result<File>) -> i32 {
     match file {
         Ok(open) => open.as_raw_fd(),
@@ -83,7 +84,7 @@ fn descriptor(file: &std::io::Result<File>) -> i32 {
 fn hold(rt: &impl Files<File = File>, word: &[u8], calls: &str, answers: &str) -> bool {
     let from = File::open(rt, calls);
     let to = File::open(rt, answers);
-    let end = replay(word, descriptor(&from), descriptor(&to));
+    let end = replay(word, descriptor(&from), Target::Stored(descriptor(&to)));
     io::write_all(1, word);
     io::write_all(1, b" ");
     match end {
@@ -113,7 +114,7 @@ fn main(rt: HostRuntime) {
         hold_all(&rt);
         return;
     }
-    if let End::Failed(_) = replay(&word[..n], 0, 1) {
+    if let End::Failed(_) = replay(&word[..n], 0, Target::StandardOutput) {
         io::write_all(
             2,
             b"replay: no such kind of records, or a record that is not whole\n",

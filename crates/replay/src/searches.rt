@@ -110,8 +110,8 @@ fn write_output<T: Entry>(run: Run, line: usize, output: &[T]) -> Result<Run, En
     requires { 0 < line }
 {
     let mut after = run;
-    for i in 0..output.len() {
-        after = write_gap(output[i].write(after)?, (i + 1) % line == 0)?;
+    for (i, entry) in output.iter().enumerate() {
+        after = write_gap(entry.write(after)?, (i + 1) % line == 0)?;
     }
     Ok(after)
 }

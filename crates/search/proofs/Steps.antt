@@ -36,7 +36,7 @@ use Rattle.preflight.specs.Preflight.{Preflighted}
 use Rattle.preflight.proofs.Laws.{refused_by, passed_by}
 use Rattle.preflight.proofs.Benches.{bench_kept}
 use Rattle.element_types.specs.State.{state_in}
-use Rattle.element_types.specs.Typed.{Typed}
+use Rattle.element_types.specs.Typed.{TypesMade}
 use Rattle.marks.specs.Rows.{ClassesIn}
 use Rattle.symmetry.proofs.exchange.Exchanged.{bench_exchanged, solid-exchanged}
 use Rattle.symmetry.specs.declared.listing.Full.{Full}
@@ -157,7 +157,7 @@ module _ (sh : Shape) (ws : List ℕ) (fs : List Float) (h : 2 ≤ sh.rank) (r :
 
 -- ---- 15, of the solid as searched
 
-module _ (sh : Shape) (ws vs : List ℕ) (fs gs : List Float) (b : Judged ⊤) (t : Typed sh ws vs fs gs b) where
+module _ (sh : Shape) (ws vs : List ℕ) (fs gs : List Float) (b : Judged ⊤) (t : TypesMade sh ws vs fs gs b) where
   abbrev solid : Concrete
   solid = solid_in sh ws fs
 

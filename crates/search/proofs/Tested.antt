@@ -1,13 +1,13 @@
 -- The tests of 8, 10 and 11 stand beside the definitions.
 -- Assumes nothing.
 use Rattle.std.specs.Prelude.{None, Option, Some}
-use mathlib.Core.Path.{◌≡◌, sym, ap, ◌∙◌}
+use Rattle.std.specs.Option.{MatchOption}
+use mathlib.Core.Path.{◌≡◌, refl, sym, ap, ◌∙◌}
 use mathlib.Core.Logic.{inl, inr}
-use Prim.Native.Nat.{ℕ, suc, ◌+◌, ◌-◌, ◌≤◌, ◌<◌}
+use Prim.Native.Nat.{ℕ, zero, suc, ◌-◌, ◌≤◌, ◌<◌}
 use mathlib.Core.Bool.{Bool, true, false, ◌&&◌}
 use Rattle.laws.proofs.Options.{none-ne-some, some-injective}
 use mathlib.Core.List.{List, [], ◌∷◌}
-use native.Mathlib.Numerals.{add-one}
 use native.Mathlib.Omega.{arith}
 use lib.ListN.{length, get_or, take, drop, drop_of_length-le}
 use lib.Seq.{drop-cons}
@@ -22,7 +22,9 @@ use Rattle.spec.specs.Search.{first_far, full}
 use Rattle.laws.proofs.Lists.{length-range, get_d_range, of_range}
 use Rattle.ranked.specs.declared.Shape.{Shape}
 use Rattle.ranked.specs.Words.{size_at, lists_of, abs_in}
-use Rattle.ranked.specs.Layout.{coordinates, solid_on, solid_in}
+use Rattle.ranked.specs.declared.solid.Realized.{Realized}
+use Rattle.ranked.specs.Layout.{coordinates, solid_in}
+use Rattle.ranked.specs.Lying.{concrete_of}
 use Rattle.ranked.proofs.Solids.{top_is, size_is}
 
 -- ---- the solid in words and floats
@@ -44,7 +46,7 @@ facets_are sh w h = rw (top_is sh w) (size_is sh w (sh.rank - 1) (omega arith))
 -- ---- 10
 
 module _ (c : Concrete) where
-  abbrev far : ℕ → Bool
+  abbrev pub far : ℕ → Bool
   far f = lt eps (distance_of c (top c.abs - 1) f)
 
   far_here : (f : ℕ) (fs : List ℕ) → far f ≡ true → first_far c (f ∷ fs) ≡ Some f
@@ -56,7 +58,7 @@ module _ (c : Concrete) where
   far_past f fs e = rw (e, first_far)
 
   -- After k facets, those left give what all give.
-  abbrev pub FarKept : ℕ → ℕ → Type 0
+  abbrev FarKept : ℕ → ℕ → Type 0
   FarKept n k = first_far c (drop k (range 0 n)) ≡ first_far c (range 0 n)
 
   module _ (n k : ℕ) (h : k < n) (inv : FarKept n k) where
@@ -65,17 +67,28 @@ module _ (c : Concrete) where
         let at : get_or (range 0 n) k 0 ≡ k = get_d_range 0 n 0 k h ∙ omega arith in
         rw at at (drop-cons (range 0 n) k 0 (rw length-range h))
 
-    pub far-found : far k ≡ true → Some k ≡ first_far c (range 0 n)
+    far-found : far k ≡ true → Some k ≡ first_far c (range 0 n)
     unfolding next
     far-found e = sym (ap (first_far c) next ∙ far_here k (drop (suc k) (range 0 n)) e) ∙ inv
 
-    pub far-next : far k ≡ false → FarKept n (k + 1)
+    far-next : far k ≡ false → FarKept n (suc k)
     unfolding next
-    far-next e = rw add-one (sym (ap (first_far c) next ∙ far_past k (drop (suc k) (range 0 n)) e) ∙ inv)
+    far-next e = sym (ap (first_far c) next ∙ far_past k (drop (suc k) (range 0 n)) e) ∙ inv
 
-  pub far-end : (n k : ℕ) → n ≤ k → FarKept n k → None ≡ first_far c (range 0 n)
+  far-end : (n k : ℕ) → n ≤ k → FarKept n k → None ≡ first_far c (range 0 n)
   unfolding first_far
   far-end n k h inv = let l : length (range 0 n) ≤ k = omega (arith, length-range 0 n) in rw (drop_of_length-le (range 0 n) {i = k} l) at inv
+
+  far-kept : (n k : ℕ) → k ≤ n → ((j : ℕ) → 0 ≤ j → j < k → far j ≡ false) → FarKept n k
+  far-kept n zero h p = refl
+  far-kept n (suc k) h p = far-next n k (omega arith) (far-kept n k (omega arith) (λ j l m. p j l (omega arith))) (p k (omega arith) (omega arith))
+
+  -- What the library finds is the first facet that is far.
+  pub far-first : (n : ℕ) (r : Option ℕ)
+      → MatchOption r ((k : ℕ) → 0 ≤ k → k < n → far k ≡ false) (λ i. (0 ≤ i) × (i < n) × (far i ≡ true) × ((k : ℕ) → 0 ≤ k → k < i → far k ≡ false))
+      → r ≡ first_far c (range 0 n)
+  far-first n None p = far-end n n (omega arith) (far-kept n n (omega arith) p)
+  far-first n (Some i) (z, m, t, p) = far-found n i m (far-kept n i (omega arith) p) t
 
   -- The facet that is found is one of those asked for.
   far_in : (fs : List ℕ) (f : ℕ) → first_far c fs ≡ Some f → In f fs
@@ -91,6 +104,5 @@ module _ (c : Concrete) where
   far-low n f e = omega (arith, (of_range 0 n f (far_in (range 0 n) f e)).1)
 
 -- The test is as the program makes it.
-pub test_is : (sh : Shape) (w : List ℕ) (fl : List Float) (f : ℕ) (x : Float) (b : Bool)
-    → x ≡ distance_of (solid_on sh w fl) (sh.rank - 1) f → lt eps x ≡ b → lt eps (distance_of (solid_on sh w fl) (top (abs_in sh w) - 1) f) ≡ b
-test_is sh w fl f x b e t = rw (top_is sh w, ← e) t
+pub test_is : (s : Realized) (f : ℕ) (x : Float) (b : Bool) → x ≡ distance_of (concrete_of s) (s.solid.shape.rank - 1) f → lt eps x ≡ b → far (concrete_of s) f ≡ b
+test_is s f x b e t = rw (top_is s.solid.shape s.solid.lists.now, ← e) t

@@ -1,5 +1,7 @@
 // There is one function for each judgement, and each goes on to the next: "a search call .. with 8, 9, 10, 15, 11, then 12 or 13". What the words
-// and floats hold afterwards is free, and they keep their lengths.
+// and floats hold afterwards is free, and they keep their lengths. The three outputs are parameters of each: a struct of them was tried, behind a
+// reference and by value, but the rows are read while the marks are written, and the checker lends no field while another is lent. So are the words, the shape and the floats, since a
+// struct of them behind a reference would have to promise at each step that it holds the same two buffers and the same shape.
 ghost use Rattle.std.specs.Prelude.{◌≡◌, ◌-◌, ◌≤◌, ◌<◌, length};
 ghost use Rattle.spec.specs.Search.{setting};
 ghost use Rattle.ranked.specs.Words.{size_at, lists_of};
@@ -16,12 +18,14 @@ ghost use Rattle.search.specs.Reading.{call_of, GivesRead, GivesSearched};
 use crate::judging::{first_far, first_inverse, is_full};
 use crate::marking::mark_members;
 use element_types::settling::types_of;
+use points::Points;
 use preflight::preflight;
 use ranked::Shape;
+use ranked::solid::Realized;
 use spec::{Answer, Refusal, Refused};
-use symmetry::candidates::{all_finite, no_double};
+use symmetry::candidates::{Thin, all_finite, no_double};
 use symmetry::exchange::exchange;
-use symmetry::listing::{Full, list_members};
+use symmetry::listing::{Full, Prepared};
 use symmetry::vertex_sets::fingerprints::write_fingerprints;
 
 // Returns the answer once the members are listed: refusal 13 where they are too many for the outputs, 12 where there is none, and otherwise their
@@ -59,13 +63,21 @@ fn from11(
     ensures { GivesSearched rotations (λ c d. from11 c d (state_in sh words.old)) f
         (solid_in sh words.old floats.old) result matrices rows marks }
 {
-    let inverse = first_inverse(sh.lists(words), sh, floats).ok_or(Refusal::Flat)?;
+    let realized = Realized {
+        solid: sh.solid(words),
+        floats,
+    };
+    let inverse = first_inverse(&Thin { realized }).ok_or(Refusal::Flat)?;
     if !all_finite(inverse, sh.dimension) {
         return Err(Refusal::Flat.into());
     }
     write_fingerprints(words, sh);
-    let room = marks.len();
-    let listed = list_members(words, sh, floats, inverse, rotations, room, matrices, rows);
+    let prepared = Prepared {
+        words,
+        shape: sh,
+        floats,
+    };
+    let listed = prepared.list_members(inverse, rotations, marks.len(), matrices, rows);
     let n = listed.unwrap_or_else(|Full(n)| n);
     mark_members(words, sh, f, floats, rows, n, marks);
     answer_of(listed)
@@ -106,7 +118,11 @@ fn from10(
     requires parted { Parted (solid_in sh words.old floats.old) }
     ensures { GivesRead rotations from10 (solid_in sh words.old floats.old) result matrices rows marks }
 {
-    let f = first_far(sh.lists(words), sh, floats).ok_or(Refusal::Centred)?;
+    let realized = Realized {
+        solid: sh.solid(words),
+        floats,
+    };
+    let f = first_far(&realized).ok_or(Refusal::Centred)?;
     exchange(words, sh, f);
     from15(words, sh, f, floats, rotations, matrices, rows, marks)
 }
@@ -126,7 +142,12 @@ fn from9(
     requires le_dimension { 1 ≤ sh.dimension }
     ensures { GivesRead rotations from9 (solid_in sh words.old floats.old) result matrices rows marks }
 {
-    if !no_double(floats, sh.dimension, sh.vertices()) {
+    let points = Points {
+        floats,
+        dimension: sh.dimension,
+        count: sh.vertices(),
+    };
+    if !no_double(&points) {
         return Err(Refusal::DoubleCorner.into());
     }
     from10(words, sh, floats, rotations, matrices, rows, marks)

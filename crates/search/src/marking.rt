@@ -8,10 +8,10 @@ ghost use Rattle.marks.specs.Marking.{marks_in};
 ghost use Rattle.search.specs.Marking.{MarksReady};
 
 use geometry::elements::all_classes;
-use marks::products::mark_rows;
+use marks::Markable;
 use ranked::Shape;
 use symmetry::exchange::exchange;
-use symmetry::vertex_sets::apart::are_apart;
+use symmetry::vertex_sets::VertexSets;
 use symmetry::vertex_sets::fingerprints::write_fingerprints;
 
 // Lets facet f and facet 0, which changed places for the search, go back, and works out the distance classes and the fingerprints of the solid as
@@ -26,7 +26,7 @@ fn restore(words: &mut [u32], sh: Shape, f: usize, floats: &mut [f64])
         return;
     }
     exchange(words, sh, f);
-    all_classes(sh.lists(words), sh, floats);
+    all_classes(&sh.solid(words), floats);
     write_fingerprints(words, sh);
 }
 
@@ -37,8 +37,12 @@ fn write_marks(words: &[u32], sh: Shape, floats: &[f64], rows: &[u16], marks: &m
     ensures { marks.new
         ≡ marks_in (solid_in sh words.now floats.now) (parts (length marks.old) (size_at sh 1) rows.now) }
 {
-    let apart = are_apart(words, sh);
-    mark_rows(sh.lists(words), sh, floats, apart, rows, marks);
+    let markable = Markable {
+        solid: sh.solid(words),
+        floats,
+        apart: VertexSets::of(words, sh).are_apart(),
+    };
+    markable.mark_rows(rows, marks);
 }
 
 // Writes the marks of the n members that are listed. The words and floats hold the solid that was searched, in which facet f of the solid as read

@@ -90,6 +90,7 @@ impl Cursor<'_> {
         requires { (self.old.at + 12 * n + 7 < 2 ^ 64) × (n ≤ proper) }
         ensures { Reads (kept counts_read (form.times n (form.count self.old.sheet.now))) self.old self.new result }
     {
+        // The counts go by the number of the rank, and those behind the n that are read stay 0.
         let mut counts = [0usize; PROPER_RANKS];
         let mut elements: usize = 0;
         for k in 0..n {
@@ -166,6 +167,7 @@ impl Cursor<'_> {
         requires { (self.old.at < 2 ^ 30) × (length counts.now ≤ proper) × ((k : ℕ) → get_or counts.now k 0 ≤ max_count) }
         ensures { Reads (kept all_entries (form.lists self.old.sheet.now counts.now)) self.old self.new result }
     {
+        // Of each pair from `windows(2)` the two counts would be read by index again.
         let mut entries: usize = 0;
         for k in 1..counts.len() {
             entries += self.rank_lists(counts[k - 1], counts[k])?;

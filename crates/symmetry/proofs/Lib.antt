@@ -1,4 +1,4 @@
-pub mod Rows
+pub mod Apart
 pub mod Tails
 pub mod Running
 pub mod Going

@@ -1,6 +1,6 @@
 -- A candidate's test goes by the row that is found and the examples that go under it.
 -- Assumes nothing.
-use mathlib.Core.Path.{◌≡◌, sym, ap, ap₂, ◌∙◌}
+use mathlib.Core.Path.{◌≡◌, sym, ap, ap₂, subst, ◌∙◌}
 use mathlib.Core.Bool.{Bool, true, false, ◌&&◌}
 use mathlib.Core.List.{List}
 use Prim.Native.Nat.{ℕ}
@@ -13,37 +13,61 @@ use Rattle.spec.specs.Matrix.{Matrix, Vector}
 use Rattle.spec.specs.Points.{row_of}
 use Rattle.spec.specs.Search.{examples_go}
 use Rattle.ranked.specs.declared.Shape.{Shape}
-use Rattle.ranked.specs.Words.{size_at, lists_of, abs_in}
-use Rattle.ranked.specs.Layout.{solid_in}
+use Rattle.ranked.specs.Words.{size_at}
+use Rattle.ranked.specs.Layout.{abstract_in}
+use Rattle.matrix.specs.Reading.{corner}
+use Rattle.points.specs.Listed.{listed}
+use Rattle.element_types.specs.State.{state_in}
 use Rattle.points.specs.Cells.{Tabled}
 use Rattle.points.proofs.Parts.{length-parts}
 use Rattle.points.proofs.Filled.{all_found, row_read}
-use Rattle.symmetry.specs.Searching.{Searching, passing}
+use Rattle.symmetry.specs.declared.listing.Search.{Search}
+use Rattle.symmetry.specs.Searching.{passing}
+use Rattle.symmetry.specs.Tried.{searched_in}
 use Rattle.symmetry.proofs.Bounds.{vertices_are, points-many, points-read}
 
-module _ {sh : Shape} {ws : List ℕ} {fs : List Float} (h : Searching sh ws fs) (z : State) (m : Matrix) (v : ℕ) (many : v ≡ size_at sh 1)
-    (before cells : List ℕ) (r : Bool) (row : Tabled v (row_of (parts v sh.dimension fs) m) before cells r) where
+module _ (x : Search) (m : List (List Float)) where
+  abbrev sh : Shape
+  sh = x.shape
+
+  abbrev fs : List Float
+  fs = x.lookup.points.floats.now
+
+  abbrev v : ℕ
+  v = x.lookup.points.count
+
+  abbrev M : Matrix
+  M = corner sh.dimension m
+
   abbrev s : Solid
-  s = abs_in sh (lists_of sh ws)
+  s = abstract_in sh x.words.now
+
+  abbrev z : State
+  z = state_in sh x.words.now
 
   abbrev found : List ℕ
-  found = row_of (solid_in sh ws fs).points m
+  found = row_of (searched_in x).points M
 
-  same_row : row_of (parts v sh.dimension fs) m ≡ found
-  same_row = ap (λ (ps : List Vector). row_of ps m) (sym (points-read sh ws fs v many))
+  same_row : row_of (parts v sh.dimension fs) M ≡ found
+  same_row = ap (λ (ps : List Vector). row_of ps M) (sym (points-read sh x.words.now fs v x.many))
 
-  passed : r ≡ every (λ u. ltb u (length (solid_in sh ws fs).points)) found
-  passed =
-      all_found (parts v sh.dimension fs) m v (length-parts v sh.dimension fs) before cells r row
-      ∙ ap₂ (λ (n : ℕ) (l : List ℕ). every (λ u. ltb u n) l) (many ∙ sym (points-many sh ws fs)) same_row
+  module _ (before cells : List ℕ) (r : Bool) (row : Tabled v (row_of (listed x.lookup.points) (corner x.lookup.points.dimension m)) before cells r) where
+    table : Tabled v (row_of (parts v sh.dimension fs) M) before cells r
+    table = subst (λ n. Tabled v (row_of (parts v n fs) (corner n m)) before cells r) x.axes row
 
-  pub row_is : r ≡ true → take (size_at sh 1) cells ≡ found
-  row_is e = ap (λ n. take n cells) (sym many) ∙ row_read (parts v sh.dimension fs) m v (length-parts v sh.dimension fs) (rw e at row) ∙ same_row
+    passed : r ≡ every (λ u. ltb u (length (searched_in x).points)) found
+    passed =
+        all_found (parts v sh.dimension fs) M v (length-parts v sh.dimension fs) before cells r table
+        ∙ ap₂ (λ (n : ℕ) (l : List ℕ). every (λ u. ltb u n) l) (x.many ∙ sym (points-many sh x.words.now fs)) same_row
 
-  pub passes_not : r ≡ false → false ≡ passing (solid_in sh ws fs) z m
-  unfolding passing
-  passes_not e = ap (λ b. b && examples_go s z found) (sym e ∙ passed)
+    pub row_is : r ≡ true → take (size_at sh 1) cells ≡ found
+    row_is e = ap (λ n. take n cells) (sym x.many) ∙ row_read (parts v sh.dimension fs) M v (length-parts v sh.dimension fs) (rw e at table) ∙ same_row
 
-  pub passes_is : r ≡ true → (b : Bool) → b ≡ examples_go s z (take (size s 1) cells) → b ≡ passing (solid_in sh ws fs) z m
-  unfolding passing
-  passes_is e b q = q ∙ ap (examples_go s z) (ap (λ n. take n cells) (vertices_are h) ∙ row_is e) ∙ ap (λ t. t && examples_go s z found) (sym e ∙ passed)
+    pub passes_not : r ≡ false → r ≡ passing (searched_in x) z M
+    unfolding passing
+    passes_not e = e ∙ ap (λ b. b && examples_go s z found) (sym e ∙ passed)
+
+    pub passes_is : r ≡ true → (b : Bool) → b ≡ examples_go s z (take (size s 1) cells) → b ≡ passing (searched_in x) z M
+    unfolding passing
+    passes_is e b q =
+        q ∙ ap (examples_go s z) (ap (λ n. take n cells) (vertices_are x.searching) ∙ row_is e) ∙ ap (λ t. t && examples_go s z found) (sym e ∙ passed)

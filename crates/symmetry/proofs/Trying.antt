@@ -15,21 +15,27 @@ use Rattle.spec.specs.Types.{State}
 use Rattle.spec.specs.Float.{zero_f}
 use Rattle.spec.specs.Matrix.{Matrix, mul_mat, determinant}
 use Rattle.spec.specs.Solid.{Concrete}
-use Rattle.spec.specs.Flags.{Flag, IsFlag, first_flag}
+use Rattle.spec.specs.Flags.{Flag, IsFlag}
 use Rattle.spec.specs.Classes.{class_table, by_table}
 use Rattle.spec.specs.Points.{row_of}
-use Rattle.spec.specs.Search.{Member, flag_columns, candidate, same_types, mark_of, tested, is_rotation}
+use Rattle.spec.specs.Search.{Member, Setting, flag_columns, candidate, same_types, mark_of, tested, is_rotation}
 use Rattle.laws.proofs.Lists.{length_table}
 use Rattle.laws.proofs.Marked.{both}
 use Rattle.laws.proofs.FlagList.{every_first}
 use Rattle.ranked.specs.declared.Shape.{Shape}
 use Rattle.ranked.specs.Words.{size_at, lists_of, subs_in, abs_in}
+use Rattle.ranked.specs.Layout.{abstract_in}
+use Rattle.matrix.specs.Reading.{corner}
+use Rattle.element_types.specs.State.{state_in}
+use Rattle.flag.specs.Reading.{flag_in}
 use Rattle.symmetry.specs.Post.{types_agree}
 use Rattle.symmetry.specs.declared.listing.Tried.{Tried}
 use Rattle.symmetry.specs.declared.listing.Tried.TheVariants.{Skipped, Added, Short}
 use Rattle.symmetry.specs.Tails.{setting_of}
 use Rattle.symmetry.specs.Listing.{listed_if, gives, tried, fits, Came}
-use Rattle.symmetry.specs.Searching.{Searching, passing}
+use Rattle.symmetry.specs.declared.listing.Search.{Search}
+use Rattle.symmetry.specs.Searching.{passing, setting_in}
+use Rattle.symmetry.specs.Tried.{searched_in, CandidateTried}
 
 module _ (d v k : ℕ) (o : Option Member) (ms : List Float) (rs : List ℕ) where
   came_none : o ≡ None → Came d v k o Skipped ms ms rs rs
@@ -55,7 +61,25 @@ fits_means d v floats entries k e =
 
 -- ---- a candidate m
 
-module _ (D : Concrete) (z : State) (m : Matrix) (rot : Bool) (d v k : ℕ) (ms : List Float) (rs : List ℕ) (c : Concrete) (i : Matrix) where
+module _ (x : Search) (cells : List (List Float)) (k : ℕ) (ms : List Float) (rs : List ℕ) (c : Concrete) (i : Matrix) where
+  abbrev D : Concrete
+  D = searched_in x
+
+  abbrev z : State
+  z = state_in x.shape x.words.now
+
+  abbrev m : Matrix
+  m = corner x.shape.dimension cells
+
+  abbrev rot : Bool
+  rot = x.rotations
+
+  abbrev d : ℕ
+  d = x.shape.dimension
+
+  abbrev v : ℕ
+  v = size_at x.shape 1
+
   abbrev member : Member
   member = record { matrix = m; row = row_of D.points m; mark = mark_of c.abs (by_table (class_table c)) (row_of D.points m) }
 
@@ -100,35 +124,45 @@ module _ (D : Concrete) (z : State) (m : Matrix) (rot : Bool) (d v k : ℕ) (ms 
 
 -- ---- a flag F, where G is the first
 
--- The first flag is a flag.
-pub first_is : {sh : Shape} {ws : List ℕ} {fs : List Float} → Searching sh ws fs → {G : Flag} → G ≡ first_flag (abs_in sh (lists_of sh ws)) → IsFlag (abs_in sh (lists_of sh ws)) G
-first_is {sh} {ws} h e =
-    let s = abs_in sh (lists_of sh ws) in
-    subst (IsFlag s) (sym e) (every_first s h.bench.held.sound h.bench.held.filled).0
-
 -- The solid has a list for each rank.
-pub ranks_are : (sh : Shape) (w : List ℕ) → length (abs_in sh w) ≡ suc sh.rank
+ranks_are : (sh : Shape) (w : List ℕ) → length (abs_in sh w) ≡ suc sh.rank
 unfolding abs_in
 ranks_are sh w = length_table (λ r. map (subs_in sh w r) (range 0 (size_at sh r))) (suc sh.rank)
 
-module _ (D : Concrete) (R : ℕ) (ranks : length D.abs ≡ suc R) (z : State) (F G : Flag) (first : G ≡ first_flag D.abs) (rot : Bool) (d v k : ℕ)
-    (ms : List Float) (rs : List ℕ) (c : Concrete) (i : Matrix) where
-  types_are : same_types (setting_of c D z i) F ≡ types_agree z R F G
-  unfolding same_types setting_of
-  types_are = rw (ranks, first) refl
+module _ (x : Search) where
+  abbrev first : Flag
+  first = flag_in x.shape.rank x.first
 
-  abbrev by : Matrix → Bool → Option Member
-  by m b = elim b [ true ↦ listed_if rot (tested (setting_of c D z i) m) | false ↦ None ]
+  -- The first flag is a flag.
+  pub first_is : IsFlag (abstract_in x.shape x.words.now) first
+  first_is =
+      let s = abstract_in x.shape x.words.now in let held = x.searching.bench.held in
+      subst (IsFlag s) (sym x.first_value) (every_first s held.sound held.filled).0
 
-  pub flag_not : false ≡ types_agree z R F G → Came d v k (gives (setting_of c D z i) rot F) Skipped ms ms rs rs
-  unfolding gives
-  flag_not e = came_none d v k _ ms rs (ap (by (candidate (setting_of c D z i) F)) (types_are ∙ sym e))
+  module _ (F : Flag) (k : ℕ) (ms : List Float) (rs : List ℕ) (c : Concrete) where
+    abbrev w : Setting
+    w = setting_in x.shape x.words.now x.lookup.points.floats.now x.inverse c
 
-  -- The flag goes as its candidate m does.
-  pub flag_is : true ≡ types_agree z R F G → (m : Matrix) → m ≡ mul_mat (flag_columns D F) i → (t : Tried) (ms' : List Float) (rs' : List ℕ)
-      → Came d v k (listed_if rot (tested (setting_of c D z i) m)) t ms ms' rs rs' → Came d v k (gives (setting_of c D z i) rot F) t ms ms' rs rs'
-  unfolding gives candidate setting_of
-  flag_is e m made t ms' rs' g = subst (λ o. Came d v k o t ms ms' rs rs') (sym came) g
-    where
-      came : gives (setting_of c D z i) rot F ≡ listed_if rot (tested (setting_of c D z i) m)
-      came = ap (by (candidate (setting_of c D z i) F)) (types_are ∙ sym e) ∙ ap (λ y. listed_if rot (tested (setting_of c D z i) y)) (sym made)
+    abbrev i : Matrix
+    i = corner x.shape.dimension x.inverse
+
+    types_are : same_types w F ≡ types_agree (state_in x.shape x.words.now) x.shape.rank F first
+    unfolding same_types setting_of
+    types_are = rw (ranks_are x.shape (lists_of x.shape x.words.now), x.first_value) refl
+
+    abbrev by : Matrix → Bool → Option Member
+    by m b = elim b [ true ↦ listed_if x.rotations (tested w m) | false ↦ None ]
+
+    pub flag_not : false ≡ types_agree (state_in x.shape x.words.now) x.shape.rank F first
+        → Came x.shape.dimension (size_at x.shape 1) k (gives w x.rotations F) Skipped ms ms rs rs
+    unfolding gives
+    flag_not e = came_none x.shape.dimension (size_at x.shape 1) k _ ms rs (ap (by (candidate w F)) (types_are ∙ sym e))
+
+    -- The flag goes as its candidate m does.
+    pub flag_is : true ≡ types_agree (state_in x.shape x.words.now) x.shape.rank F first → (m : List (List Float)) → corner x.shape.dimension m ≡ mul_mat (flag_columns (searched_in x) F) i
+        → (t : Tried) (ms' : List Float) (rs' : List ℕ) → CandidateTried x k m t ms ms' rs rs' → Came x.shape.dimension (size_at x.shape 1) k (gives w x.rotations F) t ms ms' rs rs'
+    unfolding gives candidate setting_of
+    flag_is e m made t ms' rs' g = subst (λ o. Came x.shape.dimension (size_at x.shape 1) k o t ms ms' rs rs') (sym came) (g c i)
+      where
+        came : gives w x.rotations F ≡ listed_if x.rotations (tested w (corner x.shape.dimension m))
+        came = ap (by (candidate w F)) (types_are ∙ sym e) ∙ ap (λ y. listed_if x.rotations (tested w y)) (sym made)

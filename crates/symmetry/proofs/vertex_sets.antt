@@ -5,4 +5,3 @@ pub mod Rows
 pub mod Images
 pub mod Firsts
 pub mod Carried
-pub mod Ranks

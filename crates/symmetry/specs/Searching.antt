@@ -7,21 +7,17 @@ use Rattle.spec.specs.Matrix.{Matrix}
 use Rattle.spec.specs.Points.{near, row_of}
 use Rattle.spec.specs.Solid.{Concrete}
 use Rattle.spec.specs.Flags.{flags}
-use Rattle.spec.specs.Search.{Setting, examples_go, tested}
+use Rattle.spec.specs.Search.{Setting, examples_go}
 use Rattle.spec.specs.Calls.{Room}
 use Rattle.matrix.specs.Reading.{corner}
 use Rattle.ranked.specs.declared.Shape.{Shape}
-use Rattle.ranked.specs.Words.{size_at}
 use Rattle.preflight.specs.Bench.{Bench}
 use Rattle.ranked.specs.Layout.{solid_in, abstract_in}
 use Rattle.element_types.specs.State.{state_in, Countable}
-use Rattle.flag.specs.Reading.{flag_in}
 use Rattle.symmetry.specs.Fingerprints.{Fingerprinted}
-use Rattle.symmetry.specs.declared.listing.Tried.{Tried}
-use Rattle.symmetry.specs.declared.listing.Trial.{Trial}
 use Rattle.symmetry.specs.declared.listing.Full.{Full}
 use Rattle.symmetry.specs.Tails.{setting_of}
-use Rattle.symmetry.specs.Listing.{listed_if, gives, Came, MembersListed}
+use Rattle.symmetry.specs.Listing.{MembersListed}
 
 -- Neither 8 nor 9 applies: there is an axis, and no vertex is near a later one.
 pub record Parted (d : Concrete) : Type 0 where
@@ -50,22 +46,8 @@ setting_in sh words floats inverse c = setting_of c (solid_in sh words floats) (
 abbrev pub room_for : List Float → List ℕ → ℕ → Room
 room_for ms rs marks = record { floats = length ms; entries = length rs; marks = marks }
 
--- Trying the candidate m came to t. In this and what follows, ms and rs are the outputs, or what was left of them, and ms' and rs' are what they are
--- now. The solid as read is of no account, and for a candidate neither is the inverse, so each promise is for all of them.
-abbrev pub CandidateTried : Trial → List ℕ → List Float → List (List Float) → Tried → List Float → List Float → List ℕ → List ℕ → Type 0
-CandidateTried x words floats m t ms ms' rs rs' =
-    let sh = x.shape in
-    (c : Concrete) (i : Matrix) → Came sh.dimension (size_at sh 1) x.left
-    (listed_if x.rotations (tested (setting_of c (solid_in sh words floats) (state_in sh words) i) (corner sh.dimension m))) t ms ms' rs rs'
-
--- Trying the flag of a trial came to t.
-abbrev pub FlagTried : Trial → List ℕ → List Float → Tried → List Float → List Float → List ℕ → List ℕ → Type 0
-FlagTried x words floats t ms ms' rs rs' =
-    let sh = x.shape in
-    (c : Concrete) → Came sh.dimension (size_at sh 1) x.left
-    (gives (setting_in sh words floats x.inverse c) x.rotations (flag_in sh.rank x.flag)) t ms ms' rs rs'
-
--- The members that the flags of the solid in the workspace give are listed, where there are so many marks.
+-- The members that the flags of the solid in the workspace give are listed, where there are so many marks. Here ms and rs are the outputs before, and
+-- ms' and rs' after. The solid as read is of no account, so the promise is for each.
 abbrev pub SolidListed : Shape → List ℕ → List Float → List (List Float) → Bool → ℕ → Result ℕ Full → List Float → List Float → List ℕ → List ℕ → Type 0
 SolidListed sh words floats inverse rotations marks r ms ms' rs rs' =
     (c : Concrete) → MembersListed (setting_in sh words floats inverse c) rotations (room_for ms rs marks) (flags (abstract_in sh words)) r ms ms' rs rs'

@@ -1,8 +1,8 @@
 // This module has, of section 6 of document 01, a flag's columns and its candidate, and the parts of the test that a candidate has to pass
 // (conc/symmetry.rs).
-ghost use Rattle.std.specs.Prelude.{◌≡◌, true, ◌*◌, ◌≤◌, length, take};
+ghost use Rattle.std.specs.Prelude.{◌≡◌, true, not, suc, ◌≤◌, ◌<◌, length, take, drop};
 ghost use Rattle.spec.specs.Limits.{max_dimension};
-ghost use Rattle.spec.specs.Lists.{every, parts, no_repeats};
+ghost use Rattle.spec.specs.Lists.{every, holds, no_repeats};
 ghost use Rattle.spec.specs.Float.{finite};
 ghost use Rattle.spec.specs.Matrix.{mul_mat};
 ghost use Rattle.spec.specs.Points.{near};
@@ -10,19 +10,20 @@ ghost use Rattle.spec.specs.Solid.{diamond};
 ghost use Rattle.spec.specs.Flags.{IsFlag};
 ghost use Rattle.spec.specs.Search.{flag_columns, all_finite};
 ghost use Rattle.matrix.specs.Reading.{corner};
+ghost use Rattle.points.specs.Listed.{listed, listed_at};
 ghost use Rattle.ranked.specs.Words.{lists_of, Held};
-ghost use Rattle.ranked.specs.Lying.{abs_of};
-ghost use Rattle.ranked.specs.Layout.{scratch_at, coordinates, solid_on, abstract_in};
+ghost use Rattle.ranked.specs.Lying.{abs_of, concrete_of};
+ghost use Rattle.ranked.specs.Layout.{scratch_at, abstract_in};
 ghost use Rattle.element_types.specs.State.{state_in};
 ghost use Rattle.flag.specs.Reading.{flag_in};
 ghost use Rattle.symmetry.specs.Post.{Turned, types_agree};
 
 use flag::Flag;
 use float::DIMENSION;
-use points::{find, loaded};
+use points::Points;
 use ranked::Shape;
 use ranked::lists::get;
-use ranked::solid::Solid;
+use ranked::solid::Realized;
 
 // Tells whether the first d entries are finite.
 fn row_finite(v: [f64; DIMENSION], d: usize) -> bool
@@ -40,22 +41,27 @@ pub fn all_finite(m: [[f64; DIMENSION]; DIMENSION], d: usize) -> bool
     m[..d].iter().all(|row| row_finite(*row, d))
 }
 
-// Tells whether no vertex is within EPS of a later one on every axis. Refusal 9 asks this of the vertices.
-pub fn no_double(points: &[f64], d: usize, n: usize) -> bool
-    requires { (d ≤ max_dimension) × (n * d ≤ length points.now) }
-    ensures { result ≡ no_repeats near (parts n d points.now) }
+// Tells whether no later point is within EPS of point i on every axis.
+fn is_single(points: &Points, i: usize) -> bool
+    requires { i < points.now.count }
+    ensures { result ≡ not (holds near (listed_at points.now i) (drop (suc i) (listed points.now))) }
 {
-    for i in 0..n {
-        let q = loaded(points, d, i);
-        let later = &points[(i + 1) * d..];
-        if find(later, d, n - (i + 1), q).is_some() {
-            return false;
-        }
-    }
-    true
+    let later = Points {
+        floats: &points.floats[(i + 1) * points.dimension..],
+        dimension: points.dimension,
+        count: points.count - (i + 1),
+    };
+    later.find(points.loaded(i)).is_none()
 }
 
-// Tells whether "its elements have the first flag's types".
+// Tells whether no vertex is within EPS of a later one on every axis. Refusal 9 asks this of the vertices.
+pub fn no_double(points: &Points) -> bool
+    ensures { result ≡ no_repeats near (listed points.now) }
+{
+    (0..points.count).all(|i| is_single(points, i))
+}
+
+// Tells whether "its elements have the first flag's types". What it asks of the words stands in this contract alone, so no struct says it.
 pub fn same_types(words: &[u32], sh: Shape, flag: Flag, first: Flag) -> bool
     requires held { Held sh (lists_of sh words.now) }
     requires sh_in_bounds { scratch_at sh ≤ length words.now }
@@ -63,62 +69,72 @@ pub fn same_types(words: &[u32], sh: Shape, flag: Flag, first: Flag) -> bool
     requires first_flag { IsFlag (abstract_in sh words.now) (flag_in sh.rank first) }
     ensures { result ≡ types_agree (state_in sh words.now) sh.rank (flag_in sh.rank flag) (flag_in sh.rank first) }
 {
-    for r in 0..sh.rank + 1 {
+    (0..sh.rank + 1).all(|r| {
         let types = sh.types(r);
-        if get(words, types + flag.elements[r]) != get(words, types + first.elements[r]) {
-            return false;
+        get(words, types + flag.elements[r]) == get(words, types + first.elements[r])
+    })
+}
+
+// This is a realized solid that is thin, as the field calls what refusal 6 asks, and that has vertices. So each flag of it can be changed at every rank
+// from 1 to R − 1.
+#[derive(Clone, Copy)]
+pub struct Thin<'a> {
+    pub realized: Realized<'a>,
+    pub ghost diamonds: { diamond (abs_of realized.solid) ≡ true },
+    pub ghost tall: { 1 ≤ realized.solid.shape.rank },
+}
+
+impl<'a> Thin<'a> {
+    // Returns the flag after one round: "change ranks 1 to R−1 in turn". Each change asks that what the one before gave is a flag, which a fold's closure
+    // would have to be asked for as well.
+    fn turned(&self, flag: Flag) -> Flag
+        requires { IsFlag (abs_of self.now.realized.solid) (flag_in self.now.realized.solid.shape.rank flag) }
+        ensures { Turned (abs_of self.now.realized.solid)
+            (flag_in self.now.realized.solid.shape.rank flag) (flag_in self.now.realized.solid.shape.rank result) }
+    {
+        let solid = &self.realized.solid;
+        let mut f = flag;
+        for r in 1..solid.rank() {
+            f = f.change(solid, r);
         }
+        f
     }
-    true
-}
 
-// Returns the flag after one round: "change ranks 1 to R−1 in turn".
-fn turned(solid: &Solid, flag: Flag) -> Flag
-    requires lists_value { diamond (abs_of solid.now) ≡ true }
-    requires flag { IsFlag (abs_of solid.now) (flag_in solid.now.shape.rank flag) }
-    requires le_rank { 1 ≤ solid.now.shape.rank }
-    ensures { Turned (abs_of solid.now) (flag_in solid.now.shape.rank flag) (flag_in solid.now.shape.rank result) }
-{
-    let mut f = flag;
-    for r in 1..solid.shape.rank {
-        f = f.change(solid, r);
+    // Returns "A flag's columns: its vertex; then, D−1 times, change ranks 1 to R−1 in turn and take the vertex." The rows are gone over by number, since
+    // the dimension may be 0 here, and a slice has no part from 1 to 0.
+    pub fn vertex_sequence(&self, flag: Flag) -> [[f64; DIMENSION]; DIMENSION]
+        requires { IsFlag (abs_of self.now.realized.solid) (flag_in self.now.realized.solid.shape.rank flag) }
+        ensures { corner self.now.realized.solid.shape.dimension result
+            ≡ flag_columns (concrete_of self.now.realized) (flag_in self.now.realized.solid.shape.rank flag) }
+    {
+        let d = self.realized.solid.shape.dimension;
+        let points = Points {
+            floats: self.realized.floats,
+            dimension: d,
+            count: self.realized.solid.shape.vertices(),
+        };
+        let mut rows = [[0.0; DIMENSION]; DIMENSION];
+        let mut f = flag;
+        rows[0] = points.loaded(f.elements[1]);
+        for i in 1..d {
+            f = self.turned(f);
+            rows[i] = points.loaded(f.elements[1]);
+        }
+        matrix::from_columns(rows, d)
     }
-    f
-}
 
-// Returns "A flag's columns: its vertex; then, D−1 times, change ranks 1 to R−1 in turn and take the vertex."
-pub fn vertex_sequence(solid: &Solid, floats: &[f64], flag: Flag) -> [[f64; DIMENSION]; DIMENSION]
-    requires lists_value { diamond (abs_of solid.now) ≡ true }
-    requires flag { IsFlag (abs_of solid.now) (flag_in solid.now.shape.rank flag) }
-    requires le_rank { 1 ≤ solid.now.shape.rank }
-    requires sh_in_bounds { coordinates solid.now.shape ≤ length floats.now }
-    ensures { corner solid.now.shape.dimension result ≡ flag_columns (solid_on solid.now.shape solid.now.lists.now floats.now) (flag_in solid.now.shape.rank flag) }
-{
-    let d = solid.shape.dimension;
-    let mut rows = [[0.0; DIMENSION]; DIMENSION];
-    let mut f = flag;
-    rows[0] = loaded(floats, d, f.elements[1]);
-    for i in 1..d {
-        f = turned(solid, f);
-        rows[i] = loaded(floats, d, f.elements[1]);
+    // The candidate is "columns times the inverse of the first flag's".
+    pub fn candidate(
+        &self,
+        flag: Flag,
+        inv: [[f64; DIMENSION]; DIMENSION],
+    ) -> [[f64; DIMENSION]; DIMENSION]
+        requires { IsFlag (abs_of self.now.realized.solid) (flag_in self.now.realized.solid.shape.rank flag) }
+        ensures { corner self.now.realized.solid.shape.dimension result
+            ≡ mul_mat (flag_columns (concrete_of self.now.realized) (flag_in self.now.realized.solid.shape.rank flag))
+            (corner self.now.realized.solid.shape.dimension inv) }
+    {
+        let d = self.realized.solid.shape.dimension;
+        matrix::product(self.vertex_sequence(flag), inv, d)
     }
-    matrix::from_columns(rows, d)
-}
-
-// The candidate is "columns times the inverse of the first flag's".
-pub fn candidate(
-    solid: &Solid,
-    floats: &[f64],
-    flag: Flag,
-    inv: [[f64; DIMENSION]; DIMENSION],
-) -> [[f64; DIMENSION]; DIMENSION]
-    requires lists_value { diamond (abs_of solid.now) ≡ true }
-    requires flag { IsFlag (abs_of solid.now) (flag_in solid.now.shape.rank flag) }
-    requires le_rank { 1 ≤ solid.now.shape.rank }
-    requires sh_in_bounds { coordinates solid.now.shape ≤ length floats.now }
-    ensures { corner solid.now.shape.dimension result
-        ≡ mul_mat (flag_columns (solid_on solid.now.shape solid.now.lists.now floats.now) (flag_in solid.now.shape.rank flag)) (corner solid.now.shape.dimension inv) }
-{
-    let d = solid.shape.dimension;
-    matrix::product(vertex_sequence(solid, floats, flag), inv, d)
 }

@@ -6,4 +6,3 @@ pub mod candidates;
 pub mod exchange;
 pub mod listing;
 pub mod vertex_sets;
-mod writing;

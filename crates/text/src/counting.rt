@@ -9,11 +9,7 @@ pub fn confirmed(marks: &[u8], n: usize) -> usize
     requires { (n ≤ length marks.now) × (255 * n < 2 ^ 64) }
     ensures { result ≡ sum (take n marks.now) }
 {
-    let mut held = 0;
-    for mark in &marks[..n] {
-        held += usize::from(*mark);
-    }
-    held
+    marks[..n].iter().map(|&mark| usize::from(mark)).sum()
 }
 
 // Counts the rotations, which are the matrices "of determinant above 0", among the n that stand row by row. They
@@ -22,11 +18,7 @@ pub fn rotations(matrices: &[f64], d: usize, n: usize) -> usize
     requires { (d ≤ max_dimension) × (n * (d * d) ≤ length matrices.now) }
     ensures { result ≡ rotation_count (map (parts d d) (parts n (d * d) matrices.now)) }
 {
-    let mut held = 0;
-    for j in 0..n {
-        if 0.0 < matrix::determinant(points::matrix_at(matrices, d, j), d) {
-            held += 1;
-        }
-    }
-    held
+    (0..n)
+        .filter(|&j| 0.0 < matrix::determinant(points::matrix_at(matrices, d, j), d))
+        .count()
 }

@@ -27,7 +27,8 @@ use Rattle.ranked.proofs.Counted.{proper_is}
 use Rattle.element_types.specs.State.{state_in, Countable}
 use Rattle.types.specs.Call.{handed_out, answered}
 use Rattle.types.proofs.Rows.{many_few}
-use Rattle.types.proofs.Ranks.{proper-low, types_in_lem, given_long}
+use Rattle.element_types.proofs.Given.{types_in_lem, given_long}
+use Rattle.types.proofs.Ranks.{proper-low}
 
 -- ---- the tails
 

@@ -17,17 +17,17 @@ use Rattle.ranked.specs.Layout.{solid_in}
 use Rattle.preflight.specs.Preflight.{Preflighted}
 use Rattle.preflight.proofs.Laws.{refused_by, passed_by}
 use Rattle.element_types.specs.State.{state_in}
-use Rattle.element_types.specs.Typed.{Typed}
+use Rattle.element_types.specs.Typed.{TypesMade}
 use Rattle.types.specs.Call.{handed_out, answered}
 use Rattle.types.proofs.Call.{call-refused, call_passed, unsettled, settled}
 
 -- ---- 15, 13
 
 module _ (sh : Shape) (w v : List ℕ) (fs gs : List Float) (old : TypesOut) where
-  pub unsettled_given : {why : Refusal} → Typed sh w v fs gs (Err why) → (refused_with why 0, old) ≡ answered (solid_in sh w fs) old
+  pub unsettled_given : {why : Refusal} → TypesMade sh w v fs gs (Err why) → (refused_with why 0, old) ≡ answered (solid_in sh w fs) old
   unsettled_given t = rw t.ends.0 (sym (unsettled (solid_in sh w fs) old t.ends.1))
 
-  pub settled_given : Typed sh w v fs gs (Ok tt) → (x : Answer × TypesOut) → x ≡ handed_out (abs_in sh (lists_of sh v)) (state_in sh v) old → x ≡ answered (solid_in sh w fs) old
+  pub settled_given : TypesMade sh w v fs gs (Ok tt) → (x : Answer × TypesOut) → x ≡ handed_out (abs_in sh (lists_of sh v)) (state_in sh v) old → x ≡ answered (solid_in sh w fs) old
   settled_given t x e =
       e ∙ ap (λ (l : List ℕ). handed_out (abs_in sh l) (state_in sh v) old) t.lists ∙ sym (settled (solid_in sh w fs) old (state_in sh v) t.ends)
 

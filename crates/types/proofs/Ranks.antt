@@ -3,27 +3,26 @@
 use mathlib.Core.Path.{◌≡◌, refl, sym, ap, ap₂, ◌∙◌}
 use mathlib.Core.Logic.{◌⊎◌, inl, inr}
 use mathlib.Core.List.{List, [], ◌∷◌, ◌++◌, map, append-nil}
-use Prim.Native.Nat.{ℕ, zero, suc, ◌+◌, ◌-◌, ◌*◌, ◌≤◌, ◌<◌}
+use Prim.Native.Nat.{ℕ, suc, ◌+◌, ◌-◌, ◌*◌, ◌≤◌, ◌<◌}
 use native.Mathlib.Omega.{arith}
 use native.Mathlib.Numerals.{add-one}
-use native.Mathlib.Nat.{add-zero}
 use lib.Dec.{eqb}
-use lib.ListN.{length, get_or, take, drop, set, length-append, length-take, length-drop, length-map}
-use lib.Seq.{sets, length-sets, take-add, take-suc, take_all, drop-drop, length-take-le}
+use lib.ListN.{length, get_or, take, set, length-append, length-map}
+use lib.Seq.{sets, length-sets, take-suc, take_all, length-take-le}
 use Rattle.spec.specs.Limits.{max_count}
 use Rattle.spec.specs.Lists.{In, distinct, range, join, written}
 use Rattle.spec.specs.Types.{Solid, State, types_at, proper_ranks, elements, type_count, given, ElementType, element_types_at, element_types, in_use}
-use Rattle.laws.proofs.Lists.{in_get_d, map_same, of_range, get_d_table}
+use Rattle.laws.proofs.Lists.{in_get_d, map_same, of_range}
 use Rattle.laws.proofs.FlagList.{in_either}
 use Rattle.laws.proofs.Shapes.{type_cells_lem}
 use Rattle.ranked.specs.declared.Shape.{Shape}
-use Rattle.ranked.specs.Words.{first_at, size_at, lists_of, abs_in}
-use Rattle.ranked.specs.Layout as layout
-use Rattle.ranked.specs.Layout.{proper}
-use Rattle.ranked.proofs.Solids.{top_is, size_is, in_order_lem}
+use Rattle.ranked.specs.Words.{lists_of, abs_in}
+use Rattle.ranked.proofs.Solids.{top_is, size_is}
 use Rattle.ranked.proofs.Counted.{proper_is}
 use Rattle.element_types.specs.State.{types_in, state_in, Countable}
-use Rattle.element_types.proofs.Scanned.{table_snoc}
+use Rattle.element_types.proofs.States.{types-at}
+use Rattle.element_types.proofs.Given.{given_long}
+use Rattle.element_types.proofs.Appeared.{table_snoc}
 use Rattle.element_types.proofs.Tallied.{counts_all, TypesTally, tally_first, run_long, run_numbered, tally_next, tally_end}
 use Rattle.types.specs.Cells.{cells_of, Listable}
 use Rattle.types.proofs.Sets.{join-append, sets_append, sets_written}
@@ -70,58 +69,11 @@ module _ (sh : Shape) (w : List ℕ) (a : Countable sh w) where
   abbrev ts : List ℕ
   ts = given s z
 
-  types-at : (r : ℕ) → r ≤ sh.rank → types_at z r ≡ types_in sh w r
-  unfolding state_in
-  types-at r h = get_d_table (types_in sh w) [] (suc sh.rank) r (omega arith)
-
   pub proper-low : (r : ℕ) → In r (proper_ranks s) → (1 ≤ r) × (r < sh.rank)
   unfolding proper_ranks
   proper-low r m = let b = of_range 1 (sh.rank - 1) r (rw (top_is sh (lists_of sh w)) at m) in (b.0, omega (arith, b))
 
   -- ---- the type of each proper element
-
-  -- The types of ranks that stand one after another are one run of words.
-  runs : (q n : ℕ) → q + n ≤ sh.rank → join (map (types_in sh w) (range q n)) ≡ take (first_at sh (q + n) - first_at sh q) (drop (layout.types_at sh q) w)
-  unfolding join range types_in
-  runs q zero h = let e : first_at sh (q + 0) - first_at sh q ≡ 0 = rw add-zero (omega arith) in rw e refl
-  runs q (suc n) h =
-      let u = in_order_lem sh (lists_of sh w) a.held q (suc q) (omega arith) (omega arith) in
-      let v = in_order_lem sh (lists_of sh w) a.held (suc q) (suc q + n) (omega arith) (omega arith) in
-      let x = size_at sh q in
-      let y = first_at sh (suc q + n) - first_at sh (suc q) in
-      let e : layout.types_at sh (suc q) ≡ layout.types_at sh q + x = omega arith in
-      let f : q + suc n ≡ suc q + n = omega arith in
-      let g : first_at sh (suc q + n) - first_at sh q ≡ x + y = omega arith in
-      ap (λ (l : List ℕ). take x (drop (layout.types_at sh q) w) ++ l)
-      (runs (suc q) n (omega arith) ∙ ap (λ (k : ℕ). take y (drop k w)) e ∙ ap (take y) (sym (drop-drop x (layout.types_at sh q) w)))
-      ∙ sym (take-add x y (drop (layout.types_at sh q) w))
-      ∙ ap (λ (k : ℕ). take k (drop (layout.types_at sh q) w)) (sym (ap (λ (k : ℕ). first_at sh k - first_at sh q) f ∙ g))
-
-  given-run : ts ≡ take (proper sh) (drop (layout.types_at sh 1) w)
-  unfolding given proper_ranks join range
-  given-run =
-      rw (top_is sh (lists_of sh w))
-      (ap join (map_same (types_at z) (types_in sh w) (range 1 (sh.rank - 1)) (λ r m. types-at r (omega (arith, of_range 1 (sh.rank - 1) r m))))
-      ∙ go sh.rank refl)
-    where
-      go : (R : ℕ) → sh.rank ≡ R → join (map (types_in sh w) (range 1 (sh.rank - 1))) ≡ take (proper sh) (drop (layout.types_at sh 1) w)
-      go zero e =
-          let p : proper sh ≡ 0 = omega (arith, ap (first_at sh) e, a.held.start) in
-          let q : sh.rank - 1 ≡ 0 = omega arith in
-          rw (p, q) refl
-      go (suc n) e =
-          let p : 1 + (sh.rank - 1) ≡ sh.rank = omega arith in
-          runs 1 (sh.rank - 1) (omega arith) ∙ ap (λ (k : ℕ). take (first_at sh k - first_at sh 1) (drop (layout.types_at sh 1) w)) p
-
-  -- The types stand in the words.
-  pub types_in_lem : layout.types_at sh 1 + proper sh ≤ length w
-  types_in_lem =
-      let u = in_order_lem sh (lists_of sh w) a.held 1 (suc sh.rank) (omega arith) (omega arith) in
-      let v = in_order_lem sh (lists_of sh w) a.held sh.rank (suc sh.rank) (omega arith) (omega arith) in
-      omega (arith, a.room)
-
-  pub given_long : length ts ≡ proper sh
-  given_long = ap length given-run ∙ simp (length-take, length-drop) (omega (arith, types_in_lem))
 
   given_small : (t : ℕ) → In t ts → t < max_count
   unfolding given in_use
@@ -131,41 +83,25 @@ module _ (sh : Shape) (w : List ℕ) (a : Countable sh w) where
       let n = a.numbered j.0 b.0 b.1 in
       omega (arith, order_low (types_at z j.0) n.first t j.2, n.each, size_is sh (lists_of sh w) j.0 (omega (arith, b)), a.held.few j.0 (omega (arith, b)))
 
-  module _ (old : List ℕ) (room : elements s ≤ length old) (n from : ℕ) (e : n ≡ proper sh) (f : from ≡ layout.types_at sh 1) where
-    -- These are the types, as a slice of the words has them.
-    abbrev run : List ℕ
-    run = take (from + n - from) (drop from w)
+  module _ (old : List ℕ) (room : elements s ≤ length old) where
+    pub cells_in_lem : length ts ≤ length old
+    cells_in_lem = omega (arith, given_long sh w a, proper_is sh (lists_of sh w) a.held)
 
-    pub run_in_words : from + n ≤ length w
-    run_in_words = omega (arith, types_in_lem)
+    module _ (of : List ℕ) (k : ℕ) (i : Copied ts old of k) where
+      pub copied-end : length ts ≤ k → of ≡ written ts old
+      copied-end h = i ∙ ap (sets old 0) (take_all k ts h) ∙ sets_written old ts cells_in_lem
 
-    run_many : length run ≡ n
-    run_many = simp (length-take, length-drop) (omega (arith, run_in_words))
+      module _ (h : k < length ts) where
+        pub copied_small : get_or ts k 0 < max_count
+        copied_small = given_small (get_or ts k 0) (in_get_d 0 ts k h)
 
-    run_is : ts ≡ run
-    run_is = let q : n ≡ from + n - from = omega arith in
-        given-run ∙ ap₂ (λ (k b : ℕ). take k (drop b w)) (sym e ∙ q) (sym f)
-
-    pub cells_in_lem : length run ≤ length old
-    cells_in_lem = omega (arith, run_many, proper_is sh (lists_of sh w) a.held)
-
-    module _ (of : List ℕ) (k : ℕ) (i : Copied run old of k) where
-      pub copied-end : length run ≤ k → of ≡ written ts old
-      copied-end h =
-          i ∙ ap (sets old 0) (take_all k run h) ∙ sets_written old run cells_in_lem
-          ∙ ap (λ (l : List ℕ). written l old) (sym run_is)
-
-      module _ (h : k < length run) where
-        pub copied_small : get_or run k 0 < max_count
-        copied_small = given_small (get_or run k 0) (rw run_is (in_get_d 0 run k h))
-
-        pub copied_next : Copied run old (set of k (get_or run k 0)) (k + 1)
+        pub copied_next : Copied ts old (set of k (get_or ts k 0)) (k + 1)
         copied_next =
-            let m : length (take k run) ≡ k = length-take-le k run (omega arith) in
-            let q : k ≡ 0 + length (take k run) = omega arith in
-            let more : take (k + 1) run ≡ take k run ++ get_or run k 0 ∷ [] = rw add-one (take-suc run k 0 h) in
-            ap₂ (λ (x : List ℕ) (y : ℕ). set x y (get_or run k 0)) i q
-            ∙ sym (sets_append old 0 (take k run) (get_or run k 0 ∷ [])) ∙ ap (sets old 0) (sym more)
+            let m : length (take k ts) ≡ k = length-take-le k ts (omega arith) in
+            let q : k ≡ 0 + length (take k ts) = omega arith in
+            let more : take (k + 1) ts ≡ take k ts ++ get_or ts k 0 ∷ [] = rw add-one (take-suc ts k 0 h) in
+            ap₂ (λ (x : List ℕ) (y : ℕ). set x y (get_or ts k 0)) i q
+            ∙ sym (sets_append old 0 (take k ts) (get_or ts k 0 ∷ [])) ∙ ap (sets old 0) (sym more)
 
   -- ---- the types
 
@@ -180,7 +116,7 @@ module _ (sh : Shape) (w : List ℕ) (a : Countable sh w) where
       rw (top_is sh (lists_of sh w))
       (sym (cells-join (element_types_at z) (range 1 (sh.rank - 1))
       ∙ ap join (map_same (λ r. cells_in (element_types_at z r)) (cells_at sh w) (range 1 (sh.rank - 1))
-      (λ r m. ap (cells_of r) (types-at r (omega (arith, of_range 1 (sh.rank - 1) r m)))))))
+      (λ r m. ap (cells_of r) (types-at sh w r (omega (arith, of_range 1 (sh.rank - 1) r m)))))))
 
   module _ (old : List ℕ) (room : 4 * type_count s z ≤ length old) where
     pub tabled_long : (table : List ℕ) (m r : ℕ) → RanksTabled sh w old table m r → length table ≡ length old
@@ -194,24 +130,20 @@ module _ (sh : Shape) (w : List ℕ) (a : Countable sh w) where
         let c = q ∙ all-cells in
         i.cells ∙ ap (sets old 0) c ∙ sets_written old (cells_in (element_types s z)) (omega (arith, ap length c, i.many, tally_end sh w a m r i.tally h))
 
-    -- In the code's terms, the types of the rank's n elements stand from word `from` on.
-    module _ (table : List ℕ) (m r : ℕ) (i : RanksTabled sh w old table m r) (h : r < sh.rank) (from n : ℕ) (f : from ≡ layout.types_at sh r) (e : n ≡ size_at sh r) where
+    module _ (table : List ℕ) (m r : ℕ) (i : RanksTabled sh w old table m r) (h : r < sh.rank) where
       abbrev l : List ℕ
-      l = take (from + n - from) (drop from w)
+      l = types_in sh w r
 
-      l_is : l ≡ types_in sh w r
-      unfolding types_in
-      l_is =
-          let q : from + n - from ≡ n = omega arith in
-          ap (λ (k : ℕ). take k (drop from w)) q ∙ rw (f, e) refl
-
-      pub listable : Listable l r (length table) m
+      listable : Listable l r (length table) m
       listable = record {
-        order = run_numbered sh w a m r i.tally h from n f e;
-        few = rw (run_long sh w a m r i.tally h from n f e, e) (a.held.few r (omega arith));
+        order = run_numbered sh w a m r i.tally h;
+        few = rw (run_long sh w a m r i.tally h) (a.held.few r (omega arith));
         low = omega (arith, a.held.tall);
-        room = omega (arith, (tally_next sh w a m r i.tally h from n f e (length (distinct eqb l)) refl).rest, counts_all sh w, tabled_long table m r i);
+        room = omega (arith, (tally_next sh w a m r i.tally h (length (distinct eqb l)) refl).rest, counts_all sh w, tabled_long table m r i);
       }
+
+      pub list_ready : (types : List ℕ) → types ≡ l → Listable types r (length table) m
+      list_ready types e = rw e listable
 
       cells_more : cells_below sh w (r + 1) ≡ cells_below sh w r ++ cells_of r l
       unfolding cells_below join
@@ -220,7 +152,7 @@ module _ (sh : Shape) (w : List ℕ) (a : Countable sh w) where
           ap (λ (k : ℕ). join (map (cells_at sh w) (range 1 k))) p
           ∙ ap join (table_snoc (cells_at sh w) 1 (r - 1) r (omega (arith, i.tally.proper)))
           ∙ join-append (map (cells_at sh w) (range 1 (r - 1))) ((cells_at sh w) r ∷ [])
-          ∙ ap (λ (x : List ℕ). cells_below sh w r ++ x) (append-nil ((cells_at sh w) r) ∙ ap (cells_of r) (sym l_is))
+          ∙ ap (λ (x : List ℕ). cells_below sh w r ++ x) (append-nil ((cells_at sh w) r))
 
       cells_long : length (cells_of r l) ≡ 4 * length (distinct eqb l)
       unfolding cells_of
@@ -228,11 +160,11 @@ module _ (sh : Shape) (w : List ℕ) (a : Countable sh w) where
 
       module _ (k : ℕ) (c : k ≡ length (distinct eqb l)) where
         pub types_fit : 4 * (m + k) ≤ length old
-        types_fit = omega (arith, (tally_next sh w a m r i.tally h from n f e k c).rest, counts_all sh w)
+        types_fit = omega (arith, (tally_next sh w a m r i.tally h k c).rest, counts_all sh w)
 
         pub tabled_next : RanksTabled sh w old (sets table (4 * m) (cells_of r l)) (m + k) (r + 1)
         tabled_next = record {
-          tally = tally_next sh w a m r i.tally h from n f e k c;
+          tally = tally_next sh w a m r i.tally h k c;
           bound = omega arith;
           many = omega (arith, ap length cells_more ∙ length-append (cells_below sh w r) (cells_of r l), i.many, cells_long);
           cells =

@@ -20,7 +20,7 @@ use Rattle.laws.proofs.Distinct.{Split, split, in_distinct, of-distinct, in?, pl
 use Rattle.laws.proofs.Counts.{numbers}
 use Rattle.laws.proofs.Scan.{distinct_new, distinct_old}
 use Rattle.laws.proofs.Shapes.{type_cells_lem}
-use Rattle.element_types.proofs.Scanned.{table_snoc}
+use Rattle.element_types.proofs.Appeared.{table_snoc}
 use Rattle.types.specs.Cells.{describe, cells_of, InOrder, Listable}
 use Rattle.types.proofs.Sets.{join-append, sets_append, set_sets, get_d_sets}
 

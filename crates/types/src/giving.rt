@@ -4,24 +4,20 @@ ghost use Rattle.std.proofs.lemmas.List.Edits.{sets};
 ghost use Rattle.spec.specs.Lists.{distinct, join, written};
 ghost use Rattle.spec.specs.Types.{elements, type_count, given, element_types};
 ghost use Rattle.spec.specs.Calls.{type_cells};
-ghost use Rattle.ranked.specs.Layout.{abstract_in};
-ghost use Rattle.element_types.specs.State.{state_in, Countable};
+ghost use Rattle.element_types.specs.Read.{typed_solid, typed_state};
 ghost use Rattle.types.specs.Cells.{cells_of, Listable};
 ghost use Rattle.types.specs.Call.{handed_out};
 
-use element_types::counting::type_count;
-use ranked::Shape;
+use element_types::counting::Typed;
 use spec::{Answer, Refusal};
 
-// Writes the type of each proper element, one cell for each.
-fn write_types(words: &[u32], sh: Shape, of: &mut [u16])
-    requires countable { Countable sh words.now }
-    requires words_in_bounds { elements (abstract_in sh words.now) ≤ length of.old }
-    ensures { of.new ≡ written (given (abstract_in sh words.now) (state_in sh words.now)) of.old }
+// Writes the type of each proper element, one cell for each. The cells are written by index, since a proof knows nothing of a slice whose cells were
+// written through a zip with them.
+fn write_types(typed: &Typed, of: &mut [u16])
+    requires { elements (typed_solid typed.now) ≤ length of.old }
+    ensures { of.new ≡ written (given (typed_solid typed.now) (typed_state typed.now)) of.old }
 {
-    let n = sh.proper();
-    let from = sh.types(1);
-    for (k, t) in words[from..from + n].iter().enumerate() {
+    for (k, t) in typed.given().iter().enumerate() {
         of[k] = *t as u16;
     }
 }
@@ -55,37 +51,30 @@ fn write_rank(types: &[u32], r: usize, table: &mut [u16], m: usize) -> usize
 }
 
 // Writes four cells for each type: its rank, its number, its example and its count.
-fn write_table(words: &[u32], sh: Shape, table: &mut [u16])
-    requires countable { Countable sh words.now }
-    requires words_in_bounds { 4 * type_count (abstract_in sh words.now) (state_in sh words.now) ≤ length table.old }
-    ensures { table.new
-        ≡ written (join (map type_cells (element_types (abstract_in sh words.now) (state_in sh words.now))))
-        table.old }
+fn write_table(typed: &Typed, table: &mut [u16])
+    requires { 4 * type_count (typed_solid typed.now) (typed_state typed.now) ≤ length table.old }
+    ensures { table.new ≡ written (join (map type_cells (element_types (typed_solid typed.now) (typed_state typed.now)))) table.old }
 {
-    let rank = sh.rank;
+    let rank = typed.shape.rank;
     let mut m: usize = 0;
     for r in 1..rank {
-        let from = sh.types(r);
-        let n = sh.size(r);
-        m += write_rank(&words[from..from + n], r, table, m);
+        m += write_rank(typed.of(r), r, table, m);
     }
 }
 
 // Gives out the types of the elements and the table, and answers how many types there are. Where an output is too short, the answer is refusal 13.
-pub fn give_out(words: &[u32], sh: Shape, of: &mut [u16], table: &mut [u16]) -> Answer
-    requires { Countable sh words.now }
+pub fn give_out(typed: &Typed, of: &mut [u16], table: &mut [u16]) -> Answer
     ensures { (result, record { elements = of.new; types = table.new })
-        ≡ handed_out (abstract_in sh words.now) (state_in sh words.now)
-        (record { elements = of.old; types = table.old }) }
+        ≡ handed_out (typed_solid typed.now) (typed_state typed.now) (record { elements = of.old; types = table.old }) }
 {
-    let n = type_count(words, sh);
-    if of.len() < sh.proper() {
+    let n = typed.type_count();
+    if of.len() < typed.shape.proper() {
         return Err(Refusal::ShortSheet.into());
     }
     if table.len() < 4 * n {
         return Err(Refusal::ShortSheet.into());
     }
-    write_types(words, sh, of);
-    write_table(words, sh, table);
+    write_types(typed, of);
+    write_table(typed, table);
     Ok(n)
 }

@@ -9,6 +9,7 @@ ghost use Rattle.ranked.specs.Layout.{solid_in};
 ghost use Rattle.types.specs.Call.{answered};
 ghost use Rattle.types.specs.Demand3.{Demand3Cells};
 
+use element_types::counting::Typed;
 use element_types::settling::types_of;
 use preflight::preflight;
 use ranked::Shape;
@@ -31,7 +32,7 @@ fn types_given(
         ≡ answered (solid_in sh words.old floats.old) (record { elements = of.old; types = table.old }) }
 {
     types_of(words, sh, floats)?;
-    give_out(words, sh, of, table)
+    give_out(&Typed { words, shape: sh }, of, table)
 }
 
 // The call takes a sheet of any bytes and any length, a workspace of any size, and outputs of any length: one cell for each proper element, and

@@ -8,13 +8,19 @@ pub mod writing;
 
 ghost use Rattle.std.specs.Prelude.{◌≡◌};
 
-// This is a run over stored calls: where they come from, where the answers go, and how many bytes of answers went there so far. Answers go to standard
-// output, or are held to those that another file has. Both are descriptors, because crate `io` reads and writes by them. Whoever has a run knows that
-// all went well so far, since a step that fails gives the run's end.
+// This is where the answers of a run go: to standard output, or they are held to those that a file has stored, which is given by its descriptor.
+#[derive(Clone, Copy)]
+pub enum Target {
+    StandardOutput,
+    Stored(i32),
+}
+
+// This is a run over stored calls: where they come from, where the answers go, and how many bytes of answers went there so far. The calls come from a
+// descriptor, because crate `io` reads by it. Whoever has a run knows that all went well so far, since a step that fails gives the run's end.
 #[derive(Clone, Copy)]
 pub struct Run {
     pub from: i32,
-    pub to: i32,
+    pub to: Target,
     pub count: u64,
 }
 
@@ -26,7 +32,7 @@ pub enum End {
 }
 
 // Returns a run before its first answer.
-pub fn start(from: i32, to: i32) -> Run
+pub fn start(from: i32, to: Target) -> Run
     ensures { (result.from ≡ from) × (result.to ≡ to) × (result.count ≡ 0) }
 {
     Run { from, to, count: 0 }

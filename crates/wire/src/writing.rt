@@ -2,7 +2,7 @@
 // and its count tells where.
 ghost use Rattle.std.specs.Prelude.{◌≡◌, ◌⊎◌, ℕ, ◌+◌, ◌*◌, ◌≤◌, IfOk, length};
 
-use crate::{End, Run};
+use crate::{End, Run, Target};
 use float::bits;
 use spec::Refusal;
 
@@ -41,15 +41,17 @@ impl Storable for u16 {
 }
 
 // Writes the bytes of one piece to standard output; or tells whether they are the next ones of the file.
-fn moved(to: i32, text: &[u8]) -> bool
+fn moved(to: Target, text: &[u8]) -> bool
     requires { length text.now ≤ PIECE }
 {
-    if to == STANDARD_OUTPUT {
-        return io::write_all(to, text);
+    match to {
+        Target::StandardOutput => io::write_all(STANDARD_OUTPUT, text),
+        Target::Stored(file) => {
+            let n = text.len();
+            let mut stored = [0; PIECE];
+            io::read_full(file, &mut stored[..n]) == n && &stored[..n] == text
+        }
     }
-    let n = text.len();
-    let mut stored = [0; PIECE];
-    io::read_full(to, &mut stored[0..n]) == n && stored[0..n] == text[0..n]
 }
 
 fn is_at_end(from: i32) -> bool {
@@ -68,7 +70,11 @@ impl Run {
     pub fn finished(self) -> End
         ensures { (result ≡ End.Finished self.count) ⊎ (result ≡ End.Failed self.count) }
     {
-        if is_at_end(self.from) && (self.to == STANDARD_OUTPUT || is_at_end(self.to)) {
+        let all_answered = match self.to {
+            Target::StandardOutput => true,
+            Target::Stored(file) => is_at_end(file),
+        };
+        if is_at_end(self.from) && all_answered {
             return End::Finished(self.count);
         }
         self.failed()

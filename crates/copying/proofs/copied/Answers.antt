@@ -3,7 +3,7 @@
 use mathlib.Core.Path.{◌≡◌, sym, ap, ◌∙◌}
 use mathlib.Core.List.{List}
 use Prim.Native.Nat.{ℕ, ◌*◌, ◌/◌, ◌≤◌, ◌<◌, min}
-use native.Mathlib.Nat.{mul-le-mul_right}
+use native.Mathlib.Nat.{mul-le-mul_right, div-mul-le_self}
 use native.Mathlib.Omega.{arith}
 use lib.ListN.{length, replicate}
 use Rattle.spec.specs.Limits.{max_count}
@@ -44,6 +44,7 @@ limited c =
 -- There is room for the copies.
 fitting : (c : In-Some) →
     (Fitting c.args.d c.room-limit.result (cs (goal.at.overflow_mul-count c).Start) c.args.out.now c.copies.new.out c.in-Some.n)
+unfolding points
 fitting c = rw c.in-Some.is at c.copies.ensures
 
 -- The table's cells fit.
@@ -56,7 +57,14 @@ roomy c =
 -- What the table holds is told in terms of the copies.
 tabled : (c : After-write) →
     (Tabled c.in-Some.n (copy_table (matrices c.args.d c.args.turns.now) (copies (matrices c.args.d c.args.turns.now) (points c.args.d c.args.from.now))) c.args.table.now c.write.new.out c.write.result)
+unfolding points
 tabled c = rw (rw c.in-Some.is at c.copies.ensures).read at c.write.ensures
+
+pub nonzero_div-points : goal.nonzero_div-points
+nonzero_div-points c = (judged (goal.at.nonzero_div-points c).Start).low
+
+pub invariant_of-points : goal.invariant_of-points
+invariant_of-points c = record { fits = ((judged (goal.at.invariant_of-points c).Start).high, div-mul-le_self _ _) }
 
 pub room-limit-requires : goal.room-limit-requires
 room-limit-requires c = (judged (goal.at.room-limit-requires c).Start).low
@@ -64,9 +72,10 @@ room-limit-requires c = (judged (goal.at.room-limit-requires c).Start).low
 pub copies-requires : goal.copies-requires
 copies-requires c =
     let j = judged (goal.at.copies-requires c).Start in
-    (j.low, j.high, rw c.room-limit.ensures (room_fits (length c.args.out.now) c.args.d))
+    (j.low, rw c.room-limit.ensures (room_fits (length c.args.out.now) c.args.d))
 
 pub returns-in_default : goal.returns-in_default
+unfolding points
 returns-in_default c =
     answer-full c.room-limit.result (ms (goal.at.returns-in_default c).Start) (cs (goal.at.returns-in_default c).Start) c.args.out.now c.args.table.now (rw c.in_default.is at c.copies.ensures)
     ∙ limited (goal.at.returns-in_default c).After-room-limit
@@ -86,16 +95,17 @@ returns-then-table-count c =
     (rw (length-matrices c.args.d c.args.turns.now) (too_few (length c.args.table.now) _ _ (counted (goal.at.returns-then-table-count c).Start) c.if-table-count.true))
     ∙ limited (goal.at.returns-then-table-count c).After-room-limit
 
+pub invariant_of-copies : goal.invariant_of-copies
+invariant_of-copies c =
+    let j = judged (goal.at.invariant_of-copies c).Start in
+    let f = fitting (goal.at.invariant_of-copies c).In-Some in
+    record { fits = (j.high, omega (arith, mul-le-mul_right c.args.d f.room, rw (sym c.room-limit.ensures) at (room_fits (length c.args.out.now) c.args.d), c.copies.auto.out)) }
+
 pub write-requires : goal.write-requires
 write-requires c =
     let j = judged (goal.at.write-requires c).Start in
-    let f = fitting (goal.at.write-requires c).In-Some in (
-      j.low,
-      j.high,
-      omega (arith, f.room, c.room-limit.ensures),
-      omega (arith, mul-le-mul_right c.args.d f.room, rw (sym c.room-limit.ensures) at (room_fits (length c.args.out.now) c.args.d), c.copies.auto.out),
-      rw (length-matrices c.args.d c.args.turns.now) at (roomy (goal.at.write-requires c).Else-table-count),
-    )
+    let f = fitting (goal.at.write-requires c).In-Some in
+    (j.low, omega (arith, f.room, c.room-limit.ensures), rw (length-matrices c.args.d c.args.turns.now) at (roomy (goal.at.write-requires c).Else-table-count))
 
 pub returns-then-write : goal.returns-then-write
 returns-then-write c =

@@ -3,13 +3,14 @@
 use mathlib.Core.Path.{◌≡◌, refl, sym, ◌∙◌, ap, ap₂}
 use mathlib.Core.Logic.{◌≢◌, ◌⊎◌, inl, inr}
 use mathlib.Core.Bool.{Bool, true, false, ◌&&◌}
-use mathlib.Core.List.{List, [], ◌∷◌, map}
-use Prim.Native.Nat.{ℕ, suc, ◌+◌, ◌≤◌, ◌<◌}
-use native.Mathlib.Decide.{ℕ_discrete, dec_lt}
+use mathlib.Core.List.{List, [], ◌∷◌, ◌++◌, map}
+use borrow.Rule.Slice.PartMut.{put_mid}
+use Prim.Native.Nat.{ℕ, suc, ◌+◌, ◌-◌, ◌≤◌, ◌<◌}
+use native.Mathlib.Decide.{ℕ_discrete}
 use native.Mathlib.Omega.{arith}
 use borrow.Author.Tests.{lt-ltb, le-ltb}
-use lib.ListN.{length, get_or, set, take, drop, length-set, length-take, length-drop}
-use lib.Seq.{ext_get_or, get_or-take, get_or-drop, get_or-set_same, get_or-set_other, drop-cons, take-set-le}
+use lib.ListN.{length, get_or, set, take, drop, length-set, length-take, length-drop, length-append}
+use lib.Seq.{get_or-take, get_or-drop, get_or-set_same, get_or-set_other, drop-cons, take-set-le, take_at}
 use lib.Dec.{eqb, ltb}
 use lib.Ieee.{Float, nan}
 use Rattle.spec.specs.Lists.{renumber, range}
@@ -24,9 +25,13 @@ use Rattle.ranked.proofs.Solids.{top_is, size_is, in_order_lem}
 use Rattle.geometry.specs.Classes.{same_class}
 use Rattle.geometry.specs.Solids.{before_in}
 use Rattle.geometry.proofs.elements.ClassCells.{same_class-at, before_is}
+use Rattle.element_types.specs.Runs.{over}
 use Rattle.element_types.specs.State.{types_in, state_in, needed}
 use Rattle.element_types.proofs.Sweeps.{sweepable_kept}
-use Rattle.element_types.specs.Start.{cell_at, Shares, ClassesFit, ByClass, Startable, Begins}
+use Rattle.element_types.specs.Start.{Shares, ClassesFit, ByClass, Startable, Begins}
+use Rattle.element_types.proofs.Parts.{length_over, put_over}
+use Rattle.element_types.proofs.Room.{least-one, top_one}
+use Rattle.element_types.proofs.Replaced.{replaced, other, lists-kept}
 
 -- ---- a rank's types
 
@@ -36,17 +41,6 @@ module _ (sh : Shape) where
   unfolding types_in
   type_one v q x one h e =
       ap (λ (n : ℕ). take n (drop (types_at sh q) v)) one ∙ ap (take 1) (drop-cons v (types_at sh q) 0 h) ∙ ap (λ (y : ℕ). y ∷ []) e
-
-  -- A rank where no word changed keeps its types.
-  types-kept : (w v : List ℕ) → length v ≡ length w → (q : ℕ) → ((i : ℕ) → types_at sh q ≤ i → i < types_at sh q + size_at sh q → get_or v i 0 ≡ get_or w i 0)
-      → types_in sh v q ≡ types_in sh w q
-  unfolding types_in
-  types-kept w v long q k =
-      let a = types_at sh q in
-      let n = size_at sh q in
-      ext_get_or 0 (take n (drop a v)) (take n (drop a w)) (simp (length-take, length-drop) (omega arith))
-      (λ e h. let b : e < n = omega (arith, h, length-take n (drop a v)) in
-      get_or-take n (drop a v) e 0 b ∙ get_or-drop a v e 0 ∙ k (a + e) (omega arith) (omega arith) ∙ sym (get_or-take n (drop a w) e 0 b ∙ get_or-drop a w e 0))
 
 -- A word that is 0 stays so.
 zero-kept : (l : List ℕ) (i j : ℕ) → j < length l → get_or l j 0 ≡ 0 → get_or (set l i 0) j 0 ≡ 0
@@ -104,12 +98,6 @@ module _ (sh : Shape) (w : List ℕ) (cells : List Float) (a : Startable sh w ce
   abbrev s : Solid
   s = abs_in sh (lists_of sh w)
 
-  least-one : size s 0 ≡ 1
-  least-one = ap length h.sound.least
-
-  top_one : size s sh.rank ≡ 1
-  top_one = rw (top_is sh (lists_of sh w)) at h.sound.one
-
   rank_in : (q : ℕ) → q ≤ sh.rank → (first_at sh q < first_at sh (suc q)) × (first_at sh (suc q) ≤ total sh)
   rank_in q k = (h.some q k, in_order_lem sh (lists_of sh w) h (suc q) (suc sh.rank) (omega arith) (omega arith))
 
@@ -139,14 +127,14 @@ module _ (sh : Shape) (w : List ℕ) (cells : List Float) (a : Startable sh w ce
 
     first-types : (cls : Classes) (q : ℕ) → q ≤ sh.rank → (q ≡ 0) ⊎ (q ≡ sh.rank) → types_in sh w₂ q ≡ start_at s cls q
     first-types cls q k (inl z) =
-        let one : size s q ≡ 1 = ap (size s) z ∙ least-one in
+        let one : size s q ≡ 1 = ap (size s) z ∙ least-one sh (lists_of sh w) h in
         let p : types_at sh q ≡ least = ap (types_at sh) z ∙ sym el in
         let b : least < length w₁ = omega (arith, starts_in q k, long₁) in
         type_one sh w₂ q 0 (sym (size_is sh (lists_of sh w) q k) ∙ one) (omega (arith, starts_in q k, long₂))
         (ap (λ (i : ℕ). get_or w₂ i 0) p ∙ zero-kept w₁ last least b (get_or-set_same w least 0 0 (omega (arith, b, long₁))))
         ∙ sym (start-least s cls q z one)
     first-types cls q k (inr c) =
-        let one : size s q ≡ 1 = ap (size s) c ∙ top_one in
+        let one : size s q ≡ 1 = ap (size s) c ∙ top_one sh (lists_of sh w) h in
         let p : types_at sh q ≡ last = ap (types_at sh) c ∙ sym et in
         let b : last < length w₁ = omega (arith, starts_in q k, long₁) in
         type_one sh w₂ q 0 (sym (size_is sh (lists_of sh w) q k) ∙ one) (omega (arith, starts_in q k, long₂))
@@ -177,29 +165,64 @@ module _ (sh : Shape) (w : List ℕ) (cells : List Float) (a : Startable sh w ce
         let b = rank_in r (omega arith) in
         (in_order_lem sh (lists_of sh w) h 1 r i.above (omega arith), b.0, in_order_lem sh (lists_of sh w) h (suc r) sh.rank (omega arith) (omega arith), omega (arith, b.1, a.room))
 
-    -- In the code's terms, the types of the rank's n elements stand from word `to` on and their classes from cell `from` on, and the words from `out`
-    -- on are free.
-    module _ (to out n from : ℕ) (to_is : to ≡ types_at sh r) (out-is : out ≡ scratch_at sh) (n_is : n ≡ size_at sh r) (from_is : from ≡ before sh r + 0) where
-      pub fitting : ClassesFit v to out n cells from
-      unfolding needed
-      fitting =
-          let b = rank_in r (omega arith) in
-          let x = a.sweepable.room (up r) i.above k in
-          let y = a.sweepable.small (up r) i.above k in
-          record {
-            apart = omega (arith, b);
-            room = omega (arith, i.long, x);
-            inside = omega (arith, offsets, a.inside);
-            small = omega (arith, y);
-          }
+    -- In the code's terms, the types of the rank's n elements stand from word `to` on and their classes from cell `from` on, and the words are in two
+    -- parts, those below word `out` and the free ones.
+    module _ (to out n from : ℕ) (to_is : to ≡ types_at sh r) (out-is : out ≡ scratch_at sh) (n_is : n ≡ size_at sh r) (from_is : from ≡ before sh r + 0)
+        (H F : List ℕ) (v_is : v ≡ H ++ F) (H_long : length H ≡ out) where
+      -- These are the classes of the rank's elements, as a slice of the cells has them.
+      abbrev part : List Float
+      part = take (from + n - from) (drop from cells)
 
-      module _ (u : List ℕ) (c : ByClass v u to out n cells from) where
-        other : (q : ℕ) → q ≤ sh.rank → q ≢ r → types_in sh u q ≡ types_in sh v q
-        other q b z = types-kept sh v u c.long q (λ j d e. c.others j (omega (arith, e, rank_in q b)) (side j d e (dec_lt q r)))
-          where
-            side : (j : ℕ) → types_at sh q ≤ j → j < types_at sh q + size_at sh q → Dec (q < r) → (j < to) ⊎ (to + n ≤ j)
-            side j d e (yes l) = inl (omega (arith, in_order_lem sh (lists_of sh w) h (suc q) r l (omega arith), rank_in q b))
-            side j d e (no l) = inr (omega (arith, in_order_lem sh (lists_of sh w) h (suc r) q (omega arith) (omega arith), rank_in r (omega arith)))
+      part_long : length part ≡ n
+      part_long = simp (length-take, length-drop) (omega (arith, offsets, a.inside))
+
+      to-in : to + n ≤ length H
+      to-in = omega (arith, rank_in r (omega arith))
+
+      run-long : length (take (to + n - to) (drop to H)) ≡ n
+      run-long = simp (length-take, length-drop) (omega (arith, to-in))
+
+      pub fitting : ClassesFit part (take (to + n - to) (drop to H)) F
+      unfolding needed
+      fitting = record {
+        numbered = run-long ∙ sym part_long;
+        room = omega (arith, part_long, i.long, ap length v_is ∙ length-append H F, a.sweepable.room (up r) i.above k);
+        small = omega (arith, part_long, a.sweepable.small (up r) i.above k);
+      }
+
+      module _ (N G : List ℕ) (N_long : length N ≡ length (take (to + n - to) (drop to H))) (G_long : length G ≡ length F) (c : ByClass part N) where
+        abbrev H' : List ℕ
+        H' = put_mid to (to + n - to) H N
+
+        abbrev u : List ℕ
+        u = H' ++ G
+
+        many : length N ≡ n
+        many = N_long ∙ run-long
+
+        H'-is : H' ≡ over H to (to + n) N
+        H'-is = put_over H to (to + n - to) (to + n) N (omega (arith, many)) (omega arith)
+
+        H'-long : length H' ≡ length H
+        H'-long = ap length H'-is ∙ length_over H to (to + n) N (omega (arith, many)) to-in
+
+        u-long : length u ≡ length v
+        u-long = length-append H' G ∙ ap₂ (λ (x y : ℕ). x + y) H'-long G_long ∙ sym (ap length v_is ∙ length-append H F)
+
+        front : take (scratch_at sh) u ≡ over (take (scratch_at sh) v) (types_at sh r) (types_at sh r + size_at sh r) N
+        front =
+            take_at H' G (scratch_at sh) (H'-long ∙ H_long ∙ out-is) ∙ H'-is
+            ∙ ap₂ (λ (l : List ℕ) (b : ℕ). over l b (b + n) N) (sym (ap (take (scratch_at sh)) v_is ∙ take_at H F (scratch_at sh) (H_long ∙ out-is))) to_is
+            ∙ ap (λ (m : ℕ). over (take (scratch_at sh) v) (types_at sh r) (types_at sh r + m) N) n_is
+
+        v-held : Held sh (lists_of sh v)
+        v-held = rw i.lists h
+
+        v-room : scratch_at sh ≤ length v
+        v-room = omega (arith, i.long, a.room)
+
+        stays : (q : ℕ) → q ≤ sh.rank → q ≢ r → types_in sh u q ≡ types_in sh v q
+        stays = other sh v v-held v-room r (omega arith) u N (many ∙ n_is) front
 
         module _ (fs : List Float) (e : take (proper sh) cells ≡ classes (distances (solid_in sh w fs))) where
           cls : Classes
@@ -208,23 +231,25 @@ module _ (sh : Shape) (w : List ℕ) (cells : List Float) (a : Startable sh w ce
           size-n : size s r ≡ n
           size-n = size_is sh (lists_of sh w) r (omega arith) ∙ sym n_is
 
-          cell_is : (j : ℕ) → j < n → get_or (classes (distances (solid_in sh w fs))) (before_in s r + j) nan ≡ cell_at cells from j
+          cell_is : (j : ℕ) → j < n → get_or (classes (distances (solid_in sh w fs))) (before_in s r + j) nan ≡ get_or part j nan
           cell_is j d =
               let z : before_in s r ≡ from = before_is sh (lists_of sh w) h r i.above (omega arith) ∙ omega (arith, from_is) in
               ap (λ (z : ℕ). get_or (classes (distances (solid_in sh w fs))) (z + j) nan) z
               ∙ ap (λ (l : List Float). get_or l (from + j) nan) (sym e) ∙ get_or-take (proper sh) cells (from + j) nan (omega (arith, offsets))
+              ∙ sym (get_or-take (from + n - from) (drop from cells) j nan (omega arith) ∙ get_or-drop from cells j nan)
 
-          shares : Shares cells from n (cls r)
+          shares : Shares part (cls r)
           unfolding cls
           shares g j d b =
               let t : r < top s = rw (top_is sh (lists_of sh w)) k in
-              same_class-at (solid_in sh w fs) r g j i.above t (rw size-n d) (rw size-n b) ∙ ap₂ same_class (cell_is g d) (cell_is j b)
+              let d' : g < n = omega (arith, part_long) in
+              let b' : j < n = omega (arith, part_long) in
+              same_class-at (solid_in sh w fs) r g j i.above t (rw size-n d') (rw size-n b') ∙ ap₂ same_class (cell_is g d') (cell_is j b')
 
           here : types_in sh u r ≡ start_at s cls r
-          unfolding types_in
           here =
-              ap₂ (λ (m b : ℕ). take m (drop b u)) (sym n_is) (sym to_is) ∙ c.numbers (cls r) shares
-              ∙ ap (λ (m : ℕ). renumber eqb (map (cls r) (range 0 m))) (sym size-n)
+              replaced sh v v-held v-room r (omega arith) u N (many ∙ n_is) front ∙ c (cls r) shares
+              ∙ ap (λ (m : ℕ). renumber eqb (map (cls r) (range 0 m))) (part_long ∙ sym size-n)
               ∙ sym (start-proper s cls r i.above (rw (top_is sh (lists_of sh w)) k))
 
           types-next : (q : ℕ) → 1 ≤ q → q < r + 1 → q < sh.rank → types_in sh u q ≡ start_at s cls q
@@ -233,24 +258,18 @@ module _ (sh : Shape) (w : List ℕ) (cells : List Float) (a : Startable sh w ce
             where
               go : Dec (q ≡ r) → types_in sh u q ≡ start_at s cls q
               go (yes p) = rw p here
-              go (no p) = other q (omega arith) p ∙ i.types fs e q b (omega arith) g
+              go (no p) = stays q (omega arith) p ∙ i.types fs e q b (omega arith) g
 
         ends_next : (q : ℕ) → (q ≡ 0) ⊎ (q ≡ sh.rank) → types_in sh u q ≡ types_in sh w q
-        ends_next q (inl z) = other q (omega arith) (λ d. omega (arith, i.above)) ∙ i.ends q (inl z)
-        ends_next q (inr z) = other q (omega arith) (λ d. omega arith) ∙ i.ends q (inr z)
-
-        lists-next : lists_of sh u ≡ lists_of sh v
-        lists-next =
-            ext_get_or 0 (lists_of sh u) (lists_of sh v) (simp length-take (omega (arith, c.long)))
-            (λ j d. let b : j < sh.low = omega (arith, d, length-take sh.low u) in
-            get_or-take sh.low u j 0 b ∙ c.others j (omega arith) (inl (omega arith)) ∙ sym (get_or-take sh.low v j 0 b))
+        ends_next q (inl z) = stays q (omega arith) (λ d. omega (arith, i.above)) ∙ i.ends q (inl z)
+        ends_next q (inr z) = stays q (omega arith) (λ d. omega arith) ∙ i.ends q (inr z)
 
         pub begun-next : TypesBegun sh w u cells (r + 1)
         unfolding cls
         begun-next = record {
           above = omega arith;
-          long = c.long ∙ i.long;
-          lists = lists-next ∙ i.lists;
+          long = u-long ∙ i.long;
+          lists = lists-kept sh v v-held v-room r (omega arith) u N (many ∙ n_is) front ∙ i.lists;
           ends = ends_next;
           types = λ fs e q b d g. types-next fs e q b d g;
         }

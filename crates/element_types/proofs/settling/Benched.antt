@@ -23,7 +23,7 @@ use Rattle.element_types.proofs.Room.{sweepable}
 use Rattle.element_types.proofs.Sweeps.{sweepable_kept}
 use Rattle.element_types.specs.Start.{Startable, Begins}
 use Rattle.element_types.specs.Settle.{Settles}
-use Rattle.element_types.specs.Typed.{AtStart, Typed}
+use Rattle.element_types.specs.Typed.{AtStart, TypesMade}
 
 -- The floats from the classes on reach to the end of the floats.
 pub rest_is : (gs : List Float) (cell k : ℕ) → cell ≡ k → take (length gs - cell) (drop cell gs) ≡ drop k gs
@@ -73,7 +73,7 @@ module _ (sh : Shape) (w : List ℕ) (fs : List Float) (b : Bench sh w fs) where
 
 -- The sweeps go on from the start, and give the types.
 pub typed : (sh : Shape) (w v u : List ℕ) (fs gs : List Float) (ending : Result (Unit {0}) Refusal) → AtStart sh w v fs gs → length u ≡ length v → Settles sh v u ending
-    → Typed sh w u fs gs ending
+    → TypesMade sh w u fs gs ending
 unfolding types_of
 typed sh w v u fs gs ending b k s = record {
   lists = s.lists ∙ b.lists;

@@ -52,15 +52,6 @@ pub record Settling (sh : Shape) (w v : List ℕ) (count all k : ℕ) : Type 0 w
   pub good : (cls : Classes) → Good (abs_in sh (lists_of sh w)) cls (state_in sh w) → Good (abs_in sh (lists_of sh w)) cls (state_in sh v)
   pub rest : settle (abs_in sh (lists_of sh w)) (all - k) (state_in sh v) ≡ settle (abs_in sh (lists_of sh w)) all (state_in sh w)
 
-pub settling_first : (sh : Shape) (w : List ℕ) (count all : ℕ) → count ≡ type_count (abs_in sh (lists_of sh w)) (state_in sh w) → Settling sh w w count all 0
-settling_first sh w count all e = record {
-  long = refl;
-  lists = refl;
-  many = e;
-  good = λ cls g. g;
-  rest = ap (λ (n : ℕ). settle (abs_in sh (lists_of sh w)) n (state_in sh w)) (omega arith);
-}
-
 module _ (sh : Shape) (w : List ℕ) (cls : Classes) (a : ReachedBySteps sh w cls) where
   abbrev s : Solid
   s = abs_in sh (lists_of sh w)

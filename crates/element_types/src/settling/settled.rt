@@ -1,7 +1,7 @@
 // "Sweeps end when one leaves the number of types unchanged, the first never."
 ghost use Rattle.element_types.specs.Settle.{Started, Settles};
 
-use crate::counting::type_count;
+use crate::counting::Typed;
 use crate::sweeping::sweep;
 use ranked::Shape;
 use spec::Refusal;
@@ -13,11 +13,11 @@ pub fn settle(words: &mut [u32], sh: Shape) -> Result<(), Refusal>
     ensures { Settles sh words.old words.new result }
 {
     sweep(words, sh);
-    let mut count = type_count(words, sh);
+    let mut count = Typed { words, shape: sh }.type_count();
     let all = sh.proper() + 1;
     for _ in 0..all {
         sweep(words, sh);
-        let next = type_count(words, sh);
+        let next = Typed { words, shape: sh }.type_count();
         if next == count {
             return Ok(());
         }

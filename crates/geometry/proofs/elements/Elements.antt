@@ -3,13 +3,11 @@
 use mathlib.Core.Path.{◌≡◌, refl, sym, ap, ◌∙◌}
 use mathlib.Core.Logic.{inl, inr}
 use mathlib.Core.List.{List, [], ◌∷◌, ◌++◌, map}
-use Prim.Native.Nat.{ℕ, zero, suc, ◌+◌, ◌-◌, ◌*◌, ◌≤◌, ◌<◌}
-use native.Mathlib.Nat.{mul-le-mul_right, le_trans}
+use Prim.Native.Nat.{ℕ, zero, suc, ◌-◌, ◌*◌, ◌≤◌, ◌<◌}
 use native.Mathlib.Omega.{arith}
 use lib.ListN.{length, get_or, take, drop}
 use lib.Seq.{take_at}
 use lib.Dec.{eqb}
-use lib.Ieee.{Float}
 use Rattle.spec.specs.Lists.{In, range, holds, join, in_order}
 use Rattle.spec.specs.Types.{Solid, size, subs, reach, vertices}
 use Rattle.spec.specs.Demand.{Sound}
@@ -19,12 +17,11 @@ use Rattle.spec.specs.Classes.{point_of, distance_of}
 use Rattle.laws.proofs.Lists.{in_get_d, in_range_lem, of_range, map_same}
 use Rattle.laws.proofs.Counts.{keep_in, in_keep, holds_in}
 use Rattle.points.proofs.Parts.{part_at, parts-take}
-use Rattle.ranked.specs.declared.Shape.{Shape}
-use Rattle.ranked.specs.Words.{size_at, abs_in, Held}
-use Rattle.ranked.specs.Layout.{coordinates, solid_on}
+use Rattle.ranked.specs.declared.solid.Realized.{Realized}
+use Rattle.ranked.specs.Words.{size_at}
+use Rattle.ranked.specs.Lying.{abs_of, concrete_of}
 use Rattle.ranked.specs.Marks.{Front}
 use Rattle.ranked.proofs.Solids.{sizes_are}
-use Rattle.geometry.specs.Reading.{point_at}
 
 -- ---- vertices
 
@@ -72,35 +69,44 @@ vertex_below s r e v m = omega (arith, of_range 0 (size s 1) v (in_keep (λ u. h
 
 -- ---- what the buffer's numbers give
 
-module _ (sh : Shape) (w : List ℕ) (h : Held sh w) (fs : List Float) (r e n : ℕ) (old list : List ℕ) (f : Front (vertices (abs_in sh w) r e) old list n) where
+module _ (z : Realized) (r e n : ℕ) (old list : List ℕ) (f : Front (vertices (abs_of z.solid) r e) old list n) where
+  abbrev s : Solid
+  s = abs_of z.solid
+
   abbrev d : ℕ
-  d = sh.dimension
+  d = z.solid.shape.dimension
 
-  listed : take n list ≡ vertices (abs_in sh w) r e
-  listed = ap (take n) f.cells ∙ take_at (vertices (abs_in sh w) r e) (drop n old) n (sym f.many)
+  abbrev many : ℕ
+  many = size_at z.solid.shape 1
 
-  vertex_in : (v : ℕ) → In v (vertices (abs_in sh w) r e) → v < size_at sh 1
-  vertex_in v m = rw (sizes_are sh w h 1) at (vertex_below (abs_in sh w) r e v m)
+  abbrev point : ℕ → Vector
+  point v = take d (drop (v * d) z.floats.now)
 
-  point_is : (v : ℕ) → v < size_at sh 1 → point_at d fs v ≡ point_of (solid_on sh w fs) v
+  listed : take n list ≡ vertices s r e
+  listed = ap (take n) f.cells ∙ take_at (vertices s r e) (drop n old) n (sym f.many)
+
+  sizes : (q : ℕ) → size s q ≡ size_at z.solid.shape q
+  sizes = sizes_are z.solid.shape z.solid.lists.now z.solid.held
+
+  vertex_in : (v : ℕ) → In v (vertices s r e) → v < many
+  vertex_in v m = rw (sizes 1) at (vertex_below s r e v m)
+
+  point_is : (v : ℕ) → v < many → point v ≡ point_of (concrete_of z) v
   unfolding point_of
-  point_is v k = sym (ap (λ (ps : List Vector). get_or ps v []) (parts-take (size_at sh 1) d fs) ∙ part_at (size_at sh 1) d fs v k)
+  point_is v k = sym (ap (λ (ps : List Vector). get_or ps v []) (parts-take many d z.floats.now) ∙ part_at many d z.floats.now v k)
 
-  pub distance_is : distance d (hull_of d (map (point_at d fs) (take n list))) ≡ distance_of (solid_on sh w fs) r e
+  pub distance_is : distance d (hull_of d (map point (take n list))) ≡ distance_of (concrete_of z) r e
   unfolding distance_of
   distance_is =
       ap (λ (l : List Vector). distance d (hull_of d l))
-      (ap (map (point_at d fs)) listed ∙ map_same _ _ (vertices (abs_in sh w) r e) (λ v m. point_is v (vertex_in v m)))
+      (ap (map point) listed ∙ map_same _ _ (vertices s r e) (λ v m. point_is v (vertex_in v m)))
 
-  pub some_listed : 1 ≤ r → e < size_at sh r → 0 < length (take n list)
+  pub some_listed : 1 ≤ r → e < size_at z.solid.shape r → 0 < length (take n list)
   some_listed low i =
       let q : suc (r - 1) ≡ r = omega arith in
-      let k : e < size (abs_in sh w) (suc (r - 1)) = rw (q, sizes_are sh w h r) i in
-      let z : 0 < length (vertices (abs_in sh w) (suc (r - 1)) e) = some_vertex (abs_in sh w) h.sound h.filled (r - 1) e k in
-      rw (listed, ← q) z
+      let k : e < size s (suc (r - 1)) = rw (q, sizes r) i in
+      let some : 0 < length (vertices s (suc (r - 1)) e) = some_vertex s z.solid.held.sound z.solid.held.filled (r - 1) e k in
+      rw (listed, ← q) some
 
-  pub point_lies : coordinates sh ≤ length fs → (j : ℕ) → j < length (take n list) → (get_or (take n list) j 0 + 1) * d ≤ length fs
-  point_lies room j k =
-      let m : In (get_or (take n list) j 0) (vertices (abs_in sh w) r e) = rw listed (in_get_d 0 (vertices (abs_in sh w) r e) j (rw listed at k)) in
-      let c : get_or (take n list) j 0 + 1 ≤ size_at sh 1 = omega (arith, vertex_in (get_or (take n list) j 0) m) in
-      le_trans (mul-le-mul_right d c) room
+  pub listed_in : (j : ℕ) → j < length (take n list) → get_or (take n list) j 0 < many
+  listed_in j k = vertex_in _ (rw listed (in_get_d 0 (vertices s r e) j (rw listed at k)))

@@ -5,7 +5,10 @@ use mathlib.Core.List.{List, [], ◌∷◌, ◌++◌, map, append-nil, append_as
 use Prim.Native.Nat.{ℕ, zero, suc, ◌+◌, ◌-◌, ◌≤◌, ◌<◌}
 use native.Mathlib.Numerals.{add-one}
 use native.Mathlib.Omega.{arith}
-use lib.ListN.{length, take, drop, length-append}
+use lib.ListN.{length, take, drop, set, length-append}
+use lib.Seq.{take_all, take_at, take-take, take-suc-set, drop_at, drop-drop, length-take-le}
+use Rattle.std.proofs.lemmas.List.{take-append-le}
+use borrow.Rule.Slice.PartMut.{post_of, put_mid}
 use lib.Ieee.{Float}
 use Rattle.spec.specs.Lists.{range, join}
 use Rattle.spec.specs.Types.{size, proper_ranks}
@@ -15,86 +18,48 @@ use Rattle.spec.specs.Classes.{distance_of, distances}
 use Rattle.laws.proofs.Lists.{length_table}
 use Rattle.float.proofs.Written.{range_snoc}
 use Rattle.ranked.specs.declared.Shape.{Shape}
-use Rattle.ranked.specs.Words.{first_at, size_at, abs_in, Held}
-use Rattle.ranked.specs.Layout.{proper, before, coordinates, classes_at, solid_on}
+use Rattle.ranked.specs.declared.solid.Solid as declared
+use Rattle.ranked.specs.declared.solid.Realized.{Realized}
+use Rattle.ranked.specs.Words.{first_at, size_at, abs_in}
+use Rattle.ranked.specs.Layout.{proper, coordinates, classes_at, solid_on}
+use Rattle.ranked.specs.Layout.{before as before_at}
+use Rattle.ranked.specs.Lying.{abs_of, concrete_of}
 use Rattle.ranked.proofs.Solids.{top_is, sizes_are, in_order_lem}
-use Rattle.geometry.specs.Listed.{rank_distances, ListGrown, Classable, Classed}
-use Rattle.geometry.proofs.elements.Grown.{grown_none, grown_more}
+use Rattle.geometry.specs.declared.classes.ListedValue.{ListedValue}
+use Rattle.geometry.specs.Classes.{Takes}
+use Rattle.geometry.specs.Listed.{rank_distances, ListGrown, Classed}
+use Rattle.geometry.proofs.elements.Grown.{grown_none, grown_one, grown_more}
 
 -- ---- a rank's elements
 
--- A rank's loop knows these bounds of the offsets.
-module _ {sh : Shape} {w : List ℕ} {floats : List Float} {n r : ℕ} (a : Classable sh w floats n r) where
-  start-below : first_at sh 1 ≤ first_at sh r
-  start-below = in_order_lem sh w a.held 1 r a.low (omega (arith, a.high))
-
-  some_here : first_at sh r < first_at sh (suc r)
-  some_here = a.held.some r (omega (arith, a.high))
-
-  end_below : first_at sh (suc r) ≤ first_at sh sh.rank
-  end_below = in_order_lem sh w a.held (suc r) sh.rank (omega (arith, a.high)) (omega arith)
-
 -- The first e elements of rank r were taken.
-pub record RankTurn (sh : Shape) (w : List ℕ) (floats₀ : List Float) (n r from cell done many : ℕ) (floats : List Float) (m e : ℕ) : Type 0 where
-  pub from_is : from ≡ coordinates sh
-  pub cell_is : cell ≡ classes_at sh
-  pub done_is : done ≡ before sh r
-  pub many_is : many ≡ size_at sh r
-  pub bound : e ≤ many
-  pub grown : ListGrown from cell done floats₀ floats n m (map (distance_of (solid_on sh w floats₀) r) (range 0 e))
+pub record RankTurn (z : Realized) (r : ℕ) (before after : List Float) (n m : ℕ) (cells : List Float) (e : ℕ) : Type 0 where
+  pub grown : ListGrown before after n m (map (distance_of (concrete_of z) r) (range 0 e)) (take e cells)
 
-pub first_turn : (sh : Shape) (w : List ℕ) (floats : List Float) (n r from cell done many : ℕ) → from ≡ coordinates sh → cell ≡ classes_at sh → done ≡ before sh r + 0
-    → many ≡ size_at sh r → RankTurn sh w floats n r from cell done many floats n 0
+pub first_turn : {z : Realized} {r n : ℕ} {listed cells : List Float} → RankTurn z r listed listed n n cells 0
 unfolding range
-first_turn sh w floats n r from cell done many f c d s = record {
-  from_is = f;
-  cell_is = c;
-  done_is = omega arith;
-  many_is = s;
-  bound = omega arith;
-  grown = grown_none from cell done floats n;
-}
+first_turn {n = n} {listed = listed} = record { grown = grown_none listed n }
 
-module _ {sh : Shape} {w : List ℕ} {floats₀ : List Float} {n r from cell done many : ℕ} {floats : List Float} {m e : ℕ}
-    (t : RankTurn sh w floats₀ n r from cell done many floats m e) (a : Classable sh w floats₀ n r) where
-  taken : length (map (distance_of (solid_on sh w floats₀) r) (range 0 e)) ≡ e
-  taken = length_table (distance_of (solid_on sh w floats₀) r) e
-
-  in_rank : e < many → e < size_at sh r
-  in_rank h = omega (arith, t.many_is)
-
-  here : e < many → before sh r + e < proper sh
-  here h = let s = some_here a in let q = start-below a in let p = end_below a in omega (arith, in_rank h)
-
-  pub apart : e < many → from + m < cell
-  apart h = omega (arith, here h, t.from_is, t.cell_is, t.grown.few, taken, a.few)
-
-  pub inside : e < many → cell + (done + e) < length floats
-  inside h = omega (arith, here h, t.cell_is, t.done_is, t.grown.long, a.room)
+module _ {z : Realized} {r : ℕ} {before after : List Float} {n m : ℕ} {cells : List Float} {e : ℕ} (t : RankTurn z r before after n m cells e) where
+  pub turn_few : m ≤ n + e
+  turn_few = omega (arith, t.grown.few, length_table (distance_of (concrete_of z) r) e)
 
   -- One element more is taken.
-  pub next_turn : e < many → (x : Float) → x ≡ distance_of (solid_on sh w floats) r e
-      → (new : List Float) (p : ℕ) → ListGrown from cell (done + e) floats new m p (x ∷ []) → RankTurn sh w floats₀ n r from cell done many new p (e + 1)
-  next_turn h x q new p g =
-      let f = distance_of (solid_on sh w floats₀) r in
-      let k : take (coordinates sh) floats ≡ take (coordinates sh) floats₀ = rw t.from_is at t.grown.same in
-      let y : x ≡ f e = q ∙ rw k in
-      let s : map f (range 0 e) ++ (x ∷ []) ≡ map f (range 0 (e + 1)) =
-      ap (λ (z : Float). map f (range 0 e) ++ (z ∷ [])) y ∙ range_snoc f 0 e e (omega arith) ∙ ap (λ (i : ℕ). map f (range 0 i)) (sym (add-one e)) in
-      record {
-        from_is = t.from_is;
-        cell_is = t.cell_is;
-        done_is = t.done_is;
-        many_is = t.many_is;
-        bound = omega arith;
-        grown = rw s at (grown_more t.grown (omega (arith, taken)) g);
-      }
+  pub next_turn : e < length cells → {x : Float} → x ≡ distance_of (concrete_of z) r e → {new : List Float} {v : ListedValue} → Takes after new m x v
+      → RankTurn z r before new n v.count (set cells e v.value) (e + 1)
+  next_turn h {x} q {new} {v} took =
+      let f = distance_of (concrete_of z) r in
+      let xs : map f (range 0 e) ++ (x ∷ []) ≡ map f (range 0 (e + 1)) =
+      ap (λ (y : Float). map f (range 0 e) ++ (y ∷ [])) q ∙ range_snoc f 0 e e (omega arith) ∙ ap (λ (i : ℕ). map f (range 0 i)) (sym (add-one e)) in
+      let vs : take e cells ++ (v.value ∷ []) ≡ take (e + 1) (set cells e v.value) = sym (rw add-one (take-suc-set cells e v.value h)) in
+      record { grown = rw (xs, vs) at (grown_more t.grown (grown_one took)) }
 
-  pub last_turn : many ≤ e → ListGrown (coordinates sh) (classes_at sh) (before sh r) floats₀ floats n m (rank_distances (solid_on sh w floats₀) r)
+  pub last_turn : r ≤ z.solid.shape.rank → length cells ≡ size_at z.solid.shape r → e ≤ length cells → length cells ≤ e
+      → ListGrown before after n m (rank_distances (concrete_of z) r) cells
   unfolding rank_distances
-  last_turn h =
-      let i : e ≡ size (abs_in sh w) r = omega (arith, t.bound, t.many_is, sizes_are sh w a.held r) in
-      rw (i, t.from_is, t.cell_is, t.done_is) at t.grown
+  last_turn h s low high =
+      let many : e ≡ size (abs_in z.solid.shape z.solid.lists.now) r = omega (arith, s, sizes_are z.solid.shape z.solid.lists.now z.solid.held r) in
+      rw (take_all e cells high, many) at t.grown
 
 -- ---- the proper ranks
 
@@ -118,70 +83,94 @@ below_none : (c : Concrete) → below c 1 ≡ []
 unfolding below range join
 below_none c = refl
 
-below_all : (sh : Shape) (w : List ℕ) (fs : List Float) (r : ℕ) → r - 1 ≡ sh.rank - 1 → below (solid_on sh w fs) r ≡ distances (solid_on sh w fs)
-unfolding below rank_distances distances proper_ranks
-below_all sh w fs r e = rw (top_is sh w, e)
+module _ (s : declared.Solid) (fs : List Float) where
+  abbrev sh : Shape
+  sh = s.shape
 
-rank-length : (sh : Shape) (w : List ℕ) (h : Held sh w) (fs : List Float) (r : ℕ) → length (rank_distances (solid_on sh w fs) r) ≡ size_at sh r
-unfolding rank_distances
-rank-length sh w h fs r = length_table (distance_of (solid_on sh w fs) r) (size (abs_in sh w) r) ∙ sizes_are sh w h r
+  abbrev c : Concrete
+  c = solid_on s.shape s.lists.now fs
 
--- The ranks below r were taken. Where R = 0 there is none, and r is 1 all the same.
-pub record Round (sh : Shape) (w : List ℕ) (floats₀ floats : List Float) (n r : ℕ) : Type 0 where
-  pub low : 1 ≤ r
-  pub high : r - 1 ≤ sh.rank - 1
-  pub many : length (below (solid_on sh w floats₀) r) ≡ before sh r
-  pub grown : ListGrown (coordinates sh) (classes_at sh) 0 floats₀ floats 0 n (below (solid_on sh w floats₀) r)
+  below_all : (r : ℕ) → r - 1 ≡ sh.rank - 1 → below c r ≡ distances c
+  unfolding below rank_distances distances proper_ranks
+  below_all r e = rw (top_is sh s.lists.now, e)
 
-pub first_round : (sh : Shape) (w : List ℕ) (floats : List Float) → Round sh w floats floats 0 1
-first_round sh w floats =
-    let e = below_none (solid_on sh w floats) in
-    record {
-      low = omega arith;
-      high = omega arith;
-      many = rw e (omega arith);
-      grown = rw e (grown_none (coordinates sh) (classes_at sh) 0 floats 0);
-    }
+  rank-length : (r : ℕ) → length (rank_distances c r) ≡ size_at sh r
+  unfolding rank_distances
+  rank-length r = length_table (distance_of c r) (size (abs_of s) r) ∙ sizes_are sh s.lists.now s.held r
 
-module _ {sh : Shape} {w : List ℕ} {floats₀ floats : List Float} {n r : ℕ} (t : Round sh w floats₀ floats n r) (h : Held sh w) where
-  pub next_round : r < sh.rank → (new : List Float) (p : ℕ)
-      → ListGrown (coordinates sh) (classes_at sh) (before sh r) floats new n p (rank_distances (solid_on sh w floats) r) → Round sh w floats₀ new p (r + 1)
-  next_round k new p g =
-      let c = solid_on sh w floats₀ in
-      let s = below_next c r t.low in
-      let f : ListGrown (coordinates sh) (classes_at sh) (before sh r) floats new n p (rank_distances c r) = rw t.grown.same at g in
-      let l = rank-length sh w h floats₀ r in
-      let a = in_order_lem sh w h 1 r t.low (omega arith) in
-      let b = h.some r (omega arith) in
+  -- The ranks below r were taken. Where R = 0 there is none, and r is 1 all the same.
+  pub record Round (before after : List Float) (n : ℕ) (cells : List Float) (r : ℕ) : Type 0 where
+    pub low : 1 ≤ r
+    pub high : r - 1 ≤ sh.rank - 1
+    pub many : length (below c r) ≡ before_at sh r
+    pub grown : ListGrown before after 0 n (below c r) (take (before_at sh r) cells)
+
+  pub first_round : (listed cells : List Float) → Round listed listed 0 cells 1
+  first_round listed cells =
+      let e = below_none c in
+      let z : before_at sh 1 ≡ 0 = omega arith in
       record {
         low = omega arith;
         high = omega arith;
-        many = rw (← s, add-one r) (omega (arith, length-append (below c r) (rank_distances c r), t.many));
-        grown = rw s at (grown_more t.grown (omega (arith, t.many)) f);
+        many = rw (e, z);
+        grown = rw (e, z) (grown_none listed 0);
       }
 
-  -- All proper elements lie below the rank after the last proper one.
-  all-before : sh.rank ≤ r → before sh r ≡ proper sh
-  all-before k = go sh.rank refl
-    where
-      go : (R : ℕ) → sh.rank ≡ R → before sh r ≡ proper sh
-      go zero e =
-          let f : r ≡ 1 = omega (arith, t.low, t.high) in
-          rw (f, e) (omega (arith, h.start))
-      go (suc q) e = let f : r ≡ sh.rank = omega (arith, t.low, t.high) in rw f
+  module _ {before after : List Float} {n : ℕ} {cells : List Float} {r : ℕ} (t : Round before after n cells r) where
+    -- A proper rank's elements lie among the proper elements.
+    module _ (k : r < sh.rank) (at many : ℕ) (e : at ≡ before_at sh r + 0) (m : many ≡ size_at sh r) where
+      pub rank_in : at + many ≤ proper sh
+      rank_in =
+          let a = in_order_lem sh s.lists.now s.held 1 r t.low (omega arith) in
+          let b = s.held.some r (omega arith) in
+          let d = in_order_lem sh s.lists.now s.held (suc r) sh.rank k (omega arith) in
+          omega arith
 
-  -- When all ranks' distances were taken, the whole solid is classed.
-  pub last_round : sh.rank ≤ r → Classed sh w floats₀ floats n
-  unfolding classes
-  last_round k =
-      let ds = distances (solid_on sh w floats₀) in
-      let e = below_all sh w floats₀ r (omega (arith, t.low, t.high)) in
-      let q : proper sh ≡ 0 + length ds = omega (arith, ap length e, t.many, all-before k) in
-      let g : ListGrown (coordinates sh) (classes_at sh) 0 floats₀ floats 0 n ds = rw e at t.grown in
-      record {
-        same = g.same;
-        long = g.long;
-        few = omega (arith, g.few);
-        list = g.list;
-        cells = ap (λ (i : ℕ). take i (drop (classes_at sh) floats)) q ∙ g.cells;
-      }
+      pub next_round : {new part : List Float} {p : ℕ} → ListGrown after new n p (rank_distances c r) part → length part ≡ many → at + many ≤ length cells
+          → Round before new p (put_mid at (at + many - at) cells part) (r + 1)
+      next_round {new} {part} {p} g long room =
+          let f = below_next c r t.low in
+          let l = rank-length r in
+          let a = in_order_lem sh s.lists.now s.held 1 r t.low (omega arith) in
+          let b = s.held.some r (omega arith) in
+          let to : at ≡ before_at sh r = omega arith in
+          let size : length (take at cells ++ part) ≡ before_at sh (r + 1) = rw (length-append, add-one) (omega (arith, length-take-le at cells (omega arith))) in
+          let front : take at cells ++ part ≡ take (before_at sh (r + 1)) (put_mid at (at + many - at) cells part) =
+          sym (ap (take (before_at sh (r + 1))) (sym (append_assoc (take at cells) part (post_of at (at + many - at) cells))) ∙ take_at (take at cells ++ part) _ (before_at sh (r + 1)) size) in
+          record {
+            low = omega arith;
+            high = omega arith;
+            many = rw (← f, add-one) (omega (arith, length-append (below c r) (rank_distances c r), t.many));
+            grown = rw (f, front) at (grown_more (rw (← to) at t.grown) g);
+          }
+
+    -- All proper elements lie below the rank after the last proper one.
+    all-before : sh.rank ≤ r → before_at sh r ≡ proper sh
+    all-before k = go sh.rank refl
+      where
+        go : (R : ℕ) → sh.rank ≡ R → before_at sh r ≡ proper sh
+        go zero e =
+            let f : r ≡ 1 = omega (arith, t.low, t.high) in
+            omega (arith, ap (first_at sh) f, ap (first_at sh) e, s.held.start)
+        go (suc q) e = let f : r ≡ sh.rank = omega (arith, t.low, t.high) in ap (before_at sh) f
+
+    -- When all ranks' distances were taken, the whole solid is classed. The coordinates, the list and the classes stand one after another.
+    pub last_round : sh.rank ≤ r → {old new : List Float} → fs ≡ take (coordinates sh) old → length fs ≡ coordinates sh → length after ≡ proper sh
+        → new ≡ fs ++ (after ++ cells) → length new ≡ length old → Classed sh s.lists.now old new n
+    unfolding classes
+    last_round k {old} {new} front wide room is long =
+        let ds = distances (solid_on sh s.lists.now old) in
+        let same : c ≡ solid_on sh s.lists.now old = rw (front, take-take (coordinates sh) (coordinates sh) old (omega arith)) in
+        let e : below c r ≡ ds = below_all r (omega (arith, t.low, t.high)) ∙ ap distances same in
+        let b = all-before k in
+        let few : n ≤ proper sh = omega (arith, t.grown.few, t.many, b) in
+        let g : ListGrown before after 0 n ds (take (proper sh) cells) = rw (e, b) at t.grown in
+        let past : drop (coordinates sh) new ≡ after ++ cells = ap (drop (coordinates sh)) is ∙ drop_at fs (after ++ cells) (coordinates sh) wide in
+        let last : drop (classes_at sh) new ≡ cells = sym (drop-drop (proper sh) (coordinates sh) new) ∙ ap (drop (proper sh)) past ∙ drop_at after cells (proper sh) room in
+        record {
+          same = ap (take (coordinates sh)) is ∙ take_at fs (after ++ cells) (coordinates sh) wide ∙ front;
+          long = long;
+          few = few;
+          list = ap (take n) past ∙ take-append-le n after cells (omega (arith, room, few)) ∙ g.list;
+          cells = ap (take (proper sh)) last ∙ g.taken;
+        }

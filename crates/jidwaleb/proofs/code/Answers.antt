@@ -16,4 +16,4 @@ returns-in-Ok c = omega (arith, ap code_of c.in-Ok.is)
 
 pub returns-in-Err : goal.returns-in-Err
 returns-in-Err c =
-    ap (λ (x : ℕ). x * 2 ^ 32 + c.in-Err.refused.kept) c.number-refusal.ensures ∙ sym (ap code_of c.in-Err.is)
+    ap (λ (x : ℕ). x * 2 ^ 32 + c.in-Err.refused.kept) (c.from-refusal.ensures ∙ c.number.ensures) ∙ sym (ap code_of c.in-Err.is)

@@ -1,12 +1,22 @@
 -- There are as many, and all of them land.
 -- Assumes nothing.
-use mathlib.Core.Path.{sym, ◌∙◌}
+use Rattle.std.proofs.Common.{rules, tests, ◌∙◌, get_or, eqb}
 use borrow.Author.Tests.{ne_eqb}
+use Rattle.spec.specs.Lists.{holds}
+use Rattle.ranked.proofs.Chains.{all_members, serves_members}
 use Rattle.marks.proofs.Found.{onto_not, onto_is}
 use Rattle.marks.proofs.is_onto.Goals as goal
 
-pub returns-then-count_at : goal.returns-then-count_at
-returns-then-count_at c = onto_is _ _ _ (sym c.count_at.ensures ∙ c.if-count_at.true ∙ c.count_at-2.ensures) _ c.lands.ensures
+pub all-requires-clause-callable : goal.all-requires-clause-callable
+all-requires-clause-callable c =
+    serves_members c.args.from.now (cc) (λ f q k. search (rules, tests)) (λ f m.
+    let in_cells = c.requires f.now m in search (rules, tests))
 
-pub returns-else-count_at : goal.returns-else-count_at
-returns-else-count_at c = ne_eqb _ _ c.if-count_at.false ∙ onto_not _ _ _ (λ q. c.if-count_at.false (c.count_at.ensures ∙ q ∙ sym c.count_at-2.ensures))
+pub returns-then-from-to : goal.returns-then-from-to
+returns-then-from-to c =
+    let a = c.args in
+    onto_is _ _ _ c.if-from-to.true _
+    (all_members (λ f. holds eqb (get_or a.goes.now f 0) a.to.now) a.from.now (cc) c.all.ensures.ran (λ f t q k. search (rules, tests)))
+
+pub returns-else-from-to : goal.returns-else-from-to
+returns-else-from-to c = ne_eqb _ _ c.if-from-to.false ∙ onto_not _ _ _ c.if-from-to.false

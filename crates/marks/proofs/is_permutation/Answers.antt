@@ -1,5 +1,5 @@
 use Rattle.spec.specs.Limits.{max_count}
-use Rattle.marks.proofs.Rows.{seen_none, seen_next, seen_high, seen_twice, seen_all}
+use Rattle.marks.proofs.Rows.{seen_none, seen_high, seen_twice, seen_all}
 use Rattle.marks.proofs.is_permutation.Goals.{then-row-v-via-then-row-v, then-row-v-via-else-row-v+then-seen-v}
 use Rattle.marks.proofs.is_permutation.Goals as goal
 
@@ -12,9 +12,6 @@ returns-then-row-v c =
       | then-row-v-via-then-row-v w ↦ seen_high c.loop-v.invariant _ c.from-v.ensures c.loop-v-test.true w.if-row-v.true
       | then-row-v-via-else-row-v+then-seen-v w ↦ seen_twice c.loop-v.invariant _ c.from-v.ensures c.loop-v-test.true w.if-seen-v.true
     ]
-
-pub loop-v-preserved : goal.loop-v-preserved
-loop-v-preserved c = seen_next c.loop-v.invariant _ c.from-v.ensures c.loop-v-test.true c.if-row-v.false c.if-seen-v.false
 
 pub returns : goal.returns
 returns c = seen_all c.loop-v.invariant c.loop-v-test.false

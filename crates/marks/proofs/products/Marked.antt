@@ -1,96 +1,66 @@
--- The marks of the rows are written one after another, each in the part after those that are written.
+-- All rows have their marks once each has been written, and there is room for where all elements go.
 -- Assumes nothing.
-use mathlib.Core.Path.{◌≡◌, refl, ap, ◌∙◌}
-use Prim.Native.Nat.{ℕ, ◌+◌, ◌*◌, ◌≤◌, ◌<◌}
-use mathlib.Core.List.{List, [], ◌∷◌, ◌++◌, map-append, append-nil, append_assoc}
-use native.Mathlib.Numerals.{add-one}
+use mathlib.Core.Path.{◌≡◌, refl, sym, ap, ◌∙◌}
+use Prim.Native.Nat.{ℕ, zero, suc, ◌+◌, ◌*◌, ◌≤◌, ◌<◌}
+use mathlib.Core.List.{List, []}
 use native.Mathlib.Nat.{le_refl}
 use native.Mathlib.Omega.{arith}
-use lib.ListN.{length, take, drop, set, length-map, length-append, drop_of_length-le}
-use lib.Seq.{take_at, length-take-le, drop-cons, set-append_seam}
-use lib.Ieee.{Float}
-use Rattle.spec.specs.Lists.{parts, written}
+use lib.ListN.{length, length-map}
+use lib.Seq.{ext_get_or}
+use Rattle.spec.specs.Limits.{max_count, max_elements}
+use Rattle.spec.specs.Lists.{parts}
+use Rattle.spec.specs.Types.{size}
 use Rattle.spec.specs.Search.{mark_of}
 use Rattle.spec.specs.Demand3Calls.{row_at}
-use Rattle.points.proofs.Parts.{length-parts, parts_more, part_end}
+use Rattle.laws.proofs.Lists.{get_or-map}
+use Rattle.points.proofs.Parts.{length-parts, part_at}
 use Rattle.ranked.specs.declared.Shape.{Shape}
-use Rattle.ranked.specs.Words.{size_at, abs_in, Held}
-use Rattle.ranked.specs.Layout.{solid_on}
-use Rattle.marks.specs.Rows.{classes_on}
-use Rattle.marks.specs.Marking.{marks_in, Factored}
-use Rattle.marks.proofs.products.Factors.{row_long, factored_one}
+use Rattle.ranked.specs.declared.solid.Solid as declared
+use Rattle.ranked.specs.Words.{first_at, size_at, total, abs_in, Held}
+use Rattle.ranked.specs.Lying.{abs_of}
+use Rattle.ranked.proofs.Solids.{top_is, size_is}
+use Rattle.marks.specs.declared.Markable.{Markable}
+use Rattle.marks.specs.Carrying.{concrete_in, classes_of}
+use Rattle.marks.specs.Marking.{marks_in, MarkedTo}
 
--- Where xs stands at the front of a list, the cell after it is set, and then xs has one more.
-cell_written : {A : Type 0} (xs : List A) (x : A) (old : List A) → length xs < length old → set (written xs old) (length xs) x ≡ written (xs ++ x ∷ []) old
-unfolding written
-cell_written xs x old h =
-    rw (drop-cons old (length xs) x h, set-append_seam, length-append, add-one, append_assoc)
+pub marks_are : (m : Markable) (v n : ℕ) (rows marks : List ℕ) → length marks ≡ n → MarkedTo m v rows marks n → marks ≡ marks_in (concrete_in m) (parts n v rows)
+unfolding row_at
+marks_are m v n rows marks l all =
+    let mark = mark_of (abs_of m.solid) (classes_of m) in
+    let long : length (parts n v rows) ≡ n = length-parts n v rows in
+    ext_get_or 0 marks (marks_in (concrete_in m) (parts n v rows)) (l ∙ sym (length-map (parts n v rows) mark ∙ long))
+    (λ j k. all j (omega arith) ∙ sym (get_or-map mark [] 0 (parts n v rows) j (omega arith) ∙ ap mark (part_at n v rows j (omega arith))))
 
-module _ (sh : Shape) (w : List ℕ) (fs : List Float) (rows : List ℕ) where
-  -- This is the mark of a row, that of row k, and the marks of the first k rows.
-  abbrev mark : List ℕ → ℕ
-  mark = mark_of (abs_in sh w) (classes_on sh w fs)
+-- ---- the number of elements
 
-  abbrev mark_at : ℕ → ℕ
-  mark_at k = mark (row_at (size_at sh 1) k rows)
+module _ (s : declared.Solid) where
+  abbrev sh : Shape
+  sh = s.shape
 
-  abbrev marks_to : ℕ → List ℕ
-  marks_to k = marks_in (solid_on sh w fs) (parts k (size_at sh 1) rows)
+  abbrev w : List ℕ
+  w = s.lists.now
 
-  pub marks_long : (k : ℕ) → length (marks_to k) ≡ k
-  marks_long k = length-map (parts k (size_at sh 1) rows) mark ∙ length-parts k (size_at sh 1) rows
+  h : Held sh w
+  h = s.held
 
-  marks_more : (k : ℕ) → marks_to (k + 1) ≡ marks_to k ++ mark_at k ∷ []
-  unfolding row_at
-  marks_more k = rw (add-one k, parts_more k (size_at sh 1) rows, map-append)
+  first_one : first_at sh 1 ≡ 1
+  first_one =
+      let n : size_at sh 0 ≡ 1 = sym (size_is sh w 0 (omega arith)) ∙ ap length h.sound.least in
+      omega (arith, n, h.start)
 
-  -- ---- one row, where the program has v for its length
+  below_few : (k : ℕ) → k < sh.rank → first_at sh (suc k) ≤ 1 + k * max_count
+  below_few zero l = omega (arith, first_one)
+  below_few (suc k) l = omega (arith, below_few k (omega arith), h.few (suc k) (omega arith))
 
-  module _ (v k : ℕ) (v_is : v ≡ size_at sh 1) (room : k * size_at sh 1 + size_at sh 1 ≤ length rows) where
-    pub row_in : k * v + v ≤ length rows
-    row_in = rw v_is room
-
-    -- A product of two confirmed rows is confirmed.
-    pub row_known : Held sh w → (done : List ℕ) → length done ≡ k → done ≡ marks_to (length done) → Factored v rows done → 1 ≡ mark_at k
-    row_known h done l all f =
-        rw l at (factored_one (abs_in sh w) (classes_on sh w fs) (size_at sh 1) rows done all h.sound (rw v_is at f))
-
-    module _ (row : List ℕ) (is : row ≡ row_at v k rows) where
-      -- It has an entry for each vertex.
-      pub row-full : length row ≡ size_at sh 1
-      row-full = ap length is ∙ row_long v k rows row_in ∙ v_is
-
-      pub row-mark : (m : ℕ) → m ≡ mark row → m ≡ mark_at k
-      row-mark m e = rw v_is at (e ∙ ap mark is)
-
-  -- ---- all rows
-
-  -- The loops' invariant is that the first k marks are written over the front of those that were there.
-  abbrev pub MarkedTo : List ℕ → List ℕ → ℕ → Type 0
-  MarkedTo marks₀ marks k = marks ≡ written (marks_to k) marks₀
-
-  pub loop_first : (marks₀ : List ℕ) → MarkedTo marks₀ marks₀ 0
-  unfolding parts written
-  loop_first marks₀ = refl
-
-  pub loop_end : (marks₀ marks : List ℕ) (k : ℕ) → MarkedTo marks₀ marks k → k ≡ length marks₀ → marks ≡ marks_to (length marks₀)
-  unfolding written
-  loop_end marks₀ marks k i e =
-      let none : drop (length (marks_to (length marks₀))) marks₀ ≡ [] =
-      drop_of_length-le marks₀ {i = length (marks_to (length marks₀))} (rw (marks_long (length marks₀)) (le_refl (length marks₀))) in
-      rw e at i ∙ ap (λ (l : List ℕ). marks_to (length marks₀) ++ l) none ∙ append-nil (marks_to (length marks₀))
-
-  -- The next row lies within the rows.
-  pub next_in : (k n : ℕ) → k < n → n * size_at sh 1 ≤ length rows → k * size_at sh 1 + size_at sh 1 ≤ length rows
-  next_in k n more room = omega (arith, part_end n (size_at sh 1) k more)
-
-  module _ (marks₀ marks : List ℕ) (k : ℕ) (i : MarkedTo marks₀ marks k) where
-    -- The marks before are those of the rows before.
-    pub done_are : k ≤ length marks → take k marks ≡ marks_to (length (take k marks))
-    unfolding written
-    done_are h = rw (length-take-le k marks h) (ap (take k) i ∙ take_at (marks_to k) _ k (marks_long k))
-
-    pub loop_next : k < length marks₀ → (m : ℕ) → m ≡ mark_at k → MarkedTo marks₀ (set marks k m) (k + 1)
-    loop_next more m e =
-        let c = rw (marks_long k) at (cell_written (marks_to k) (mark_at k) marks₀ (rw (marks_long k) more)) in
-        rw (marks_more k, e, i) c
+  -- There is room for where all elements go.
+  pub elements_few : total sh ≤ max_elements
+  elements_few = go sh.rank refl
+    where
+      go : (R : ℕ) → sh.rank ≡ R → total sh ≤ max_elements
+      go zero e =
+          let t : total sh ≡ first_at sh 1 = ap (λ (r : ℕ). first_at sh (suc r)) e in
+          omega (arith, t, first_one)
+      go (suc q) e =
+          let f : first_at sh sh.rank ≡ first_at sh (suc q) = ap (λ (r : ℕ). first_at sh r) e in
+          let n : size_at sh sh.rank ≡ 1 = sym (size_is sh w sh.rank (le_refl sh.rank)) ∙ ap (size (abs_in sh w)) (sym (top_is sh w)) ∙ h.sound.one in
+          omega (arith, f, n, below_few q (omega arith), h.tall)

@@ -1,86 +1,48 @@
 -- The element's subs are read, its first sub's image, and the elements over that.
 -- Assumes nothing.
-use native.Mathlib.Omega.{arith}
-use native.Mathlib.Numerals.{add-one}
-use mathlib.Core.Path.{◌≡◌}
-use Prim.Native.Nat.{ℕ, suc, ◌+◌, ◌<◌}
-use lib.ListN.{length, get_or}
-use Rattle.ranked.specs.Words.{first_at, list_at, subs_word}
-use Rattle.ranked.proofs.Solids.{subs_lie}
-use Rattle.ranked.proofs.Turns.{entry_in}
-use Rattle.marks.proofs.Found.{some_sub, sub-cell, over_lie, each_lie, rises}
-use Rattle.marks.proofs.rise.Goals.{After-from-y, After-entry_at-f, Start}
+use Rattle.std.proofs.Common.{rules, tests, arith, ◌≡◌, ◌∙◌, ◌+◌, ◌<◌, length, get_or, option_map}
+use Rattle.std.proofs.lemmas.Iterator.{YieldsList-from_slice}
+use Rattle.std.proofs.lemmas.Iterator.Search.{find_from_yields_List}
+use Rattle.spec.specs.Lists.{In}
+use Rattle.spec.specs.Types.{subs}
+use Rattle.ranked.specs.Words.{size_at}
+use Rattle.ranked.specs.Lying.{abs_of}
+use Rattle.ranked.proofs.Chains.{serves_members}
+use Rattle.marks.specs.Rises.{onto}
+use Rattle.marks.proofs.Found.{rises, some_sub, sub_low, first_low, over-low}
+use Rattle.marks.proofs.rise.Goals.{After-subs-subs}
 use Rattle.marks.proofs.rise.Goals as goal
 
--- The subs of an element of the rank above stand at the word that the program has for them.
-word : (s : Start) (g : ℕ) → subs_word (first_at s.args.sh (s.args.r + 1)) g ≡ subs_word (first_at s.args.sh (suc s.args.r)) g
-word s g = rw (add-one s.args.r)
+first : (c : After-subs-subs) → get_or c.subs-subs.result.now 0 0 < size_at c.args.solid.now.shape c.args.r
+first c = first_low c.args.solid.now c.args.r c.args.e c.requires.r_bound.0 c.requires.r_bound.1 _ c.subs-subs.ensures
 
--- The element's first sub has a cell.
-first : (c : After-entry_at-f) → let a = c.args in c.entry_at-f.result ≡ get_or (list_at a.lists.now (subs_word (first_at a.sh (suc a.r)) a.e)) 0 0
-first c = rw (c.subs-i.ensures, word (goal.at.overflow_add-base c).Start c.args.e) at c.entry_at-f.ensures
+pub bounds-subs-0 : goal.bounds-subs-0
+bounds-subs-0 c = some_sub c.args.solid.now c.args.r c.args.e c.requires.r_bound.0 c.requires.r_bound.1 _ c.subs-subs.ensures
 
-lies : (c : After-entry_at-f) → let a = c.args in first_at a.sh a.r + c.entry_at-f.result < length a.goes.now
-lies c =
+pub bounds-goes-subs : goal.bounds-goes-subs
+bounds-goes-subs c = omega (arith, first (goal.at.bounds-goes-subs c).After-subs-subs, c.requires.r_bound.2)
+
+pub sups-requires : goal.sups-requires
+sups-requires c =
+    let low = c.requires.by_index _ (first (goal.at.sups-requires c).After-subs-subs) in
+    (omega (arith, c.requires.r_bound.0), rw c.from-y.ensures low)
+
+pub find-requires-clause-callable : goal.find-requires-clause-callable
+find-requires-clause-callable c =
     let a = c.args in
+    let s = a.solid.now in
     let p = c.requires.r_bound in
-    sub-cell a.sh a.lists.now c.requires.held a.goes.now a.r a.e p.0 p.1 p.2 c.requires.by_index c.entry_at-f.result
-    (entry_in (list_at a.lists.now (subs_word (first_at a.sh (suc a.r)) a.e)) 0 _ (some_sub a.sh a.lists.now c.requires.held a.goes.now a.r a.e p.0 p.1 p.2 c.requires.by_index) (first c))
-
--- It goes where its cell says.
-goes : (c : After-from-y) → let a = c.args in c.from-y.result ≡ get_or a.goes.now (first_at a.sh a.r + c.entry_at-f.result) 0
-goes c = rw c.start-base.ensures at c.from-y.ensures
-
-pub subs-i-requires : goal.subs-i-requires
-subs-i-requires c =
-    let a = c.args in
-    (omega (arith, c.requires.r_bound.0, c.requires.held.tall), omega (arith, (subs_lie a.sh a.lists.now c.requires.held (suc a.r) a.e c.requires.r_bound.0 c.requires.r_bound.1).head, word (goal.at.subs-i-requires c).Start a.e))
-
-pub entry_at-f-requires : goal.entry_at-f-requires
-entry_at-f-requires c =
-    let a = c.args in
-    rw (c.subs-i.ensures, word (goal.at.entry_at-f-requires c).Start a.e)
-    (record {
-      lies = subs_lie a.sh a.lists.now c.requires.held (suc a.r) a.e c.requires.r_bound.0 c.requires.r_bound.1;
-      k_in_bounds = some_sub a.sh a.lists.now c.requires.held a.goes.now a.r a.e c.requires.r_bound.0 c.requires.r_bound.1 c.requires.r_bound.2 c.requires.by_index;
-    })
-
-pub overflow_add-base : goal.overflow_add-base
-overflow_add-base c = omega (arith, lies c, c.start-base.ensures)
-
-pub offset_bounds-goes-base : goal.offset_bounds-goes-base
-offset_bounds-goes-base c = omega (arith, lies c, c.start-base.ensures)
-
-pub bounds-goes-base : goal.bounds-goes-base
-bounds-goes-base c = rw c.start-base.ensures (lies (goal.at.bounds-goes-base c).After-entry_at-f)
-
-pub sups-j-requires : goal.sups-j-requires
-sups-j-requires c =
-    let a = c.args in
-    let p = c.requires.r_bound in
-    (omega (arith, p.0, c.requires.held.tall), omega (arith, (over_lie a.sh a.lists.now c.requires.held a.goes.now a.r a.e p.0 p.1 p.2 c.requires.by_index _ _ (first (goal.at.sups-j-requires c).After-entry_at-f) (goes c)).head))
-
-pub subs-up-requires : goal.subs-up-requires
-subs-up-requires c =
-    let a = c.args in
-    (omega (arith, c.requires.r_bound.0, c.requires.held.tall), omega (arith, (subs_lie a.sh a.lists.now c.requires.held (suc a.r) a.e c.requires.r_bound.0 c.requires.r_bound.1).head, word (goal.at.subs-up-requires c).Start 0))
-
-pub first_onto-requires : goal.first_onto-requires
-first_onto-requires c =
-    let a = c.args in
-    let p = c.requires.r_bound in
-    rw (c.subs-i.ensures, word (goal.at.first_onto-requires c).Start a.e, c.sups-j.ensures, c.subs-up.ensures, word (goal.at.first_onto-requires c).Start 0, c.start-base.ensures) (record {
-      lies = (
-        subs_lie a.sh a.lists.now c.requires.held (suc a.r) a.e p.0 p.1,
-        over_lie a.sh a.lists.now c.requires.held a.goes.now a.r a.e p.0 p.1 p.2 c.requires.by_index _ _ (first (goal.at.first_onto-requires c).After-entry_at-f) (goes (goal.at.first_onto-requires c).After-from-y),
-        each_lie a.sh a.lists.now c.requires.held a.goes.now a.r a.e p.0 p.1 p.2 c.requires.by_index _ _ (first (goal.at.first_onto-requires c).After-entry_at-f) (goes (goal.at.first_onto-requires c).After-from-y),
-      );
-      by_index = sub-cell a.sh a.lists.now c.requires.held a.goes.now a.r a.e p.0 p.1 p.2 c.requires.by_index;
-    })
+    let in_cells : (f : _) → In f c.subs-subs.result.now → f < length a.goes.now = λ f m. omega (arith, sub_low s a.r a.e p.0 p.1 _ c.subs-subs.ensures f m, p.2) in
+    serves_members c.sups.result.now (cc) (λ g q k. search (rules, tests)) (λ g m.
+    let in_r = over-low s a.r _ p.0 _ c.sups.ensures g.now m in search (rules, tests))
 
 pub returns : goal.returns
 returns c =
     let a = c.args in
-    let p = c.requires.r_bound in
-    rises a.sh a.lists.now c.requires.held a.goes.now a.r a.e p.0 p.1 p.2 c.requires.by_index _ _ (first (goal.at.returns c).After-entry_at-f) (goes (goal.at.returns c).After-from-y) _
-    (rw (c.subs-i.ensures, word (goal.at.returns c).Start a.e, c.sups-j.ensures, c.subs-up.ensures, word (goal.at.returns c).Start 0, c.start-base.ensures) at c.first_onto.ensures)
+    let s = abs_of a.solid.now in
+    let to = λ (f : _). get_or a.goes.now f 0 in
+    let es = c.subs-subs.result.now in
+    let as_read : c.map.result ≡ option_map (λ x. x.now) c.find.result = search (rules, tests) in
+    as_read
+    ∙ find_from_yields_List (λ g. onto to es (subs s (a.r + 1) g)) _ _ c.find.result c.find.ensures.ran (YieldsList-from_slice c.sups.result.now (cc)) (λ g t q k. search (rules, tests))
+    ∙ rises s to a.r a.e es c.sups.result.now c.subs-subs.ensures c.from-y.result c.from-y.ensures c.sups.ensures

@@ -1,13 +1,13 @@
-use mathlib.Core.Path.{◌≡◌, sym, ap, ◌∙◌}
-use Prim.Native.Nat.{ℕ, ◌*◌}
+use mathlib.Core.Path.{sym, ap, ◌∙◌}
+use mathlib.Core.List.{List}
+use Prim.Native.Nat.{◌*◌}
 use native.Mathlib.Omega.{arith}
 use lib.ListN.{take, drop}
-use lib.Seq.{drop-drop}
+use lib.Ieee.{Float}
 use Rattle.matrix.specs.Reading.{leading, corner}
 use Rattle.float.proofs.Written.{none, next, end}
-use Rattle.points.proofs.Parts.{parts_table, parts-take, row-place}
-use Rattle.points.proofs.matrix_at.Goals.{Start}
-use Rattle.points.proofs.matrix_at.Invariants.{row}
+use Rattle.points.proofs.Parts.{parts_table, parts-take}
+use Rattle.points.proofs.Tails.{tail_is}
 use Rattle.points.proofs.matrix_at.Goals as goal
 
 pub loop-i-init : goal.loop-i-init
@@ -15,13 +15,10 @@ loop-i-init c = none
 
 pub loop-i-preserved : goal.loop-i-preserved
 loop-i-preserved c =
+    let a = c.args in
     let l = c.loop-i in
-    let d = c.args.d in
-    let e : take d c.loaded.result ≡ row c.args.matrices.now d c.args.j l.i =
-    c.loaded.ensures
-    ∙ ap (λ (k : ℕ). take d (drop k c.args.matrices.now)) (row-place d c.args.j l.i)
-    ∙ ap (take d) (sym (drop-drop (l.i * d) (c.args.j * (d * d)) c.args.matrices.now)) in
-    next _ (omega arith) e l.invariant
+    let rest = tail_is {A = Float} a.matrices.now a.matrices.now (a.j * (a.d * a.d)) (omega arith) in
+    next _ (omega arith) (c.loaded.ensures ∙ ap (λ (x : List Float). take a.d (drop (l.i * a.d) x)) rest) l.invariant
 
 pub returns : goal.returns
 unfolding corner leading

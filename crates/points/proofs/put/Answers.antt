@@ -1,26 +1,19 @@
-use mathlib.Core.Path.{◌≡◌, refl}
+-- The front of q is as long as what it is copied to.
+-- Assumes nothing.
+use mathlib.Core.Path.{◌≡◌, sym, ap}
+use mathlib.Core.List.{◌++◌}
+use Prim.Native.Nat.{ℕ}
 use native.Mathlib.Omega.{arith}
-use lib.ListN.{length}
-use lib.Ieee.{nan}
+use lib.ListN.{length, take, drop}
+use lib.Seq.{length-take-le}
 use borrow.Author.Rules.{rules}
 use Rattle.spec.specs.Limits.{max_dimension}
-use Rattle.float.proofs.Written.{none, next}
-use Rattle.points.proofs.Tails.{front_copied}
-use Rattle.points.proofs.put.Goals.{Start}
+use Rattle.spec.specs.Lists.{written}
 use Rattle.points.proofs.put.Goals as goal
 
-long : (c : Start) → length c.args.q ≡ max_dimension
-long c = search rules
-
-pub loop-i-init : goal.loop-i-init
-loop-i-init c = none
-
-pub loop-i-preserved : goal.loop-i-preserved
-loop-i-preserved c = next _ (omega arith) refl c.loop-i.invariant
-
 pub returns : goal.returns
+unfolding written
 returns c =
-    let s = (goal.at.returns c).Start in
-    let l = c.loop-i in
-    let k = long s in
-    front_copied s.args.d l.auto.i-end c.loop-i-test.false s.args.q nan (omega arith) l.invariant
+    let a = c.args in
+    let long : length a.q ≡ max_dimension = search rules in
+    rw c.copy_from_slice.ensures.after (ap (λ (k : ℕ). take a.d a.q ++ drop k a.out.now) (sym (length-take-le a.d a.q (omega arith))))

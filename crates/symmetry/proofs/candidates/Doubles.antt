@@ -1,44 +1,25 @@
--- No point is near a later one exactly if that holds of what is left, and the later points are the parts of what is left of the slice.
+-- The points after one are the parts of what is left of the slice, so that they are points of their own.
 -- Assumes nothing.
 use Rattle.std.specs.Prelude.{Option, None, Some, is_some}
 use mathlib.Core.Path.{◌≡◌, refl, sym, ap, ◌∙◌}
-use mathlib.Core.Bool.{Bool, true, false, not, ◌&&◌, false≢true}
+use mathlib.Core.Bool.{Bool, true, false, not, false≢true}
 use mathlib.Core.List.{List, []}
 use Prim.Native.Nat.{ℕ, zero, suc, ◌+◌, ◌-◌, ◌*◌, ◌≤◌, ◌<◌}
-use native.Mathlib.Nat.{zero-add, suc-add, zero-mul, suc-mul, add_comm}
+use native.Mathlib.Nat.{zero-add, suc-add, zero-mul, suc-mul, add_comm, add-mul}
 use native.Mathlib.Numerals.{add-one}
 use native.Mathlib.Omega.{arith}
-use lib.ListN.{length, get_or, take, drop, length-drop, drop_of_length-le}
-use lib.Seq.{drop-cons, drop-drop, take_all}
+use lib.ListN.{length, get_or, take, drop, length-drop}
+use lib.Seq.{drop-drop, take_all}
 use lib.Ieee.{Float}
 use Rattle.spec.specs.Matrix.{Vector}
-use Rattle.spec.specs.Lists.{no_repeats, parts}
+use Rattle.spec.specs.Lists.{range, every, holds, no_repeats, parts}
 use Rattle.spec.specs.Points.{near, found, find}
+use Rattle.laws.proofs.Lists.{of_range}
+use Rattle.ranked.proofs.Agree.{every_same}
 use Rattle.points.specs.Finding.{found_at}
 use Rattle.points.proofs.Parts.{length-parts, part_at}
 use Rattle.points.proofs.Finding.{is_found, is_missing}
-
--- ---- one point after another
-
-module _ (ps : List Vector) where
-  -- No point before i is near a later one.
-  abbrev pub Apart : ℕ → Type 0
-  Apart i = no_repeats near (drop i ps) ≡ no_repeats near ps
-
-  module _ (i : ℕ) (more : i < length ps) (inv : Apart i) where
-    turn : (b : Bool) → found (drop (suc i) ps) (get_or ps i []) ≡ b → no_repeats near (drop i ps) ≡ (not b && no_repeats near (drop (suc i) ps))
-    unfolding no_repeats found
-    turn b e = rw (drop-cons ps i [] more, no_repeats, e)
-
-    pub apart_next : found (drop (suc i) ps) (get_or ps i []) ≡ false → Apart (i + 1)
-    apart_next e = rw add-one (sym (turn false e) ∙ inv)
-
-    pub apart_not : found (drop (suc i) ps) (get_or ps i []) ≡ true → false ≡ no_repeats near ps
-    apart_not e = sym (turn true e) ∙ inv
-
-  pub apart-end : (i : ℕ) → length ps ≤ i → Apart i → true ≡ no_repeats near ps
-  unfolding no_repeats
-  apart-end i h inv = rw (drop_of_length-le ps h) at inv
+use Rattle.symmetry.proofs.Apart.{alone_all}
 
 -- ---- in the slice
 
@@ -56,6 +37,12 @@ module _ (n d i : ℕ) (l : List Float) (h : i < n) (f : n * d ≤ length l) whe
 
   rest_is : rest ≡ drop ((i + 1) * d) l
   rest_is = take_all (length l - (i + 1) * d) (drop ((i + 1) * d) l) (rw length-drop (omega arith))
+
+  pub later_fits : (n - (i + 1)) * d ≤ length rest
+  later_fits =
+      let k = n - (i + 1) in
+      let e : k + (i + 1) ≡ n = omega arith in
+      rw rest_is (omega (arith, length-drop ((i + 1) * d) l, f, ap (λ z. z * d) e, add-mul k (i + 1) d))
 
   later_is : parts (n - (i + 1)) d rest ≡ drop (suc i) (parts n d l)
   later_is = rw rest_is (go (n - (i + 1)) (omega arith))
@@ -75,16 +62,18 @@ module _ (n d i : ℕ) (l : List Float) (h : i < n) (f : n * d ≤ length l) whe
     many : length (drop (suc i) (parts n d l)) ≡ n - (i + 1)
     many = length-drop (suc i) (parts n d l) ∙ omega (arith, length-parts n d l)
 
-    pub double_not : Apart (parts n d l) i → is_some r ≡ true → false ≡ no_repeats near (parts n d l)
-    double_not inv z = go r refl z
+    pub single_is : (b : Bool) → is_some r ≡ not b → b ≡ not (holds near (take d (drop (i * d) l)) (drop (suc i) (parts n d l)))
+    unfolding found
+    single_is b z = go r refl b z ∙ ap (λ (p : Vector). not (holds near p (drop (suc i) (parts n d l)))) (part_at n d l i h)
       where
-        go : (o : Option ℕ) → r ≡ o → is_some o ≡ true → false ≡ no_repeats near (parts n d l)
-        go (Some k) q y = apart_not (parts n d l) i (omega (arith, length-parts n d l)) inv (is_found _ _ many (same ∙ q))
-        go None q y = absurd (false≢true y)
+        go : (o : Option ℕ) → r ≡ o → (t : Bool) → is_some o ≡ not t → t ≡ not (holds near (get_or (parts n d l) i []) (drop (suc i) (parts n d l)))
+        go (Some k) q false y = ap not (sym (is_found _ _ many (same ∙ q)))
+        go (Some k) q true y = absurd (false≢true (sym y))
+        go None q false y = absurd (false≢true y)
+        go None q true y = ap not (sym (is_missing _ _ many (same ∙ q)))
 
-    pub double_next : Apart (parts n d l) i → is_some r ≡ false → Apart (parts n d l) (i + 1)
-    double_next inv z = go r refl z
-      where
-        go : (o : Option ℕ) → r ≡ o → is_some o ≡ false → Apart (parts n d l) (i + 1)
-        go (Some k) q y = absurd (false≢true (sym y))
-        go None q y = apart_next (parts n d l) i (omega (arith, length-parts n d l)) inv (is_missing _ _ many (same ∙ q))
+-- No point is near a later one exactly where each is single.
+pub singles_are : (n d : ℕ) (l : List Float) → every (λ i. not (holds near (take d (drop (i * d) l)) (drop (suc i) (parts n d l)))) (range 0 n) ≡ no_repeats near (parts n d l)
+singles_are n d l =
+    every_same _ _ (range 0 n) (λ i m. ap (λ (p : Vector). not (holds near p (drop (suc i) (parts n d l)))) (sym (part_at n d l i (omega (arith, of_range 0 n i m)))))
+    ∙ alone_all near [] (parts n d l) 0 n (omega (arith, length-parts n d l))

@@ -18,7 +18,7 @@ finite_is nan = refl
 finite_is (inf s) = refl
 finite_is (fin s m e) = refl
 
-every-map : {A B : Type 0} (f : A → B) (p : B → Bool) (l : List A) → every p (map f l) ≡ every (λ x. p (f x)) l
+pub every-map : {A B : Type 0} (f : A → B) (p : B → Bool) (l : List A) → every p (map f l) ≡ every (λ x. p (f x)) l
 unfolding every
 every-map f p [] = refl
 every-map f p (x ∷ l) = ap (λ b. elim (p (f x)) as (λ t. Bool) [ true ↦ b | false ↦ false ]) (every-map f p l)

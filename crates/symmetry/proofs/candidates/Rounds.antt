@@ -21,10 +21,10 @@ use Rattle.laws.proofs.FlagChange.{every-change}
 use Rattle.laws.proofs.Lists.{map-map}
 use Rattle.matrix.specs.Reading.{leading, corner}
 use Rattle.float.proofs.Written.{Written, none, next, end}
-use Rattle.points.proofs.Parts.{part_at, parts-take, part_end}
+use Rattle.points.proofs.Parts.{part_at, parts-take}
 use Rattle.ranked.specs.declared.Shape.{Shape}
 use Rattle.ranked.specs.Words.{size_at, abs_in, Held}
-use Rattle.ranked.specs.Layout.{coordinates, solid_on}
+use Rattle.ranked.specs.Layout.{solid_on}
 use Rattle.flag.proofs.Flags.{flag_in_lem}
 use Rattle.symmetry.specs.Post.{Turned}
 
@@ -80,7 +80,7 @@ pub record Walking (sh : Shape) (w : List ℕ) (fl : List Float) (F G : Flag) (o
   pub at : G ≡ rounds (abs_in sh w) (i - 1) F
   pub written : Written (take sh.dimension) (λ j. point_of (solid_on sh w fl) (element_at (rounds (abs_in sh w) j F) 1)) old rows i
 
-module _ (sh : Shape) (w : List ℕ) (fl : List Float) (h : Held sh w) (one : 1 ≤ sh.rank) (room : coordinates sh ≤ length fl) where
+module _ (sh : Shape) (w : List ℕ) (fl : List Float) (h : Held sh w) (one : 1 ≤ sh.rank) where
   abbrev d : ℕ
   d = sh.dimension
 
@@ -88,12 +88,8 @@ module _ (sh : Shape) (w : List ℕ) (fl : List Float) (h : Held sh w) (one : 1 
   c = solid_on sh w fl
 
   module _ (els : List ℕ) (f : IsFlag (abs_in sh w) (take (suc sh.rank) els)) where
-    vertex : get_or els 1 0 < size_at sh 1
+    pub vertex : get_or els 1 0 < size_at sh 1
     vertex = flag_in_lem sh w h els f 1 one
-
-    -- The vertex's coordinates lie in the slice.
-    pub vertex_in : get_or els 1 0 * d + d ≤ length fl
-    vertex_in = omega (arith, part_end (size_at sh 1) d (get_or els 1 0) vertex, room)
 
     point_is : (x : List Float) → take d x ≡ take d (drop (get_or els 1 0 * d) fl) → take d x ≡ point_of c (element_at (take (suc sh.rank) els) 1)
     unfolding point_of

@@ -1,98 +1,61 @@
--- This file has the loops that write fingerprints: those of a rank's elements, and those of the proper ranks.
+-- This file has the loop over the proper ranks that writes their fingerprints.
 -- Assumes nothing.
-use mathlib.Core.Path.{◌≡◌, refl, ap, ◌∙◌}
-use mathlib.Core.List.{List}
+use mathlib.Core.Path.{◌≡◌, sym, ap, ◌∙◌}
+use mathlib.Core.List.{List, ◌++◌, map}
 use Prim.Native.Nat.{ℕ, suc, ◌+◌, ◌≤◌, ◌<◌}
+use native.Mathlib.Numerals.{add-one}
 use native.Mathlib.Omega.{arith}
-use lib.ListN.{length, take, set, length-set}
-use lib.Seq.{take-set-le, get_or-set_same, get_or-set_other}
+use lib.ListN.{length, get_or, take, length-append, get_or-append}
+use lib.Seq.{length-take-le, get_or-append-add, get_or-take, take-append-le}
 use borrow.Author.Count.{below_more}
+use borrow.Rule.Slice.PartMut.{put_mid}
+use Rattle.spec.specs.Lists.{range}
 use Rattle.spec.specs.Types.{vertices}
+use Rattle.laws.proofs.Lists.{get_d_table, length_table}
 use Rattle.ranked.specs.declared.Shape.{Shape}
-use Rattle.ranked.specs.Words.{size_at, lists_of, abs_in, Held}
-use Rattle.ranked.specs.Layout.{scratch_at, fingerprints_at}
+use Rattle.ranked.specs.Words.{first_at, size_at, total, lists_of, abs_in, Held}
+use Rattle.ranked.specs.Layout.{scratch_at}
 use Rattle.ranked.proofs.Solids.{in_order_lem}
-use Rattle.element_types.proofs.Parts.{get_d_kept, take-kept}
-use Rattle.symmetry.specs.Fingerprints.{fingerprint_of, ProperElement, Stands, Fingerprinted}
-use Rattle.symmetry.proofs.vertex_sets.Looks.{fingerprint_in}
-
--- ---- a rank's elements
-
--- The fingerprints of the first e elements stand.
-pub record ElementsStand (sh : Shape) (r first many : ℕ) (old new : List ℕ) (e : ℕ) : Type 0 where
-  pub first_is : first ≡ fingerprints_at sh r
-  pub many_is : many ≡ size_at sh r
-  pub long : length new ≡ length old
-  pub kept : take (fingerprints_at sh r) new ≡ take (fingerprints_at sh r) old
-  pub done : (j : ℕ) → j < e → Stands sh (lists_of sh old) new r j
-
-pub elements-first : (sh : Shape) (r first many : ℕ) (words : List ℕ) → first ≡ fingerprints_at sh r → many ≡ size_at sh r → ElementsStand sh r first many words words 0
-elements-first sh r first many words f m = record { first_is = f; many_is = m; long = refl; kept = refl; done = λ j h. absurd (omega arith) }
-
-module _ {sh : Shape} {r first many : ℕ} {old new : List ℕ} {e : ℕ} (t : ElementsStand sh r first many old new e)
-    (h : Held sh (lists_of sh old)) (room : fingerprints_at sh (suc sh.rank) ≤ length old) (proper : (1 ≤ r) × (r < sh.rank)) where
-  elements-lists : lists_of sh new ≡ lists_of sh old
-  elements-lists = take-kept new old (fingerprints_at sh r) sh.low t.kept (omega arith)
-
-  pub elements_held : Held sh (lists_of sh new)
-  elements_held = rw elements-lists h
-
-  pub element_here : e < many → ProperElement sh r e
-  element_here k = record { above = proper.0; under = proper.1; inside = omega (arith, t.many_is) }
-
-  pub elements_in : e < many → first + e < length new
-  elements_in k = omega (arith, t.first_is, t.long, fingerprint_in sh old h room r e proper.1 (omega (arith, t.many_is)))
-
-  pub elements-next : e < many → (p : ℕ) → p ≡ fingerprint_of (vertices (abs_in sh (lists_of sh new)) r e) → ElementsStand sh r first many old (set new (first + e) p) (e + 1)
-  elements-next k p q = record {
-    first_is = t.first_is;
-    many_is = t.many_is;
-    long = length-set new (first + e) p ∙ t.long;
-    kept = take-set-le (fingerprints_at sh r) new (first + e) p (omega (arith, t.first_is)) ∙ t.kept;
-    done = below_more (Stands sh (lists_of sh old) (set new (first + e) p) r) e
-        (λ j b. get_or-set_other new (first + e) (fingerprints_at sh r + j) p 0 (λ z. omega (arith, t.first_is)) ∙ t.done j b)
-        (rw (← t.first_is) (get_or-set_same new (first + e) p 0 (elements_in k) ∙ q ∙ ap (λ (w : List ℕ). fingerprint_of (vertices (abs_in sh w) r e)) elements-lists));
-  }
-
-  pub elements-end : many ≤ e → (j : ℕ) → j < size_at sh r → Stands sh (lists_of sh old) new r j
-  elements-end k j b = t.done j (omega (arith, t.many_is))
-
--- ---- the proper ranks
+use Rattle.symmetry.specs.Fingerprints.{fingerprint_of, Fingerprinted}
 
 -- The fingerprints below rank r stand.
-pub record RanksStand (sh : Shape) (old new : List ℕ) (r : ℕ) : Type 0 where
+pub record RanksStand (sh : Shape) (lists prints : List ℕ) (r : ℕ) : Type 0 where
   pub proper : 1 ≤ r
-  pub long : length new ≡ length old
-  pub kept : take (scratch_at sh) new ≡ take (scratch_at sh) old
-  pub done : (q : ℕ) → q < r → (e : ℕ) → 1 ≤ q → e < size_at sh q → Stands sh (lists_of sh old) new q e
+  pub done : (q : ℕ) → q < r → (e : ℕ) → 1 ≤ q → e < size_at sh q → get_or prints (first_at sh q + e) 0 ≡ fingerprint_of (vertices (abs_in sh lists) q e)
 
-pub ranks-first : (sh : Shape) (words : List ℕ) → RanksStand sh words words 1
-ranks-first sh words = record { proper = omega arith; long = refl; kept = refl; done = λ q h e a b. absurd (omega arith) }
+module _ {sh : Shape} {lists prints : List ℕ} {r : ℕ} (t : RanksStand sh lists prints r) (h : Held sh lists) (under : r < sh.rank) (room : total sh ≤ length prints) where
+  -- The rank's part lies within the fingerprints.
+  pub part_in : (first_at sh r < first_at sh (r + 1)) × (first_at sh (r + 1) ≤ length prints)
+  part_in = rw add-one (h.some r (omega arith), omega (arith, in_order_lem sh lists h (suc r) (suc sh.rank) (omega arith) (omega arith)))
 
-module _ {sh : Shape} {old new : List ℕ} {r : ℕ} (t : RanksStand sh old new r) (h : Held sh (lists_of sh old)) where
-  ranks-lists : lists_of sh new ≡ lists_of sh old
-  ranks-lists = take-kept new old (scratch_at sh) sh.low t.kept (omega arith)
-
-  pub ranks_held : Held sh (lists_of sh new)
-  ranks_held = rw ranks-lists h
-
-  pub ranks-next : r < sh.rank → (last : List ℕ) → length last ≡ length new → take (fingerprints_at sh r) last ≡ take (fingerprints_at sh r) new
-      → ((e : ℕ) → e < size_at sh r → Stands sh (lists_of sh new) last r e) → RanksStand sh old last (r + 1)
-  ranks-next under last l k d = record {
+  pub ranks-next : (k : ℕ) (part : List ℕ) → part ≡ map (λ e. fingerprint_of (vertices (abs_in sh lists) r e)) (range 0 (size_at sh r))
+      → RanksStand sh lists (put_mid (first_at sh r) k prints part) (r + 1)
+  ranks-next k part is = record {
     proper = omega arith;
-    long = l ∙ t.long;
-    kept = take-kept last new (fingerprints_at sh r) (scratch_at sh) k (omega arith) ∙ t.kept;
-    done = below_more (λ q. (e : ℕ) → 1 ≤ q → e < size_at sh q → Stands sh (lists_of sh old) last q e) r
-        (λ q b e c i. get_d_kept last new (fingerprints_at sh r) (fingerprints_at sh q + e) k (before q b e i) ∙ t.done q b e c i)
-        (λ e c i. d e i ∙ ap (λ (w : List ℕ). fingerprint_of (vertices (abs_in sh w) r e)) ranks-lists);
+    done = below_more (λ q. (e : ℕ) → 1 ≤ q → e < size_at sh q → get_or (put_mid a k prints part) (first_at sh q + e) 0 ≡ fingerprint_of (vertices (abs_in sh lists) q e)) r
+        (λ q b e c i. let low : first_at sh q + e < a = omega (arith, in_order_lem sh lists h (suc q) r b (omega arith)) in
+        get_or-append (take a prints) _ 0 (first_at sh q + e) (omega (arith, long)) ∙ get_or-take a prints (first_at sh q + e) 0 low ∙ t.done q b e c i)
+        (λ e c i. ap (λ n. get_or (put_mid a k prints part) (n + e) 0) (sym long) ∙ get_or-append-add (take a prints) _ e 0
+        ∙ get_or-append part _ 0 e (omega (arith, ap length is, length_table (λ j. fingerprint_of (vertices (abs_in sh lists) r j)) (size_at sh r)))
+        ∙ ap (λ (l : List ℕ). get_or l e 0) is ∙ get_d_table (λ j. fingerprint_of (vertices (abs_in sh lists) r j)) 0 (size_at sh r) e i);
   }
     where
-      before : (q : ℕ) → q < r → (e : ℕ) → e < size_at sh q → fingerprints_at sh q + e < fingerprints_at sh r
-      before q b e i = omega (arith, in_order_lem sh (lists_of sh old) h (suc q) r b (omega arith))
+      a : ℕ
+      a = first_at sh r
 
-  pub ranks-end : sh.rank ≤ r → fingerprints_at sh (suc sh.rank) ≤ length old → Fingerprinted sh new
-  ranks-end k room = record {
-    held = ranks_held;
-    room = omega (arith, t.long);
-    stand = λ q e m. rw ranks-lists (t.done q (omega (arith, m.under)) e m.above m.inside);
-  }
+      long : length (take a prints) ≡ a
+      long = length-take-le a prints (omega (arith, part_in))
+
+-- Behind the solid they are the words' fingerprints.
+pub ranks-end : (sh : Shape) (held prints : List ℕ) (r : ℕ) → RanksStand sh (lists_of sh held) prints r → sh.rank ≤ r → Held sh (lists_of sh held) → length held ≡ scratch_at sh
+    → total sh ≤ length prints → Fingerprinted sh (held ++ prints)
+ranks-end sh held prints r t k h long room =
+    let same : lists_of sh (held ++ prints) ≡ lists_of sh held = take-append-le sh.low held prints (omega (arith, long)) in
+    record {
+      held = rw same h;
+      room = omega (arith, length-append held prints, long);
+      stand = λ q e m.
+          let at : scratch_at sh + first_at sh q + e ≡ length held + (first_at sh q + e) = omega (arith, long) in
+          ap (λ i. get_or (held ++ prints) i 0) at ∙ get_or-append-add held prints (first_at sh q + e) 0 ∙ t.done q (omega (arith, m.under)) e m.above m.inside
+          ∙ ap (λ (w : List ℕ). fingerprint_of (vertices (abs_in sh w) q e)) (sym same);
+    }

@@ -1,21 +1,25 @@
 -- This file says what a list of an element's vertices is, and follows the scans of a rank's vertex sets.
 -- Assumes nothing.
 use mathlib.Core.Path.{◌≡◌, refl, sym, ap, ◌∙◌}
-use mathlib.Core.Logic.{◌≢◌, inl, inr}
-use mathlib.Core.Bool.{Bool, true, false, not, ◌&&◌}
-use mathlib.Core.List.{List, [], ◌∷◌}
-use Prim.Native.Nat.{ℕ, suc, ◌+◌, ◌≤◌, ◌<◌}
+use mathlib.Core.Bool.{Bool, true, false, not, ◌&&◌, ◌||◌, false≢true}
+use mathlib.Core.List.{List, [], ◌∷◌, map}
+use Prim.Native.Nat.{ℕ, zero, suc, ◌+◌, ◌-◌, ◌≤◌, ◌<◌}
 use native.Mathlib.Numerals.{add-one}
 use native.Mathlib.Omega.{arith}
-use lib.ListN.{length, get_or, take, drop, length-append, drop_of_length-le}
-use lib.Seq.{drop-cons, take_at}
+use lib.ListN.{length, get_or, take, drop, length-append, length-drop}
+use lib.Seq.{take_at, get_or-drop}
+use borrow.Author.Tests.{eq-eqb}
+use Rattle.std.specs.List.{list_any, enumerate_from}
+use Rattle.std.proofs.lemmas.List.FromFn.{fill_by_all}
+use Rattle.ranked.proofs.Chains.{range_is}
 use lib.Dec.{eqb}
-use Rattle.spec.specs.Lists.{In, range, keep, holds, eq_list, no_repeats, in_order}
+use Rattle.spec.specs.Lists.{In, range, keep, every, holds, eq_list, no_repeats, in_order}
 use Rattle.spec.specs.Types.{Solid, size, reach, vertices, vertex_sets}
 use Rattle.laws.proofs.Lists.{of_range, length-range, get_d_table, length_table}
-use Rattle.laws.proofs.Distinct.{Split, split}
 use Rattle.laws.proofs.Counts.{lists, in_keep}
 use Rattle.ranked.specs.Marks.{Front}
+use Rattle.ranked.proofs.Agree.{every_same}
+use Rattle.symmetry.proofs.Apart.{alone_all}
 use Rattle.symmetry.specs.Fingerprints.{fingerprint_of}
 
 -- ---- an element's vertices
@@ -59,50 +63,33 @@ module _ (s : Solid) (r : ℕ) where
   unfolding vertex_sets
   set_at e h = get_d_table (vertices s r) [] (size s r) e h
 
-  sets_rest : (e : ℕ) → e < size s r → drop e (vertex_sets s r) ≡ vertices s r e ∷ drop (suc e) (vertex_sets s r)
-  sets_rest e h = drop-cons (vertex_sets s r) e [] (rw length-sets h) ∙ ap (λ (x : List ℕ). x ∷ drop (suc e) (vertex_sets s r)) (set_at e h)
+  -- These are the sets from number `from` on.
+  pub sets_from : (from : ℕ) → from ≤ size s r → drop from (vertex_sets s r) ≡ map (λ e. vertices s r (from + e)) (range 0 (size s r - from))
+  sets_from from h =
+      fill_by_all (λ e. vertices s r (from + e)) (drop from (vertex_sets s r)) (size s r - from) [] (length-drop from (vertex_sets s r) ∙ ap (λ n. n - from) length-sets)
+      (λ e k. get_or-drop from (vertex_sets s r) e [] ∙ set_at (from + e) (omega (arith, h)))
+      ∙ ap (map (λ e. vertices s r (from + e))) (range_is 0 (size s r - from))
 
--- Lists with different fingerprints differ.
-pub fingerprints-part : (l m : List ℕ) → fingerprint_of l ≢ fingerprint_of m → false ≡ eq_list l m
-fingerprints-part l m h = go (split eq_list lists l m)
-  where
-    go : Split eq_list lists l m → false ≡ eq_list l m
-    go (inl (p, _)) = absurd (h (ap fingerprint_of p))
-    go (inr (_, e)) = sym e
+-- ---- a look by fingerprints
 
--- What is left from e on holds x exactly where what was left from `from` on did.
-module _ (s : Solid) (r : ℕ) (x : List ℕ) (from : ℕ) where
-  abbrev pub SetSought : ℕ → Type 0
-  SetSought e = holds eq_list x (drop e (vertex_sets s r)) ≡ holds eq_list x (drop from (vertex_sets s r))
+-- Each set of f k, f (k + 1), .. is looked at with its fingerprint beside it, which is that of x wherever the set is x.
+module _ (x : List ℕ) (f : ℕ → List ℕ) where
+  abbrev pub looked : ℕ × ℕ → Bool
+  looked q = eqb q.1 (fingerprint_of x) && eq_list (f q.0) x
 
-  pub sought_yes : (e : ℕ) → e < size s r → SetSought e → true ≡ eq_list (vertices s r e) x → true ≡ holds eq_list x (drop from (vertex_sets s r))
-  unfolding holds
-  sought_yes e h i q = sym (ap (holds eq_list x) (sets_rest s r e h) ∙ rw (← q, holds)) ∙ i
+  pub looked_at : (k n : ℕ) → list_any looked (enumerate_from k (map (λ e. fingerprint_of (f e)) (range k n))) ≡ holds eq_list x (map f (range k n))
+  unfolding holds range
+  looked_at k zero = refl
+  looked_at k (suc n) = go (eqb (fingerprint_of (f k)) (fingerprint_of x)) (eq_list (f k) x) (λ y. eq-eqb _ _ (ap fingerprint_of (lists.sound (f k) x y))) (rw add-one (looked_at (suc k) n))
+    where
+      go : (a b : Bool) → (b ≡ true → a ≡ true) → {t u : Bool} → t ≡ u → ((a && b) || t) ≡ elim b as (λ z. Bool) [ true ↦ true | false ↦ u ]
+      go true true h e = refl
+      go true false h e = e
+      go false true h e = absurd (false≢true (h refl))
+      go false false h e = e
 
-  pub sought_no : (e : ℕ) → e < size s r → SetSought e → false ≡ eq_list (vertices s r e) x → SetSought (e + 1)
-  unfolding holds
-  sought_no e h i q = rw (add-one e) (sym (ap (holds eq_list x) (sets_rest s r e h) ∙ rw (← q, holds)) ∙ i)
-
-  pub sought_end : (e : ℕ) → size s r ≤ e → SetSought e → false ≡ holds eq_list x (drop from (vertex_sets s r))
-  unfolding holds
-  sought_end e h i = sym (ap (holds eq_list x) (drop_of_length-le (vertex_sets s r) {i = e} (rw length-sets h))) ∙ i
-
--- What is left from e on repeats no set exactly where the whole repeats none.
-module _ (s : Solid) (r : ℕ) where
-  abbrev pub Alone : ℕ → Type 0
-  Alone e = no_repeats eq_list (drop e (vertex_sets s r)) ≡ no_repeats eq_list (vertex_sets s r)
-
-  opened : (e : ℕ) → e < size s r → Alone e
-      → not (holds eq_list (vertices s r e) (drop (suc e) (vertex_sets s r))) && no_repeats eq_list (drop (suc e) (vertex_sets s r)) ≡ no_repeats eq_list (vertex_sets s r)
-  unfolding no_repeats
-  opened e h i = sym (ap (no_repeats eq_list) (sets_rest s r e h)) ∙ i
-
-  pub alone_yes : (e : ℕ) → e < size s r → Alone e → false ≡ holds eq_list (vertices s r e) (drop (suc e) (vertex_sets s r)) → Alone (e + 1)
-  alone_yes e h i q = rw (add-one e) (rw (← q) at (opened e h i))
-
-  pub alone_no : (e : ℕ) → e < size s r → Alone e → true ≡ holds eq_list (vertices s r e) (drop (suc e) (vertex_sets s r)) → false ≡ no_repeats eq_list (vertex_sets s r)
-  alone_no e h i q = rw (← q) at (opened e h i)
-
-  pub alone_end : (e : ℕ) → size s r ≤ e → Alone e → true ≡ no_repeats eq_list (vertex_sets s r)
-  unfolding no_repeats
-  alone_end e h i = sym (ap (no_repeats eq_list) (drop_of_length-le (vertex_sets s r) {i = e} (rw length-sets h))) ∙ i
+-- No set of a rank is held by those after it exactly where the rank repeats none.
+pub sets_alone : (s : Solid) (r : ℕ) → every (λ e. not (holds eq_list (vertices s r e) (drop (suc e) (vertex_sets s r)))) (range 0 (size s r)) ≡ no_repeats eq_list (vertex_sets s r)
+sets_alone s r =
+    every_same _ _ (range 0 (size s r)) (λ e m. ap (λ (x : List ℕ). not (holds eq_list x (drop (suc e) (vertex_sets s r)))) (sym (set_at s r e (omega (arith, of_range 0 (size s r) e m)))))
+    ∙ alone_all eq_list [] (vertex_sets s r) 0 (size s r) (omega (arith, length-sets s r))

@@ -3,49 +3,36 @@ ghost use Rattle.std.specs.Prelude.{◌≡◌, suc, ◌≤◌, ◌<◌, drop};
 ghost use Rattle.spec.specs.Lists.{holds, eq_list, no_repeats};
 ghost use Rattle.spec.specs.Mark.{sets_apart};
 ghost use Rattle.spec.specs.Types.{vertices, vertex_sets};
-ghost use Rattle.ranked.specs.Layout.{abstract_in};
-ghost use Rattle.symmetry.specs.Fingerprints.{Fingerprinted, ProperElement};
+ghost use Rattle.ranked.specs.Lying.{abs_of};
+ghost use Rattle.symmetry.specs.Fingerprints.{ProperElement};
 
-use crate::vertex_sets::finding::is_vertex_set;
-use ranked::Shape;
+use crate::vertex_sets::VertexSets;
 use ranked::vertices::vertex_list;
 use spec::MAX_COUNT;
 
-// Tells whether a later element of rank r has the same vertices as element e.
-fn is_repeated(words: &[u32], sh: Shape, r: usize, e: usize) -> bool
-    requires fingerprinted { Fingerprinted sh words.now }
-    requires proper_element { ProperElement sh r e }
-    ensures { result ≡ holds eq_list (vertices (abstract_in sh words.now) r e)
-        (drop (suc e) (vertex_sets (abstract_in sh words.now) r)) }
-{
-    let mut list = [0u16; MAX_COUNT];
-    let n = vertex_list(sh.lists(words), sh, r, e, &mut list);
-    is_vertex_set(words, sh, r, e + 1, &list[..n])
-}
-
-// Tells whether no two elements of rank r have the same vertices.
-fn rank_apart(words: &[u32], sh: Shape, r: usize) -> bool
-    requires fingerprinted { Fingerprinted sh words.now }
-    requires le_r { (1 ≤ r) × (r < sh.rank) }
-    ensures { result ≡ no_repeats eq_list (vertex_sets (abstract_in sh words.now) r) }
-{
-    for e in 0..sh.size(r) {
-        if is_repeated(words, sh, r, e) {
-            return false;
-        }
+impl<'a> VertexSets<'a> {
+    // Tells whether a later element of rank r has the same vertices as element e.
+    fn is_repeated(&self, r: usize, e: usize) -> bool
+        requires { ProperElement self.now.solid.shape r e }
+        ensures { result ≡ holds eq_list (vertices (abs_of self.now.solid) r e) (drop (suc e) (vertex_sets (abs_of self.now.solid) r)) }
+    {
+        let mut list = [0u16; MAX_COUNT];
+        let n = vertex_list(&self.solid, r, e, &mut list);
+        self.is_vertex_set(r, e + 1, &list[..n])
     }
-    true
-}
 
-// Tells whether, at each proper rank, no two elements have the same vertices.
-pub fn are_apart(words: &[u32], sh: Shape) -> bool
-    requires { Fingerprinted sh words.now }
-    ensures { result ≡ sets_apart (abstract_in sh words.now) }
-{
-    for r in 1..sh.rank {
-        if !rank_apart(words, sh, r) {
-            return false;
-        }
+    // Tells whether no two elements of rank r have the same vertices.
+    fn rank_apart(&self, r: usize) -> bool
+        requires { (1 ≤ r) × (r < self.now.solid.shape.rank) }
+        ensures { result ≡ no_repeats eq_list (vertex_sets (abs_of self.now.solid) r) }
+    {
+        (0..self.solid.size(r)).all(|e| !self.is_repeated(r, e))
     }
-    true
+
+    // Tells whether, at each proper rank, no two elements have the same vertices.
+    pub fn are_apart(&self) -> bool
+        ensures { result ≡ sets_apart (abs_of self.now.solid) }
+    {
+        (1..self.solid.rank()).all(|r| self.rank_apart(r))
+    }
 }

@@ -8,4 +8,4 @@ use Rattle.float.proofs.Written.{Written}
 use Rattle.copying.proofs.axes.widened.Given as goal
 
 abbrev pub invariant-loop-i : goal.invariant-loop-i
-invariant-loop-i l = (l.i ≤ 3) × Written (λ x. x) (λ k. padded (get_or l.m k [])) l.initial.r l.r l.i
+invariant-loop-i l = (l.i ≤ 3) × Written (λ x. x) (λ k. padded (get_or l.row-items k [])) l.initial.r l.r l.i

@@ -4,4 +4,4 @@ use Rattle.element_types.proofs.compare.key.Goals as goal
 
 pub returns : goal.returns
 unfolding key_at
-returns c = ap (λ (n : ℕ). take n (drop (c.args.p + 1) c.args.words.now)) (omega (arith, c.get-n.ensures))
+returns c = ap (λ (n : ℕ). take n (drop (c.args.p + 1) c.args.keys.now)) (omega (arith, c.get-n.ensures))

@@ -14,17 +14,14 @@ use Rattle.element_types.proofs.settling.begin.Goals as goal
 classed : (c : After-all_classes)
     → let a = c.args in
     Classed a.sh (lists_of a.sh a.words.now) a.floats.now c.all_classes.new.floats c.all_classes.result
-classed c = rw c.lists.ensures at c.all_classes.ensures
+classed c = rw (c.solid.ensures.shape, c.solid.ensures.lists) at c.all_classes.ensures
 
 -- The classes lie within the floats.
 inside : (c : After-classes-cell) → c.classes-cell.result ≤ length c.all_classes.new.floats
-inside c = omega (arith, c.classes-cell.ensures, cells_in_lem _ _ _ c.requires _ _ (rw c.lists.ensures at c.all_classes.ensures))
+inside c = omega (arith, c.classes-cell.ensures, cells_in_lem _ _ _ c.requires _ _ (rw (c.solid.ensures.shape, c.solid.ensures.lists) at c.all_classes.ensures))
 
 pub all_classes-requires : goal.all_classes-requires
-all_classes-requires c = record {
-  held = rw c.lists.ensures c.requires.held;
-  sh_in_bounds = roomy-floats _ _ c.requires.held _ c.requires.floats;
-}
+all_classes-requires c = rw c.solid.ensures.shape (roomy-floats _ _ c.requires.held _ c.requires.floats)
 
 pub slice_bounds-start-count : goal.slice_bounds-start-count
 slice_bounds-start-count c = inside (goal.at.slice_bounds-start-count c).After-classes-cell

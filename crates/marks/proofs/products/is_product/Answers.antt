@@ -2,7 +2,7 @@
 -- Assumes nothing.
 use Rattle.std.proofs.Common.{rules, tests, ◌≡◌, ℕ, get_or}
 use Rattle.std.proofs.lemmas.Iterator.{cases_from_all, YieldsList-from_slice, YieldsList-from_zip}
-use Rattle.marks.proofs.products.Factors.{product_is}
+use Rattle.marks.proofs.products.Factored.{product_is}
 use Rattle.marks.proofs.products.is_product.Goals as goal
 
 pub returns : goal.returns

@@ -12,11 +12,12 @@ use Rattle.points.proofs.lookup.is_lone.Goals as goal
 
 pub returns : goal.returns
 returns c e =
-    let a = c.args in
-    let clear = λ (k : ℕ). Clear a.d a.points.now k k in
-    each_lone a.n
-    (all_below clear _ a.n
-    (cases_from_all _ _ c.all.result clear (λ (k : ℕ). Unit {0}) c.all.ensures.ran (YieldsList-from_range 0 a.n a.n refl (sub-zero a.n))
+    let p = c.args.points.now in
+    let n = p.count in
+    let clear = λ (k : ℕ). Clear p.dimension p.floats.now k k in
+    each_lone n
+    (all_below clear _ n
+    (cases_from_all _ _ c.all.result clear (λ (k : ℕ). Unit {0}) c.all.ensures.ran (YieldsList-from_range 0 n n refl (sub-zero n))
     (λ x q k. search (rules, tests))
     (λ x q k. tt))
     e)

@@ -2,9 +2,9 @@
 -- Assumes nothing.
 use mathlib.Core.Path.{◌≡◌}
 use lib.ListN.{length}
-use Rattle.spec.specs.Lists.{parts}
 use Rattle.points.specs.Guesses.{Lone, places}
+use Rattle.points.specs.Listed.{listed}
 use Rattle.points.proofs.lookup.places.Given as goal
 
 abbrev pub invariant-loop-k : goal.invariant-loop-k
-invariant-loop-k l = Lone (parts l.n l.d l.points) × (length l.table ≡ places)
+invariant-loop-k l = Lone (listed l.points) × (length l.table ≡ places)

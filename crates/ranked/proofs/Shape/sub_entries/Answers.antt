@@ -1,10 +1,10 @@
 -- `ranked::Shape::sub_entries` meets its contract. Assumes nothing.
 use mathlib.Core.Path.{◌≡◌, sym}
 use native.Mathlib.Omega.{arith}
-use Prim.Native.Nat.{◌+◌, ◌-◌, ◌^◌, ◌<◌}
+use Prim.Native.Nat.{◌+◌, ◌-◌}
 use Rattle.ranked.specs.Words.{size_at}
 use Rattle.ranked.specs.Layout.{sub_entries}
-use Rattle.ranked.proofs.Low.{entries_0, entries_1, entries_some, entries_small}
+use Rattle.ranked.proofs.Low.{entries_0, entries_1, entries_some}
 use Rattle.ranked.proofs.Shape.sub_entries.Goals.{After-vertices}
 use Rattle.ranked.proofs.Shape.sub_entries.Goals as goal
 
@@ -13,9 +13,6 @@ module _ (v : After-vertices) where
   parts : sub_entries v.args.self v.args.entries
       ≡ size_at v.args.self 1 + v.args.entries + size_at v.args.self (v.args.self.rank - 1)
   parts = entries_some v.args.self v.args.entries v.if-self-eq0.false v.if-self-eq1.false
-
-  few : sub_entries v.args.self v.args.entries < 2 ^ 34
-  few = entries_small v.args.self v.args.entries v.requires.rank_le_max_rank v.requires.by_index
 
 pub returns-then-self-eq0 : goal.returns-then-self-eq0
 returns-then-self-eq0 c = sym (entries_0 c.args.self _ c.if-self-eq0.true)

@@ -18,7 +18,7 @@ use Rattle.search.proofs.driver.from10.Goals as goal
 -- What is found is the first far facet of the solid, if it has one.
 far-is : (c : After-first_far) → let a = c.args in
     c.first_far.result ≡ first_far (solid_in a.sh a.words.now a.floats.now) (range 0 (size_at a.sh (a.sh.rank - 1)))
-far-is c = rw c.lists.ensures at c.first_far.ensures
+far-is c = rw (c.solid.ensures.shape, c.solid.ensures.lists) at c.first_far.ensures
 
 some-is : (c : In_ok-f) → c.first_far.result ≡ Some c.in_ok-f.f
 some-is c = given c.first_far.result Centred (sym c.ok_or.ensures.value ∙ c.in_ok-f.was)
@@ -26,14 +26,14 @@ some-is c = given c.first_far.result Centred (sym c.ok_or.ensures.value ∙ c.in
 -- The facet that is found is one of the solid's.
 found : (c : In_ok-f) → let sh = c.args.sh in (2 ≤ sh.rank) × (c.in_ok-f.f < size_at sh (sh.rank - 1))
 found c =
-    facet_in c.args.sh c.args.words.now c.args.floats.now c.requires.le_rank _ (rw c.lists.ensures at c.first_far.ensures) _ (some-is c)
+    let a = c.args in
+    facet_in a.sh a.words.now a.floats.now c.requires.le_rank _ (rw (c.solid.ensures.shape, c.solid.ensures.lists) at c.first_far.ensures) _ (some-is c)
+
+pub invariant_of-realized : goal.invariant_of-realized
+invariant_of-realized c = record { room = rw c.solid.ensures.shape (coordinates_in c.requires.bench) }
 
 pub first_far-requires : goal.first_far-requires
-first_far-requires c = record {
-  held = rw c.lists.ensures c.requires.bench.held;
-  le_rank = c.requires.le_rank;
-  sh_in_bounds = coordinates_in c.requires.bench;
-}
+first_far-requires c = rw c.solid.ensures.shape c.requires.le_rank
 
 pub returns-in_err-f : goal.returns-in_err-f
 returns-in_err-f c =

@@ -1,7 +1,6 @@
 -- The judgements behind refusal 11, and then the members and their marks, give the rest of the call.
 -- Assumes nothing.
 use mathlib.Core.Path.{◌≡◌, sym, ap, ◌∙◌}
-use mathlib.Core.List.{List}
 use Prim.Native.Nat.{ℕ}
 use Rattle.std.specs.Prelude.{Some, Result, Ok, Err, MatchResult}
 use borrow.Author.Rules.{rules}
@@ -14,8 +13,7 @@ use Rattle.spec.specs.Flags.{first_flag}
 use Rattle.spec.specs.Search.{flag_columns}
 use Rattle.spec.specs.Calls.{SearchOut}
 use Rattle.matrix.specs.Reading.{corner}
-use Rattle.ranked.specs.Words.{abs_in}
-use Rattle.ranked.specs.Layout.{solid_on, solid_in}
+use Rattle.ranked.specs.Layout.{solid_in}
 use Rattle.symmetry.specs.Tails.{out_of}
 use Rattle.symmetry.specs.Listing.{number_of}
 use Rattle.search.proofs.Benched.{fingerprints_in, searching, marks_ready}
@@ -31,10 +29,7 @@ old s = out_of s.args.matrices.now s.args.rows.now s.args.marks.now
 inverse-is : (c : After-first_inverse) → let a = c.args in
     let d = solid_in a.sh a.words.now a.floats.now in
     option_map (corner a.sh.dimension) c.first_inverse.result ≡ inverse (flag_columns d (first_flag d.abs))
-inverse-is c =
-    let a = c.args in
-    c.first_inverse.ensures
-    ∙ ap (λ (w : List ℕ). inverse (flag_columns (solid_on a.sh w a.floats.now) (first_flag (abs_in a.sh w)))) c.lists.ensures
+inverse-is c = rw (c.solid.ensures.shape, c.solid.ensures.lists) at c.first_inverse.ensures
 
 -- There is an inverse.
 some-is : (c : In_ok-inverse) → let a = c.args in
@@ -75,8 +70,8 @@ write_fingerprints-requires c = let b = c.requires.bench in record {
   rank_in_bounds = fingerprints_in b;
 }
 
-pub list_members-listed-requires : goal.list_members-listed-requires
-list_members-listed-requires c = searching _ _ _ c.write_fingerprints.auto.words c.write_fingerprints.ensures.words_unchanged c.requires.countable.0 c.requires.bench c.write_fingerprints.ensures.fingerprinted c.requires.le_rank.0 c.requires.parted
+pub invariant_of-prepared : goal.invariant_of-prepared
+invariant_of-prepared c = record { searching = searching _ _ _ c.write_fingerprints.auto.words c.write_fingerprints.ensures.words_unchanged c.requires.countable.0 c.requires.bench c.write_fingerprints.ensures.fingerprinted c.requires.le_rank.0 c.requires.parted }
 
 pub mark_members-requires : goal.mark_members-requires
 mark_members-requires c =

@@ -4,8 +4,8 @@ use Rattle.search.proofs.Benched.{coordinates_in}
 use Rattle.search.proofs.Steps.{parted, doubled, not_doubled}
 use Rattle.search.proofs.driver.from9.Goals as goal
 
-pub no_double-requires : goal.no_double-requires
-no_double-requires c = (c.requires.bench.held.wide, rw c.vertices.ensures (coordinates_in c.requires.bench))
+pub invariant_of-points : goal.invariant_of-points
+invariant_of-points c = record { fits = (c.requires.bench.held.wide, rw c.vertices.ensures (coordinates_in c.requires.bench)) }
 
 pub from10-requires : goal.from10-requires
 from10-requires c =

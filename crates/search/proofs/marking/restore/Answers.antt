@@ -21,13 +21,13 @@ returns-then-f-eq0 c =
       ];
     }
 
+pub solid-requires-clause-held : goal.solid-requires-clause-held
+solid-requires-clause-held c = (back (goal.at.solid-requires-clause-held c).After-exchange).held
+
 pub all_classes-requires : goal.all_classes-requires
 all_classes-requires c =
     let b = back (goal.at.all_classes-requires c).After-exchange in
-    record {
-      held = rw c.lists.ensures b.held;
-      sh_in_bounds = roomy-floats _ _ b.held _ b.floats;
-    }
+    rw c.solid.ensures.shape (roomy-floats _ _ b.held _ b.floats)
 
 pub write_fingerprints-requires : goal.write_fingerprints-requires
 write_fingerprints-requires c = let b = back (goal.at.write_fingerprints-requires c).After-exchange in record {
@@ -36,7 +36,7 @@ write_fingerprints-requires c = let b = back (goal.at.write_fingerprints-require
 }
 
 pub returns : goal.returns
-returns c = let both = restored c.requires.marks_ready _ c.requires.le_rank _ c.exchange.ensures.words_after c.exchange.ensures.laid_after _ _ (rw c.lists.ensures at c.all_classes.ensures) _ c.write_fingerprints.auto.words c.write_fingerprints.ensures.words_unchanged c.write_fingerprints.ensures.fingerprinted in
+returns c = let both = restored c.requires.marks_ready _ c.requires.le_rank _ c.exchange.ensures.words_after c.exchange.ensures.laid_after _ _ (rw (c.solid.ensures.shape, c.solid.ensures.lists) at c.all_classes.ensures) _ c.write_fingerprints.auto.words c.write_fingerprints.ensures.words_unchanged c.write_fingerprints.ensures.fingerprinted in
     record {
       ready_after = both.0;
       floats_after = both.1;

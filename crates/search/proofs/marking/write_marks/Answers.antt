@@ -3,4 +3,4 @@
 use Rattle.search.proofs.marking.write_marks.Goals as goal
 
 pub returns : goal.returns
-returns c = rw c.lists.ensures at c.mark_rows.ensures
+returns c = rw (c.solid.ensures.shape, c.solid.ensures.lists) at c.mark_rows.ensures

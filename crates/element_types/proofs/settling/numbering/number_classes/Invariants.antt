@@ -4,4 +4,4 @@ use Rattle.element_types.proofs.settling.Scanned.{ClassesScan}
 use Rattle.element_types.proofs.settling.numbering.number_classes.Given as goal
 
 abbrev pub invariant-loop-e : goal.invariant-loop-e
-invariant-loop-e l = ClassesScan l.initial.words l.words l.to l.reps l.n l.cells l.from l.m l.e
+invariant-loop-e l = ClassesScan l.classes l.numbers l.firsts l.m l.e

@@ -1,5 +1,5 @@
 use mathlib.Core.Path.{refl}
-use Rattle.element_types.proofs.settling.Ended.{ReachedBySteps, settling_first, first_countable, ready, left_countable, none_left, u-lists, next_countable, stays, settling_next, once, ended}
+use Rattle.element_types.proofs.settling.Ended.{ReachedBySteps, first_countable, ready, left_countable, none_left, u-lists, next_countable, stays, settling_next, once, ended}
 use Rattle.element_types.proofs.settling.settled.settle.Goals.{After-sweep}
 use Rattle.element_types.proofs.settling.settled.settle.Goals as goal
 
@@ -7,17 +7,14 @@ use Rattle.element_types.proofs.settling.settled.settle.Goals as goal
 swept : (u : After-sweep) → ReachedBySteps u.args.sh u.sweep.new.words u.requires.classes
 swept u = once _ _ u.requires _ u.sweep.auto.words u.sweep.ensures.words_unchanged u.sweep.ensures.words_after
 
-pub type_count-count-requires : goal.type_count-count-requires
-type_count-count-requires c = first_countable _ _ _ (swept (goal.at.type_count-count-requires c).After-sweep)
-
-pub loop-init : goal.loop-init
-loop-init c = settling_first _ _ _ _ c.type_count-count.ensures
+pub invariant_of-type_count : goal.invariant_of-type_count
+invariant_of-type_count c = record { countable = first_countable _ _ _ (swept (goal.at.invariant_of-type_count c).After-sweep) }
 
 pub sweep-requires-in-loop : goal.sweep-requires-in-loop
 sweep-requires-in-loop c = ready _ _ _ (swept (goal.at.sweep-requires-in-loop c).After-sweep) _ _ _ _ c.loop.invariant
 
-pub type_count-next-requires : goal.type_count-next-requires
-type_count-next-requires c = next_countable _ _ _ (swept (goal.at.type_count-next-requires c).After-sweep) _ _ _ _ c.loop.invariant _ c.sweep-in-loop.auto.words c.sweep-in-loop.ensures.words_unchanged c.sweep-in-loop.ensures.words_after
+pub invariant_of-type_count-in-loop : goal.invariant_of-type_count-in-loop
+invariant_of-type_count-in-loop c = record { countable = next_countable _ _ _ (swept (goal.at.invariant_of-type_count-in-loop c).After-sweep) _ _ _ _ c.loop.invariant _ c.sweep-in-loop.auto.words c.sweep-in-loop.ensures.words_unchanged c.sweep-in-loop.ensures.words_after }
 
 pub returns-then-next-count : goal.returns-then-next-count
 returns-then-next-count c =

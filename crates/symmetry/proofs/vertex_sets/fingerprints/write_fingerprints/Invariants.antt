@@ -1,7 +1,8 @@
--- The fingerprints below rank r stand, and nothing before the first of them changed.
+-- The fingerprints below rank r stand.
 -- Assumes nothing.
+use Rattle.ranked.specs.Words.{lists_of}
 use Rattle.symmetry.proofs.vertex_sets.Rows.{RanksStand}
 use Rattle.symmetry.proofs.vertex_sets.fingerprints.write_fingerprints.Given as goal
 
 abbrev pub invariant-loop-r : goal.invariant-loop-r
-invariant-loop-r l = RanksStand l.sh l.initial.words l.words l.r
+invariant-loop-r l = RanksStand l.sh (lists_of l.sh l.held) l.prints l.r

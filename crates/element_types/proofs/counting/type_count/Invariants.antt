@@ -1,7 +1,0 @@
--- The types of the ranks below r are counted.
--- Assumes nothing.
-use Rattle.element_types.proofs.Tallied.{TypesTally}
-use Rattle.element_types.proofs.counting.type_count.Given as goal
-
-abbrev pub invariant-loop-r : goal.invariant-loop-r
-invariant-loop-r l = TypesTally l.sh l.words l.n l.r

@@ -1,7 +1,0 @@
--- The rows are taken one after another, and each mark is written behind those before it.
--- Assumes nothing.
-use Rattle.marks.proofs.products.Marked.{MarkedTo}
-use Rattle.marks.proofs.products.mark_few.Given as goal
-
-abbrev pub invariant-loop-k : goal.invariant-loop-k
-invariant-loop-k l = MarkedTo l.sh l.lists l.floats l.rows l.initial.marks l.marks l.k

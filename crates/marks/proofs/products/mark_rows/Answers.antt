@@ -1,2 +1,0 @@
--- A table is made only where no two vertex sets are the same and the rows are many.
--- Assumes nothing.
