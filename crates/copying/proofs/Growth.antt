@@ -2,9 +2,9 @@
 -- Assumes nothing.
 use mathlib.Core.Path.{◌≡◌, refl, sym, ap, ap₂, ◌∙◌}
 use mathlib.Core.Bool.{Bool, true, false}
-use mathlib.Core.List.{List, [], ◌∷◌, ◌++◌, append_assoc, append-nil}
+use mathlib.Core.List.{List, [], ◌∷◌, ◌++◌, map, append_assoc, append-nil}
 use Prim.Native.Nat.{ℕ, suc, ◌+◌, ◌-◌, ◌*◌, ◌/◌, ◌≤◌, ◌<◌}
-use native.Mathlib.Nat.{mul-le-mul_right}
+use native.Mathlib.Nat.{mul-le-mul_right, add-div_left, div-eq_of_lt}
 use native.Mathlib.Numerals.{add-one}
 use native.Mathlib.Omega.{arith}
 use lib.ListN.{length, get_or, take, drop, length-append, length-map, take-append-drop}
@@ -216,3 +216,16 @@ matrix_is d l j h =
 pub length-matrices : (d : ℕ) (l : List Float) → length (matrices d l) ≡ length l / (d * d)
 unfolding matrices
 length-matrices d l = length-map (parts (length l / (d * d)) (d * d) l) (parts d d) ∙ length-parts (length l / (d * d)) (d * d) l
+
+-- The matrices of a slice are its first one and those of what is left.
+pub matrices_next : (d : ℕ) (m rest : List Float) → 0 < d * d → length m ≡ d * d → matrices d (m ++ rest) ≡ parts d d m ∷ matrices d rest
+unfolding matrices parts
+matrices_next d m rest h e =
+    let n = length rest / (d * d) in
+    let k : length (m ++ rest) / (d * d) ≡ suc n = rw (length-append m rest, e) (add-div_left (length rest) h ∙ add-one n) in
+    ap (λ (x : ℕ). map (parts d d) (parts x (d * d) (m ++ rest))) k
+    ∙ ap₂ (λ (x y : List Float). parts d d x ∷ map (parts d d) (parts n (d * d) y)) (take_at m rest (d * d) e) (drop_at m rest (d * d) e)
+
+pub matrices_none : (d : ℕ) (l : List Float) → length l < d * d → matrices d l ≡ []
+unfolding matrices parts
+matrices_none d l h = rw (div-eq_of_lt h) refl

@@ -25,7 +25,8 @@ pub record Overfull (limit : ℕ) (all : List Vector) (before after : List Float
   pub more : limit < length all
   pub is : after ≡ written (join (take limit all)) before
 
--- Says what a buffer holds by the answer, which is the number of the copies or that there is no room for them, where `all` are the copies and at most `limit` are kept.
+-- Says what a buffer holds by the answer, which is the number of the copies or that there is no room for them. Here `all` are the copies, and at most
+-- `limit` of them are kept.
 abbrev pub CopiesKept : (d limit : ℕ) (all : List Vector) (before after : List Float) → Option ℕ → Type 0
 CopiesKept d limit all before after (Some n) = Fitting d limit all before after n
 CopiesKept d limit all before after None = Overfull limit all before after

@@ -80,6 +80,7 @@ fn entries() -> [[[f64; 3]; 3]; 48]
 }
 
 // Returns an entry in the form of every matrix, rows of rows with room for the largest dimension. Every cell past the third holds 0.
+// The rows are written by index, since the checker knows nothing of the cells that a zip with `iter_mut` has written.
 fn widened(m: [[f64; 3]; 3]) -> [[f64; DIMENSION]; DIMENSION]
     ensures { result ≡ padded_rows m }
 {

@@ -51,14 +51,13 @@ impl CopyList<'_> {
         None
     }
 
-    // Adds the images of p under every matrix in order. A matrix is read by its number, as `points::matrix_at` reads it everywhere.
+    // Adds the images of p under every matrix in order. Each chunk holds one matrix, which is therefore the chunk's matrix 0.
     fn spread(&mut self, turns: &[f64], p: [f64; DIMENSION]) -> Option<()>
         ensures { Extended self.old (spread (matrices self.old.dimension turns.now) (take self.old.dimension p) (copies_in self.old)) self.new result }
     {
         let d = self.dimension;
-        let count = turns.len() / (d * d);
-        for j in 0..count {
-            self.add(matrix::image(points::matrix_at(turns, d, j), p, d))?;
+        for turn in turns.chunks_exact(d * d) {
+            self.add(matrix::image(points::matrix_at(turn, d, 0), p, d))?;
         }
         Some(())
     }
@@ -73,7 +72,8 @@ impl CopyList<'_> {
         self.spread(turns, p)
     }
 
-    // Adds the images of all the points, one point after another.
+    // Adds the images of all the points, one point after another. `Points` lends a point by its number and has no iterator: an iterator of this
+    // repository's own would need its laws proved, and most of those who walk over points need the number.
     fn copy_all(&mut self, from: &Points, turns: &[f64]) -> Option<()>
         requires { from.now.dimension ≡ self.old.dimension }
         ensures { Extended self.old (copies_from (matrices self.old.dimension turns.now) (listed from.now) (copies_in self.old)) self.new result }

@@ -10,11 +10,12 @@ ghost use Rattle.points.specs.Listed.{listed};
 use points::Points;
 use points::lookup::{Lookup, places};
 
-// This is the number that fills a table when an image is not among the copies.
+// This is the number that fills a table when an image is not among the copies. By the rules it is the value that is handed out, and the cells are the
+// 16-bit cells that C lends, which have no room for a None.
 const NO_IMAGE: u16 = 65535;
 
-// Writes row after row, and says whether every image is among the copies. The number of a matrix is also that of its row, and there may be no copies
-// here, so that neither slice is cut into parts.
+// Writes row after row, and says whether every image is among the copies. The rows go by offset, since there may be no copies, so that a row has no
+// cells to cut by, and each matrix goes by the same number as its row.
 pub fn write(copies: &Points, turns: &[f64], out: &mut [u16]) -> bool
     requires { (1 ≤ copies.now.dimension) × (copies.now.count ≤ max_count)
         × (length turns.now / (copies.now.dimension * copies.now.dimension) * copies.now.count ≤ length out.old) }

@@ -9,7 +9,7 @@ use ranked::lists::{entries_at, list_word};
 // Numbers the elements of a rank by first appearance of their keys. Element e's type is entry e of `own`, its list of neighbours is at word
 // list_word(base, e), and `next` has the types of the neighbours' rank. `keys` has one key of each kind, and `places` says where these stand. Unlike a
 // class, a key is written behind those that were met before it is compared, so one function for both numberings would need a closure that changes the
-// words and its own state.
+// words and its own state. How many keys there are, and how many words they take, is counted in this call alone.
 pub fn number_rank(
     lists: &[u32],
     base: usize,

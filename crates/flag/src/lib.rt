@@ -24,7 +24,8 @@ pub struct Flag {
 }
 
 // Returns the first element of rank r, other than e, between g of the rank above and h of the rank below. The shorter of g's subs and h's sups is gone
-// through, which for a ridge with two sups below a top with many subs is that of the sups.
+// through, which for a ridge with two sups below a top with many subs is that of the sups. `preflight` counts the same elements, by a chain of its own:
+// a walk that hands each to a closure would serve both no better, since this one stops at the first.
 fn other_between(solid: &Solid, r: usize, g: usize, h: usize, e: usize) -> Option<usize>
     requires { (0 < r) × (r < solid.now.shape.rank) × (g < size_at solid.now.shape (suc r)) × (h < size_at solid.now.shape (r - 1)) }
     ensures { result ≡ other_in e (between (abs_of solid.now) r g h) }

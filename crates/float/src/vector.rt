@@ -26,15 +26,15 @@ pub fn dot_of(a: [f64; DIMENSION], b: [f64; DIMENSION], d: usize) -> f64
     dot(&a[..d], &b[..d])
 }
 
-// Returns the slice a less the first entries of b, entry by entry. The entries past a's length are free. The loop goes by the number, because after a zip
-// of `iter_mut` the library promises nothing of the cells that were written.
+// Returns the slice a less the first entries of b, entry by entry. The entries past a's length are free. The cells are written by index, since a proof knows
+// nothing of cells that were written through a zip with them.
 pub fn difference(a: &[f64], b: [f64; DIMENSION]) -> [f64; DIMENSION]
     requires { length a.now ≤ max_dimension }
     ensures { take (length a.now) result ≡ zip minus a.now (take (length a.now) b) }
 {
     let mut r = b;
-    for i in 0..a.len() {
-        r[i] = a[i] - b[i];
+    for (i, x) in a.iter().enumerate() {
+        r[i] = x - b[i];
     }
     r
 }

@@ -46,7 +46,8 @@ pub fn listed_for(listed: &[f64], x: f64) -> Option<f64>
 }
 
 // "A distance takes the smallest listed value strictly nearer than EPS, else joins the list." There is no heap, so the list grows in lent cells, of which
-// the first n are listed.
+// the first n are listed. The cells and n are no struct, because only this function and `classes_of_rank` take the two together, and the caller keeps the
+// number in a local.
 pub fn list_distance(listed: &mut [f64], n: usize, x: f64) -> ListedValue
     requires { n < length listed.old }
     ensures { Takes listed.old listed.new n x result }

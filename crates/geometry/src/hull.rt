@@ -20,14 +20,14 @@ pub struct Hull {
     pub count: usize,
 }
 
-// The step is "q += b times s", on as many entries as b has. The loop goes by the number, because after a zip of `iter_mut` the library promises nothing of
-// the cells that were written.
+// The step is "q += b times s", on as many entries as b has. The cells are written by index, since a proof knows nothing of cells that were written through
+// a zip with them.
 fn step_along(q: &mut [f64; DIMENSION], b: &[f64], s: f64)
     requires { length b.now ≤ max_dimension }
     ensures { take (length b.now) q.new ≡ zip (λ x y. plus x (times y s)) (take (length b.now) q.old) b.now }
 {
-    for i in 0..b.len() {
-        q[i] += b[i] * s;
+    for (i, y) in b.iter().enumerate() {
+        q[i] += y * s;
     }
 }
 
@@ -57,7 +57,8 @@ impl Hull {
         }
     }
 
-    // "To project p: d = p − offset; q = offset; for each b in order, q += b times (d · b)."
+    // "To project p: d = p − offset; q = offset; for each b in order, q += b times (d · b)." The vectors are read by their numbers from the
+    // one flat array that this project asks for, as their definition `vector_at` does. Chunks of the array would say a second time where a vector stands.
     pub fn project(self, p: &[f64]) -> [f64; DIMENSION]
         requires { (length p.now ≤ max_dimension) × (self.count ≤ max_dimension) }
         ensures { take (length p.now) result ≡ project (hull_in (length p.now) self) p.now }

@@ -34,7 +34,8 @@ struct Generator {
 }
 
 impl Generator {
-    // Makes a generator of row k. The place of a vertex that the row has not is past every row's end.
+    // Makes a generator of row k. The place of a vertex that does not occur in the row is past every row's end, and no None, since a place has 16 bits
+    // in this table on the stack.
     fn of(row: &[u16], k: usize) -> Generator
         requires { length row.now ≤ max_count }
     {
@@ -61,6 +62,7 @@ fn row_at(rows: &[u16], v: usize, k: usize) -> &[u16]
 }
 
 // Returns the first place for the row whose first entries are those that this row has at these places. An entry past the end counts as 0.
+// `points::lookup` takes the places of floats by another formula, so the two have only `mixed` in common.
 fn place(row: &[u16], places: &[u16; ENTRIES]) -> usize
     ensures { result < table_places }
 {

@@ -2,9 +2,10 @@
 -- Assumes nothing.
 use mathlib.Core.Path.{◌≡◌, refl, sym, ap, ap₂, ◌∙◌}
 use mathlib.Core.List.{List, [], ◌∷◌, map}
-use Prim.Native.Nat.{ℕ, zero, suc, ◌≤◌}
+use Prim.Native.Nat.{ℕ, zero, suc, ◌≤◌, ◌<◌}
+use native.Mathlib.Omega.{arith}
 use lib.ListN.{get_or, take, length, length-map}
-use lib.Seq.{length-take-le}
+use lib.Seq.{length-take-le, get_or-take}
 use lib.Ieee.{Float}
 use Rattle.spec.specs.Lists.{range}
 use Rattle.spec.specs.Float.{zero_f, dot}
@@ -18,6 +19,20 @@ pub take-map : {A B : Type 0} (f : A → B) (n : ℕ) (l : List A) → take n (m
 take-map f zero l = refl
 take-map f (suc n) [] = refl
 take-map {B = B} f (suc n) (x ∷ l) = ap (λ (y : List B). f x ∷ y) (take-map f n l)
+
+-- A loop over the first d rows knows of each that it is the array's row of that number.
+module _ {A : Type 0} (d : ℕ) (m : List (List A)) (h : d ≤ length m) {i : ℕ} where
+  pub below : i < length (take d m) → i < d
+  below p = omega (arith, length-take-le d m h)
+
+  pub at-most : i ≤ length (take d m) → i ≤ d
+  at-most p = omega (arith, length-take-le d m h)
+
+  pub at-end : length (take d m) ≤ i → d ≤ i
+  at-end p = omega (arith, length-take-le d m h)
+
+  pub item : i < length (take d m) → get_or (take d m) i [] ≡ get_or m i []
+  item p = get_or-take d m i [] (below p)
 
 pub length-corner : (d : ℕ) (m : List (List Float)) → d ≤ length m → length (corner d m) ≡ d
 unfolding corner leading

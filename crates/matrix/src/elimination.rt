@@ -30,8 +30,8 @@ fn beside_identity(m: [[f64; DIMENSION]; DIMENSION], d: usize) -> [[f64; WIDTH];
     ensures { leading d (d + d) result ≡ zip (λ x e. x ++ e) (corner d m) (identity d) }
 {
     let mut r = [[0.0; WIDTH]; DIMENSION];
-    for i in 0..d {
-        r[i] = beside(m[i], i, d);
+    for (i, row) in m[..d].iter().enumerate() {
+        r[i] = beside(*row, i, d);
     }
     r
 }
@@ -98,8 +98,8 @@ fn rows_cleared(
     ensures { leading d (d + d) result ≡ clear c (take (d + d) pivot) (leading d (d + d) rows) }
 {
     let mut x = rows;
-    for r in 0..d {
-        x[r] = row_next(rows[r], pivot, r, c);
+    for (r, row) in rows[..d].iter().enumerate() {
+        x[r] = row_next(*row, pivot, r, c);
     }
     x
 }
@@ -130,15 +130,15 @@ fn right_half(v: [f64; WIDTH], d: usize) -> [f64; DIMENSION]
     r
 }
 
-// Returns the right halves of the working rows. They are d rows of d entries, so that the matrix they make up can be read back from the array. The loop goes
-// by the number, as those of the crate's root do, since the rows behind the first d stay zeros.
+// Returns the right halves of the working rows. They are d rows of d entries, so that the matrix they make up can be read back from the array. They are
+// written into zeros, as in the crate's root, since the rows behind the first d stay zeros.
 fn right_halves(rows: [[f64; WIDTH]; DIMENSION], d: usize) -> [[f64; DIMENSION]; DIMENSION]
     requires { d ≤ max_dimension }
     ensures { (result ≡ padded_rows (map (drop d) (leading d (d + d) rows))) × (corner d result ≡ map (drop d) (leading d (d + d) rows)) }
 {
     let mut r = [[0.0; DIMENSION]; DIMENSION];
-    for i in 0..d {
-        r[i] = right_half(rows[i], d);
+    for (i, row) in rows[..d].iter().enumerate() {
+        r[i] = right_half(*row, d);
     }
     r
 }
@@ -196,7 +196,7 @@ pub fn eliminate(m: [[f64; DIMENSION]; DIMENSION], d: usize) -> Option<Eliminate
         if x == 0.0 {
             return None;
         }
-        // The checker takes no array that one statement both passes and assigns.
+        // The checker cannot follow `rows = column(rows, ..)`, so the new rows have a name of their own first.
         let next = column(rows, p, x, c, d);
         rows = next;
         t = multiplied(t, x, c);

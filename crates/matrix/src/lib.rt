@@ -1,6 +1,6 @@
 // This crate has matrices of a dimension d up to DIMENSION, as rows of rows by value with d beside them, which is the form that this project asks for. Of
-// an argument, the first d entries of the first d rows are read. In a result, every other cell holds 0.0. So the loops go over the first d cells of an
-// array of zeros: `array::from_fn`, which makes every cell, would have to compare each number with d.
+// an argument, the first d entries of the first d rows are read. In a result, every other cell holds 0.0. So the loops go over the first d rows
+// or columns and write a cell for each into an array of zeros: `array::from_fn`, which makes every cell, would have to compare each number with d.
 #![tactic(auto)]
 
 ghost use Rattle.std.specs.Prelude.{◌≡◌, map, ◌≤◌, ◌<◌, take, get_or};
@@ -21,8 +21,8 @@ pub fn image(m: [[f64; DIMENSION]; DIMENSION], v: [f64; DIMENSION], d: usize) ->
     ensures { result ≡ padded (mul_vec (corner d m) (take d v)) }
 {
     let mut r = [0.0; DIMENSION];
-    for i in 0..d {
-        r[i] = vector::dot_of(m[i], v, d);
+    for (i, row) in m[..d].iter().enumerate() {
+        r[i] = vector::dot_of(*row, v, d);
     }
     r
 }
@@ -33,13 +33,14 @@ fn column_of(c: [[f64; DIMENSION]; DIMENSION], j: usize, d: usize) -> [f64; DIME
     ensures { result ≡ padded (map (λ row. get_or row j zero_f) (corner d c)) }
 {
     let mut r = [0.0; DIMENSION];
-    for i in 0..d {
-        r[i] = c[i][j];
+    for (i, row) in c[..d].iter().enumerate() {
+        r[i] = row[j];
     }
     r
 }
 
-// Returns the matrix whose columns are the rows of c.
+// Returns the matrix whose columns are the rows of c. The loop goes by the number of the column, since each column takes a cell of all
+// rows of c.
 pub fn from_columns(c: [[f64; DIMENSION]; DIMENSION], d: usize) -> [[f64; DIMENSION]; DIMENSION]
     requires { d ≤ max_dimension }
     ensures { result ≡ padded_rows (columns (corner d c)) }
@@ -62,8 +63,8 @@ pub fn product(
 {
     let t = from_columns(b, d);
     let mut r = [[0.0; DIMENSION]; DIMENSION];
-    for i in 0..d {
-        r[i] = image(t, a[i], d);
+    for (i, row) in a[..d].iter().enumerate() {
+        r[i] = image(t, *row, d);
     }
     r
 }

@@ -8,7 +8,7 @@ use native.Mathlib.Numerals.{add-one}
 use native.Mathlib.Decide.{ℕ_discrete}
 use native.Mathlib.Omega.{arith}
 use lib.ListN.{length, get_or, set, take, drop, length-map, take-append-drop}
-use lib.Seq.{take_at, drop_at, take-add, take-length, drop-cons, drop-drop, set_split, length-take-le}
+use lib.Seq.{take_at, drop_at, take-add, take-length, drop-cons, drop-drop, drop-append-le, set_split, length-take-le}
 use lib.Dec.{eqb, ltb}
 use borrow.Author.Tests.{eq-eqb, ne_eqb, lt-ltb, le-ltb}
 use Rattle.spec.specs.Lists.{holds, every, written}
@@ -120,6 +120,23 @@ module _ {x : ℕ} {new before : List ℕ} where
         none = rw t at f.none;
         is = f.is ∙ ap₂ (λ (y z : List ℕ). y ++ z) t (ap (λ (y : ℕ). drop y before) e);
       }
+
+-- What is filled in a buffer's first n cells is filled in the buffer.
+pub filled_wide : {x : ℕ} {new before buffer : List ℕ} {k : ℕ} (n : ℕ) → k ≤ n → n ≤ length before → CellsFilled x new (take n before) buffer k
+    → CellsFilled x new before (buffer ++ drop n before) k
+filled_wide {x} {new} {before} {buffer} {k} n g h f =
+    let front = take n before in
+    let back = drop n before in
+    record {
+      within = f.within;
+      is =
+          ap (λ (y : List ℕ). y ++ back) f.is
+          ∙ append_assoc (take k new) (drop k front) back
+          ∙ ap
+          (λ (y : List ℕ). take k new ++ y)
+          (sym (drop-append-le k front back (omega (arith, length-take-le n before h))) ∙ ap (drop k) (take-append-drop n before));
+      none = f.none;
+    }
 
 -- ---- the pieces: a cell
 

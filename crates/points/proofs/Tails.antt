@@ -1,15 +1,13 @@
 -- This file is about the part of a buffer from a cell to its end: what a loop writes at its front, and the buffer as it is back from the call.
 -- Assumes nothing.
 use mathlib.Core.Path.{◌≡◌, sym, ap, ap₂, ◌∙◌}
-use mathlib.Core.List.{List, [], ◌++◌, map, map-id, append-nil, append_assoc}
+use mathlib.Core.List.{List, [], ◌++◌, append-nil, append_assoc}
 use Prim.Native.Nat.{ℕ, ◌+◌, ◌-◌, ◌≤◌}
 use native.Mathlib.Omega.{arith}
-use lib.ListN.{length, get_or, take, drop, length-append, length-drop, drop_of_length-le}
+use lib.ListN.{length, take, drop, length-append, length-drop, drop_of_length-le}
 use lib.Seq.{take_all, drop-drop, take-append_seam, drop-append_seam}
 use borrow.Rule.Slice.PartMut.{mid_of, post_of, put_mid}
-use Rattle.spec.specs.Lists.{range, written}
-use Rattle.laws.proofs.Lists.{length_table}
-use Rattle.float.proofs.Written.{Written, whole, table_map}
+use Rattle.spec.specs.Lists.{written}
 
 module _ {A : Type 0} (l ys : List A) (k : ℕ) (h : k ≤ length l) where
   pub tail_is : mid_of k (length l - k) l ≡ drop k l

@@ -72,8 +72,8 @@ impl<'a> Points<'a> {
     }
 }
 
-// Returns matrix j of those that stand one after another in the slice, each row by row. Its rows lie there as points do. The loop counts them by an
-// index, since the dimension may be 0 here, and a slice cannot be cut into parts of no cells.
+// Returns matrix j of those that stand one after another in the slice, each row by row. Its rows lie there as points do, and are taken
+// by their numbers, since the dimension may be 0 here, and a slice cannot be cut into parts of no cells.
 pub fn matrix_at(matrices: &[f64], d: usize, j: usize) -> [[f64; DIMENSION]; DIMENSION]
     requires { (d ≤ max_dimension) × (j * (d * d) + d * d ≤ length matrices.now) }
     ensures { corner d result ≡ parts d d (take (d * d) (drop (j * (d * d)) matrices.now)) }
@@ -84,8 +84,8 @@ pub fn matrix_at(matrices: &[f64], d: usize, j: usize) -> [[f64; DIMENSION]; DIM
         count: d,
     };
     let mut m = [[0.0; DIMENSION]; DIMENSION];
-    for i in 0..d {
-        m[i] = rows.loaded(i);
+    for (i, row) in m[..d].iter_mut().enumerate() {
+        *row = rows.loaded(i);
     }
     m
 }

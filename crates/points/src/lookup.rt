@@ -108,8 +108,8 @@ pub struct Lookup<'a> {
 }
 
 impl Lookup<'_> {
-    // Returns the point near q, if the table tells it. `None` says only that the table does not tell it. A number that is no point's ends the looking
-    // and a point that is near is the answer, so that a chain over the places would have to test each number twice.
+    // Returns the point near q, if the table tells it. `None` says only that the table does not tell it. A number that is no point's ends the search,
+    // and a point that is near is the answer; a chain would test each number twice.
     fn guess(&self, q: [f64; DIMENSION]) -> Option<usize>
         ensures { Guessed self.now.points.count (find (listed self.now.points) (take self.now.points.dimension q)) result }
     {
@@ -144,12 +144,12 @@ impl Lookup<'_> {
         requires { self.now.points.count ≤ length row.old }
         ensures { Tabled self.now.points.count (row_of (listed self.now.points) (corner self.now.points.dimension m)) row.old row.new result }
     {
-        for k in 0..self.points.count {
+        for (k, cell) in row[..self.points.count].iter_mut().enumerate() {
             let q = matrix::image(m, self.points.loaded(k), self.points.dimension);
             let Some(at) = self.found(q) else {
                 return false;
             };
-            row[k] = at as u16;
+            *cell = at as u16;
         }
         true
     }

@@ -28,7 +28,7 @@ use Rattle.ranked.specs.declared.Shape.{Shape}
 use Rattle.ranked.specs.Words.{lists_of, abs_in}
 use Rattle.ranked.specs.Shapes.{shape_of}
 use Rattle.preflight.specs.Store.{parsed_of, said, StoredSheet}
-use Rattle.preflight.specs.Preflight.{verdict_of, checks_of, OnBench, SheetJudged, Preflighted}
+use Rattle.preflight.specs.Preflight.{without_value, checks_of, OnBench, SheetJudged, Preflighted}
 use Rattle.ranked.proofs.Solids.{sizes_are}
 use Rattle.preflight.proofs.store.Reading.{allowed}
 use Rattle.preflight.proofs.store.Whole.{room_in}
@@ -58,7 +58,7 @@ after_bench : (c : Concrete) (y z : Bool) → after c false y z ≡ Err Bench
 unfolding after judge ◌>>◌
 after_bench c y z = refl
 
-after_checks : (c : Concrete) (s : Solid) (y z : Bool) → bound s ≡ y → diamond s ≡ z → verdict_of (after c true y z) ≡ checks_of s
+after_checks : (c : Concrete) (s : Solid) (y z : Bool) → bound s ≡ y → diamond s ≡ z → without_value (after c true y z) ≡ checks_of s
 unfolding after judge ◌>>◌
 after_checks c s false z e f = loose s e
 after_checks c s true false e f = mitred s e f
@@ -95,7 +95,7 @@ module _ (b : List ℕ) (n m : ℕ) where
     pub cramped : roomy (solid_of p) n m ≡ false → preflight b n m ≡ Err Bench
     cramped q = went_on ∙ rw q (after_bench (said p) (bound (solid_of p)) (diamond (solid_of p)))
 
-    judged : roomy (solid_of p) n m ≡ true → verdict_of (preflight b n m) ≡ checks_of (solid_of p)
+    judged : roomy (solid_of p) n m ≡ true → without_value (preflight b n m) ≡ checks_of (solid_of p)
     judged q = rw (went_on, q) (after_checks (said p) (solid_of p) (bound (solid_of p)) (diamond (solid_of p)) refl refl)
 
     accepted : (c : Concrete) → preflight b n m ≡ Ok c → said p ≡ c
@@ -182,13 +182,13 @@ module _ (b : List ℕ) (n m : ℕ) (r : Judged Shape) (ws : List ℕ) (fs : Lis
               rw (← accepted b n m p e c k) (place (rw (← accepted b n m p e c k) at (every_passed b n m c k)) (z.kept sh l));
         }
           where
-            checks : verdict_of r ≡ verdict_of (preflight b n m)
+            checks : without_value r ≡ without_value (preflight b n m)
             checks = z.verdict ∙ sym (judged b n m p e (sym room ∙ q))
 
             go : (u : Judged Shape) (o : Judged Concrete) → r ≡ u → preflight b n m ≡ o → r ≡ map_ok shape_of o
-            go (Err why) (Err other) x y = x ∙ ap Err (refused_alike (sym (ap verdict_of x) ∙ checks ∙ ap verdict_of y))
-            go (Err why) (Ok c) x y = absurd (never why tt (sym (ap verdict_of x) ∙ checks ∙ ap verdict_of y))
-            go (Ok sh) (Err why) x y = absurd (never why tt (sym (ap verdict_of y) ∙ sym checks ∙ ap verdict_of x))
+            go (Err why) (Err other) x y = x ∙ ap Err (refused_alike (sym (ap without_value x) ∙ checks ∙ ap without_value y))
+            go (Err why) (Ok c) x y = absurd (never why tt (sym (ap without_value x) ∙ checks ∙ ap without_value y))
+            go (Ok sh) (Err why) x y = absurd (never why tt (sym (ap without_value y) ∙ sym checks ∙ ap without_value x))
             go (Ok sh) (Ok c) x y = x ∙ ap Ok (rw (← accepted b n m p e c y) (z.kept sh x).shape)
 
 -- ---- for the callers

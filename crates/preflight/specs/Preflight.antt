@@ -13,9 +13,9 @@ use Rattle.preflight.specs.Bench.{Bench}
 use Rattle.ranked.specs.Layout.{solid_in}
 use Rattle.ranked.specs.Shapes.{shape_of}
 
--- Gives the judgement by itself.
-abbrev pub verdict_of : {A : Type 0} → Judged A → Judged (Unit {0})
-verdict_of o = map_ok (λ _. tt) o
+-- Gives the judgement without what it accepts.
+abbrev pub without_value : {A : Type 0} → Judged A → Judged (Unit {0})
+without_value o = map_ok (λ _. tt) o
 
 -- Gives the judgement of the two tests of a solid. Refusal 5 is tested first, and then refusal 6.
 unfoldable pub checks_of : Solid → Judged (Unit {0})
@@ -28,7 +28,7 @@ pub record OnBench (c : Concrete) (sh : Shape) (ws : List ℕ) (fs : List Float)
 
 -- The sheet p, for which there is room, has been stored, and its solid has been judged.
 pub record SheetJudged (p : Parsed) (r : Judged Shape) (ws : List ℕ) (fs : List Float) : Type 0 where
-  pub verdict : verdict_of r ≡ checks_of (solid_of p)
+  pub verdict : without_value r ≡ checks_of (solid_of p)
   pub kept : (sh : Shape) → r ≡ Ok sh → StoredSheet p sh ws fs
 
 -- For the sheet b in n words and m floats, preflight gives the answer, which for a solid that passes is its shape, and the solid's place. Everything

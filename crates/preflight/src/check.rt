@@ -24,7 +24,8 @@ pub fn is_bound(solid: &Solid) -> bool
     (1..solid.rank().saturating_sub(1)).all(|r| bound_rank(solid, r))
 }
 
-// Counts the elements of rank r between g of the rank above and h of the rank below. The shorter of g's subs and h's sups is gone through.
+// Counts the elements of rank r between g of the rank above and h of the rank below. The shorter of g's subs and h's sups is gone through. Crate `flag` goes
+// through the same elements to find one of them. A walk that hands each to a closure would serve both no better, since that one stops at the first.
 fn between(solid: &Solid, r: usize, g: usize, h: usize) -> usize
     requires { (0 < r) × (r < solid.now.shape.rank) × (g < size_at solid.now.shape (suc r)) × (h < size_at solid.now.shape (r - 1)) }
     ensures { result ≡ length (between (abs_of solid.now) r g h) }

@@ -18,7 +18,8 @@ pub const STARTS: usize = MAX_RANK + 2;
 // A solid can have at most this many elements, the least and the top among them.
 pub const ELEMENTS: usize = MAX_PROPER + 2;
 
-// This says how the words are laid out. An element is known by its rank r and its number e in it, or by its number over all ranks, first[r] + e. The rank
+// There is no heap, so a solid's lists, and behind them its types and what a search keeps, stand in words that the caller lends. This says how the words
+// are laid out. An element is known by its rank r and its number e in it, or by its number over all ranks, first[r] + e. The rank
 // and the number are two parameters everywhere, as in the definitions, since most callers go over the numbers of one rank. Word 4 * g is where the list
 // of g's subs starts, the next word its length; the two words after them say the same of its sups.
 #[derive(Clone, Copy)]
@@ -53,6 +54,7 @@ fn starts_of(rank: usize, counts: [usize; PROPER_RANKS]) -> [usize; STARTS]
     first
 }
 
+// Some methods ask that the rank is within the limit. `Held`, which each `Solid` has, says so of its shape, and a ghost field here would say it again.
 impl Shape {
     // Returns the shape of a solid of rank R in D dimensions, by the counts of ranks 1 to R - 1 and the number of entries that its stored lists have.
     pub fn of(rank: usize, dimension: usize, counts: [usize; PROPER_RANKS], entries: usize) -> Shape

@@ -89,7 +89,7 @@ impl Entry for u8 {
     }
 }
 
-// Writes a number below 100,000 as five decimal digits.
+// Writes a number below 100,000 as five decimal digits, with leading zeros, which `Run::decimal` does not write.
 fn write_number(run: Run, n: u64) -> Result<Run, End> {
     let mut text = [0; 5];
     let mut rest = n;
@@ -100,7 +100,7 @@ fn write_number(run: Run, n: u64) -> Result<Run, End> {
     run.bytes(&text)
 }
 
-// Writes what stands after a number: a blank, or a new line.
+// Writes what stands after a number: a new line if the number is the last of its line, and a blank if not.
 fn write_gap(run: Run, last: bool) -> Result<Run, End> {
     run.bytes(if last { b"\n" } else { b" " })
 }

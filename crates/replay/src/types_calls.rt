@@ -39,6 +39,8 @@ fn prepare(from: i32, sheet: &mut [u8], of: &mut [u16], table: &mut [u16]) {
     filling::fill(table);
 }
 
+// In module `copies`, `call`, `replay_one` and `write` are like those here. A function for both would take the call and its outputs as closures, and each
+// call has outputs of its own types.
 fn call(
     run: Run,
     sheet: &mut [u8],

@@ -1,7 +1,11 @@
-// There is one function for each judgement, and each goes on to the next: "a search call .. with 8, 9, 10, 15, 11, then 12 or 13". What the words
-// and floats hold afterwards is free, and they keep their lengths. The three outputs are parameters of each: a struct of them was tried, behind a
-// reference and by value, but the rows are read while the marks are written, and the checker lends no field while another is lent. So are the words, the shape and the floats, since a
-// struct of them behind a reference would have to promise at each step that it holds the same two buffers and the same shape.
+// There is one function for each judgement, and each goes on to the next: "a search call .. with 8, 9, 10, 15, 11, then 12 or 13". What the words and
+// floats hold afterwards is free, and they keep their lengths.
+//
+// The three outputs are parameters of each judgement. A struct of them was tried. Behind a reference, the checker does not cover that the rows, to
+// which one field refers, are read while the marks, to which another refers, are written. By value, a judgement that hands the struct on to the next
+// one learns nothing of the outputs, so that it can promise nothing of them. The words, the shape and the floats are parameters as well, since a struct
+// of them behind a reference would have to promise at each step that it holds the same two buffers and the same shape. That there are facets, and that f
+// is one of them, is asked by each function that is handed f: a struct would hold nothing but that number and that fact.
 ghost use Rattle.std.specs.Prelude.{◌≡◌, ◌-◌, ◌≤◌, ◌<◌, length};
 ghost use Rattle.spec.specs.Search.{setting};
 ghost use Rattle.ranked.specs.Words.{size_at, lists_of};

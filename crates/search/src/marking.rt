@@ -1,4 +1,6 @@
 // "Members come in flag order with matrix and row", and each has a mark, which follows the rule for the solid as it was read.
+// The words, the shape and the floats are parameters of each step that writes them, since a struct of them behind a reference would have to promise
+// that it still holds the same buffers and shape. The reason why the rows and marks are parameters stands in `driver`.
 ghost use Rattle.std.specs.Prelude.{◌≡◌, ◌-◌, ◌*◌, ◌≤◌, ◌<◌, length};
 ghost use Rattle.spec.specs.Lists.{parts, written};
 ghost use Rattle.spec.specs.Search.{exchanged};

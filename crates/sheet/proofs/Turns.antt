@@ -8,9 +8,9 @@ use native.Mathlib.Nat.{sub-zero, zero-sub, add-zero, zero-add, add_assoc}
 use native.Mathlib.Numerals.{add-one}
 use native.Mathlib.Omega.{arith}
 use mathlib.Core.Logic.{◌⊎◌}
-use mathlib.Core.List.{List, [], ◌∷◌}
-use lib.ListN.{length, get_or, set, replicate, drop, length-drop}
-use lib.Seq.{sets, sets-eq, drop-cons}
+use mathlib.Core.List.{List, [], ◌∷◌, ◌++◌}
+use lib.ListN.{length, get_or, set, replicate, take, drop, length-drop, take-append-drop}
+use lib.Seq.{sets, sets-eq, drop-cons, set-append_left}
 use lib.Dec.{lit≤}
 use Rattle.spec.specs.declared.Refusal.{Refusal}
 use Rattle.spec.specs.declared.Refusal.TheVariants.{BadList}
@@ -88,9 +88,20 @@ module _ (b : List ℕ) (c n k low i : ℕ) {w : Judged (Unit {0} × ℕ)} (left
 abbrev pub counts_from : List ℕ → ℕ → ℕ → List ℕ → CountsRead
 counts_from a e k l = record { counts = sets a k l; elements = e + sum l }
 
-pub counts_more : (a : List ℕ) (e k x : ℕ) (l : List ℕ) → counts_from a e k (x ∷ l) ≡ counts_from (set a k x) (e + x) (k + 1) l
+counts_more : (a : List ℕ) (e k x : ℕ) (l : List ℕ) → counts_from a e k (x ∷ l) ≡ counts_from (set a k x) (e + x) (k + 1) l
 unfolding sum
 counts_more a e k x l = rw (add-one, add_assoc e x (sum l))
+
+-- The part of the array that is filled has n cells, and zeros stand behind it.
+abbrev pub among : ℕ → List ℕ → List ℕ
+among n cells = cells ++ drop n (replicate proper 0)
+
+pub among_first : (n : ℕ) → among n (take n (replicate proper 0)) ≡ replicate proper 0
+among_first n = take-append-drop n (replicate proper 0)
+
+pub among_more : (n e k x : ℕ) (cells l : List ℕ) → k < length cells → counts_from (among n cells) e k (x ∷ l) ≡ counts_from (among n (set cells k x)) (e + x) (k + 1) l
+among_more n e k x cells l h =
+    counts_more (among n cells) e k x l ∙ ap (λ z. counts_from z (e + x) (k + 1) l) (set-append_left cells (drop n (replicate proper 0)) k x h)
 
 pub counts_done : (a : List ℕ) (e k : ℕ) → record { counts = a; elements = e } ≡ counts_from a e k []
 unfolding sum

@@ -49,7 +49,7 @@ fn bit(sheet: &[u8], index: usize) -> u64
     u64::from((sheet[index / 8] >> (7 - index % 8)) % 2)
 }
 
-// Returns the number that the `width` bits from bit `start` on stand for.
+// Returns the number that the `width` bits from bit `start` on stand for. The bits go by their numbers, since a slice lends bytes and no bits.
 #[tactic(auto, using(crate::proofs::Fields::next_fits), unfolding(spec::specs::Bits::field))]
 pub fn field(sheet: &[u8], start: usize, width: usize) -> u64
     requires { (width ≤ 64) × (start + width < 2 ^ 64) × (start + width ≤ 8 * length sheet.now) }
@@ -93,12 +93,12 @@ impl Cursor<'_> {
         // The counts go by the number of the rank, and those behind the n that are read stay 0.
         let mut counts = [0usize; PROPER_RANKS];
         let mut elements: usize = 0;
-        for k in 0..n {
+        for cell in counts[..n].iter_mut() {
             let x = self.bits(12)? as usize;
             if x == 0 || x > MAX_COUNT {
                 return Err(Refusal::Format);
             }
-            counts[k] = x;
+            *cell = x;
             elements += x;
         }
         Ok(CountsRead { counts, elements })
@@ -167,7 +167,8 @@ impl Cursor<'_> {
         requires { (self.old.at < 2 ^ 30) × (length counts.now ≤ proper) × ((k : ℕ) → get_or counts.now k 0 ≤ max_count) }
         ensures { Reads (kept all_entries (form.lists self.old.sheet.now counts.now)) self.old self.new result }
     {
-        // Of each pair from `windows(2)` the two counts would be read by index again.
+        // Of each pair from `windows(2)` the two counts would be read by index again. A zip with `skip(1)` gives the proof no number of the rank, by which it
+        // takes the counts that are left.
         let mut entries: usize = 0;
         for k in 1..counts.len() {
             entries += self.rank_lists(counts[k - 1], counts[k])?;

@@ -32,6 +32,6 @@ class_table c = [] ∷ by_rank (map (λ r. size c.abs r) (proper_ranks c.abs)) (
 abbrev pub by_table : List (List ℕ) → Classes
 by_table t r e = get_or (get_or t r []) e 0
 
--- These are the types of a solid's elements, or `none` where the sweeps do not settle.
+-- These are the types of a solid's elements, or `None` where the sweeps do not settle.
 unfoldable pub types_of : Concrete → Option State
 types_of c = let t = class_table c in result c.abs (by_table t)

@@ -70,7 +70,7 @@ cleared c pivot v = let x = get_or v c zero_f in zip (λ y z. minus y (times x z
 unfoldable pub clear : ℕ → Vector → Matrix → Matrix
 clear c pivot a = zip (λ r v. elim (eqb r c) [ true ↦ pivot | false ↦ cleared c pivot v ]) (range 0 (length a)) a
 
--- This is the elimination in column c, which gives `none` where the pivot is zero.
+-- This is the elimination in column c, which gives `None` where the pivot is zero.
 unfoldable pub column : ℕ → Work → Option Work
 column c w =
     let p = pivot_row w.rows c in
@@ -92,7 +92,7 @@ gauss_jordan a =
     let d = length a in
     eliminate (range 0 d) (record { rows = zip (λ r e. r ++ e) a (identity d); pivots = []; swaps = 0 })
 
--- This is the half of the rows that was the identity, or `none` where the matrix is singular.
+-- This is the half of the rows that was the identity, or `None` where the matrix is singular.
 unfoldable pub inverse : Matrix → Option Matrix
 inverse a = elim (gauss_jordan a) [ None ↦ None | Some w ↦ Some (map (drop (length a)) w.rows) ]
 

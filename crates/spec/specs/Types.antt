@@ -141,7 +141,7 @@ sweep_steps s = map up (proper_ranks s) ++ map down (reverse (proper_ranks s))
 unfoldable pub sweep : Solid → State → State
 sweep s S = play s S (sweep_steps s)
 
--- "Sweeps end when one leaves the number of types unchanged." This is the state that such a sweep gives, or `none` where n sweeps are done before one
+-- "Sweeps end when one leaves the number of types unchanged." This is the state that such a sweep gives, or `None` where n sweeps are done before one
 -- does.
 unfoldable pub settle : Solid → ℕ → State → Option State
 settle s zero S = None
@@ -149,7 +149,7 @@ settle s (suc n) S =
     let S' = sweep s S in
     elim (eqb (type_count s S') (type_count s S)) [ true ↦ Some S' | false ↦ settle s n S' ]
 
--- The first sweep is done before any is compared, because "the first never" ends them. `none` is refusal 15, "E + 2 sweeps done, still changing".
+-- The first sweep is done before any is compared, because "the first never" ends them. `None` is refusal 15, "E + 2 sweeps done, still changing".
 unfoldable pub result : Solid → Classes → Option State
 result s cls = settle s (elements s + 1) (sweep s (start s cls))
 

@@ -33,48 +33,48 @@ use Rattle.symmetry.proofs.Ends.{all_listed, short_listed}
 use Rattle.symmetry.proofs.Turning.{FlagsFrom, flags-first, flags-end, later, flags-at, flags-next}
 
 abbrev setting : Search → Concrete → Setting
-setting x c = setting_in x.shape x.words.now x.lookup.points.floats.now x.inverse c
+setting x c = setting_in x.prepared.shape x.prepared.words.now x.prepared.floats.now x.inverse c
 
 -- The flags Fs are to come, n members are listed, and the outputs ms and rs are ms' and rs' now. A row has v entries.
 abbrev pub Tally : Search → ℕ → ℕ → List Float → List Float → List ℕ → List ℕ → ℕ → List Flag → Type 0
 Tally x room v ms ms' rs rs' n Fs =
-    (c : Concrete) → Going (setting x c) x.rotations (room_for ms rs room) x.shape.dimension v (flags (abstract_in x.shape x.words.now)) Fs ms ms' rs rs' n
+    (c : Concrete) → Going (setting x c) x.rotations (room_for ms rs room) x.prepared.shape.dimension v (flags (abstract_in x.prepared.shape x.prepared.words.now)) Fs ms ms' rs rs' n
 
 -- The same, where the flags from F on are to come.
 abbrev pub SoFar : Search → ℕ → ℕ → List Float → List Float → List ℕ → List ℕ → ℕ → Flag → Type 0
-SoFar x room v ms ms' rs rs' n F = FlagsFrom (abstract_in x.shape x.words.now) F (Tally x room v ms ms' rs rs' n)
+SoFar x room v ms ms' rs rs' n F = FlagsFrom (abstract_in x.prepared.shape x.prepared.words.now) F (Tally x room v ms ms' rs rs' n)
 
-module _ (x : Search) (tall : x.shape.dimension ≤ length x.inverse) (room v : ℕ) (many : v ≡ size_at x.shape 1) (ms : List Float) (rs : List ℕ) where
+module _ (x : Search) (tall : x.prepared.shape.dimension ≤ length x.inverse) (room v : ℕ) (many : v ≡ size_at x.prepared.shape 1) (ms : List Float) (rs : List ℕ) where
   abbrev s : Solid
-  s = abstract_in x.shape x.words.now
+  s = abstract_in x.prepared.shape x.prepared.words.now
 
   abbrev lists : List ℕ
-  lists = lists_of x.shape x.words.now
+  lists = lists_of x.prepared.shape x.prepared.words.now
 
   abbrev d : ℕ
-  d = x.shape.dimension
+  d = x.prepared.shape.dimension
 
   abbrev m : Room
   m = room_for ms rs room
 
   shape : (c : Concrete) → SettingFit d v (setting x c)
   unfolding setting_of
-  shape c = record { wide = refl; many = points-many x.shape x.words.now x.lookup.points.floats.now ∙ sym many; inverse = length-corner d x.inverse tall }
+  shape c = record { wide = refl; many = points-many x.prepared.shape x.prepared.words.now x.prepared.floats.now ∙ sym many; inverse = length-corner d x.inverse tall }
 
-  pub so_far_first : SoFar x room v ms ms rs rs 0 (flag_in x.shape.rank x.first)
+  pub so_far_first : SoFar x room v ms ms rs rs 0 (flag_in x.prepared.shape.rank x.first)
   so_far_first =
-      flags-first s _ (flag_in x.shape.rank x.first) (nth_first x.shape lists x.searching.bench.held _ x.first_value)
+      flags-first s _ (flag_in x.prepared.shape.rank x.first) (nth_first x.prepared.shape lists x.prepared.searching.bench.held _ x.first_value)
       (λ c. going_first (setting x c) x.rotations m d v (flags s) ms rs)
 
   module _ (ms' : List Float) (rs' : List ℕ) (n : ℕ) (F : Flag) (t : SoFar x room v ms ms' rs rs' n F) where
     abbrev left : List Flag
-    left = later x.shape lists x.searching.bench.held (Tally x room v ms ms' rs rs' n) F t
+    left = later x.prepared.shape lists x.prepared.searching.bench.held (Tally x room v ms ms' rs rs' n) F t
 
     here : Tally x room v ms ms' rs rs' n (F ∷ left)
-    here = flags-at x.shape lists x.searching.bench.held (Tally x room v ms ms' rs rs' n) F t
+    here = flags-at x.prepared.shape lists x.prepared.searching.bench.held (Tally x room v ms ms' rs rs' n) F t
 
     pub is_flag : IsFlag s F
-    is_flag = nth_flag x.shape lists x.searching.bench.held F t.from t.flag
+    is_flag = nth_flag x.prepared.shape lists x.prepared.searching.bench.held F t.from t.flag
 
     -- The parts after the members start within the outputs.
     pub inside : (n * (d * d) ≤ length ms') × (n * v ≤ length rs') × (n ≤ room)
@@ -91,7 +91,7 @@ module _ (x : Search) (tall : x.shape.dimension ≤ length x.inverse) (room v : 
     abbrev row_part : List ℕ
     row_part = mid_of (n * v) (length rs' - n * v) rs'
 
-    module _ (u : Tried) (p : List Float) (q : List ℕ) (e : (c : Concrete) → Came d (size_at x.shape 1) (room - n) (gives (setting x c) x.rotations F) u matrix_part p row_part q) where
+    module _ (u : Tried) (p : List Float) (q : List ℕ) (e : (c : Concrete) → Came d (size_at x.prepared.shape 1) (room - n) (gives (setting x c) x.rotations F) u matrix_part p row_part q) where
       abbrev matrices : List Float
       matrices = put_mid (n * (d * d)) (length ms' - n * (d * d)) ms' p
 
@@ -134,9 +134,9 @@ module _ (x : Search) (tall : x.shape.dimension ≤ length x.inverse) (room v : 
             go (inr (r, z)) = rw z (added r)
 
         pub so_far_next : (G : Flag) → next ≡ Some G → SoFar x room v ms matrices rs rows k G
-        so_far_next G g = flags-next x.shape lists x.searching.bench.held (Tally x room v ms ms' rs rs' n) F t next f G g (Tally x room v ms matrices rs rows k) tally
+        so_far_next G g = flags-next x.prepared.shape lists x.prepared.searching.bench.held (Tally x room v ms ms' rs rs' n) F t next f G g (Tally x room v ms matrices rs rows k) tally
 
         pub all_tried : next ≡ None → AllTried x room (Ok k) ms matrices rs rows
         all_tried g c =
             all_listed (setting x c) x.rotations m d v (shape c) (flags s) ms matrices rs rows k
-            (flags-end x.shape lists x.searching.bench.held (Tally x room v ms ms' rs rs' n) F t next f g (Tally x room v ms matrices rs rows k) tally c)
+            (flags-end x.prepared.shape lists x.prepared.searching.bench.held (Tally x room v ms ms' rs rs' n) F t next f g (Tally x room v ms matrices rs rows k) tally c)

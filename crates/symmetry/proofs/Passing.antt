@@ -28,10 +28,10 @@ use Rattle.symmetry.proofs.Bounds.{vertices_are, points-many, points-read}
 
 module _ (x : Search) (m : List (List Float)) where
   abbrev sh : Shape
-  sh = x.shape
+  sh = x.prepared.shape
 
   abbrev fs : List Float
-  fs = x.lookup.points.floats.now
+  fs = x.prepared.floats.now
 
   abbrev v : ℕ
   v = x.lookup.points.count
@@ -40,25 +40,27 @@ module _ (x : Search) (m : List (List Float)) where
   M = corner sh.dimension m
 
   abbrev s : Solid
-  s = abstract_in sh x.words.now
+  s = abstract_in sh x.prepared.words.now
 
   abbrev z : State
-  z = state_in sh x.words.now
+  z = state_in sh x.prepared.words.now
 
   abbrev found : List ℕ
   found = row_of (searched_in x).points M
 
   same_row : row_of (parts v sh.dimension fs) M ≡ found
-  same_row = ap (λ (ps : List Vector). row_of ps M) (sym (points-read sh x.words.now fs v x.many))
+  same_row = ap (λ (ps : List Vector). row_of ps M) (sym (points-read sh x.prepared.words.now fs v x.many))
 
   module _ (before cells : List ℕ) (r : Bool) (row : Tabled v (row_of (listed x.lookup.points) (corner x.lookup.points.dimension m)) before cells r) where
     table : Tabled v (row_of (parts v sh.dimension fs) M) before cells r
-    table = subst (λ n. Tabled v (row_of (parts v n fs) (corner n m)) before cells r) x.axes row
+    table =
+        subst (λ n. Tabled v (row_of (parts v n fs) (corner n m)) before cells r) x.axes
+        (subst (λ (l : List Float). Tabled v (row_of (parts v x.lookup.points.dimension l) (corner x.lookup.points.dimension m)) before cells r) x.same_floats row)
 
     passed : r ≡ every (λ u. ltb u (length (searched_in x).points)) found
     passed =
         all_found (parts v sh.dimension fs) M v (length-parts v sh.dimension fs) before cells r table
-        ∙ ap₂ (λ (n : ℕ) (l : List ℕ). every (λ u. ltb u n) l) (x.many ∙ sym (points-many sh x.words.now fs)) same_row
+        ∙ ap₂ (λ (n : ℕ) (l : List ℕ). every (λ u. ltb u n) l) (x.many ∙ sym (points-many sh x.prepared.words.now fs)) same_row
 
     pub row_is : r ≡ true → take (size_at sh 1) cells ≡ found
     row_is e = ap (λ n. take n cells) (sym x.many) ∙ row_read (parts v sh.dimension fs) M v (length-parts v sh.dimension fs) (rw e at table) ∙ same_row
@@ -70,4 +72,4 @@ module _ (x : Search) (m : List (List Float)) where
     pub passes_is : r ≡ true → (b : Bool) → b ≡ examples_go s z (take (size s 1) cells) → b ≡ passing (searched_in x) z M
     unfolding passing
     passes_is e b q =
-        q ∙ ap (examples_go s z) (ap (λ n. take n cells) (vertices_are x.searching) ∙ row_is e) ∙ ap (λ t. t && examples_go s z found) (sym e ∙ passed)
+        q ∙ ap (examples_go s z) (ap (λ n. take n cells) (vertices_are x.prepared.searching) ∙ row_is e) ∙ ap (λ t. t && examples_go s z found) (sym e ∙ passed)

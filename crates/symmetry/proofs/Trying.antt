@@ -66,19 +66,19 @@ module _ (x : Search) (cells : List (List Float)) (k : ℕ) (ms : List Float) (r
   D = searched_in x
 
   abbrev z : State
-  z = state_in x.shape x.words.now
+  z = state_in x.prepared.shape x.prepared.words.now
 
   abbrev m : Matrix
-  m = corner x.shape.dimension cells
+  m = corner x.prepared.shape.dimension cells
 
   abbrev rot : Bool
   rot = x.rotations
 
   abbrev d : ℕ
-  d = x.shape.dimension
+  d = x.prepared.shape.dimension
 
   abbrev v : ℕ
-  v = size_at x.shape 1
+  v = size_at x.prepared.shape 1
 
   abbrev member : Member
   member = record { matrix = m; row = row_of D.points m; mark = mark_of c.abs (by_table (class_table c)) (row_of D.points m) }
@@ -131,38 +131,38 @@ ranks_are sh w = length_table (λ r. map (subs_in sh w r) (range 0 (size_at sh r
 
 module _ (x : Search) where
   abbrev first : Flag
-  first = flag_in x.shape.rank x.first
+  first = flag_in x.prepared.shape.rank x.first
 
   -- The first flag is a flag.
-  pub first_is : IsFlag (abstract_in x.shape x.words.now) first
+  pub first_is : IsFlag (abstract_in x.prepared.shape x.prepared.words.now) first
   first_is =
-      let s = abstract_in x.shape x.words.now in let held = x.searching.bench.held in
+      let s = abstract_in x.prepared.shape x.prepared.words.now in let held = x.prepared.searching.bench.held in
       subst (IsFlag s) (sym x.first_value) (every_first s held.sound held.filled).0
 
   module _ (F : Flag) (k : ℕ) (ms : List Float) (rs : List ℕ) (c : Concrete) where
     abbrev w : Setting
-    w = setting_in x.shape x.words.now x.lookup.points.floats.now x.inverse c
+    w = setting_in x.prepared.shape x.prepared.words.now x.prepared.floats.now x.inverse c
 
     abbrev i : Matrix
-    i = corner x.shape.dimension x.inverse
+    i = corner x.prepared.shape.dimension x.inverse
 
-    types_are : same_types w F ≡ types_agree (state_in x.shape x.words.now) x.shape.rank F first
+    types_are : same_types w F ≡ types_agree (state_in x.prepared.shape x.prepared.words.now) x.prepared.shape.rank F first
     unfolding same_types setting_of
-    types_are = rw (ranks_are x.shape (lists_of x.shape x.words.now), x.first_value) refl
+    types_are = rw (ranks_are x.prepared.shape (lists_of x.prepared.shape x.prepared.words.now), x.first_value) refl
 
     abbrev by : Matrix → Bool → Option Member
     by m b = elim b [ true ↦ listed_if x.rotations (tested w m) | false ↦ None ]
 
-    pub flag_not : false ≡ types_agree (state_in x.shape x.words.now) x.shape.rank F first
-        → Came x.shape.dimension (size_at x.shape 1) k (gives w x.rotations F) Skipped ms ms rs rs
+    pub flag_not : false ≡ types_agree (state_in x.prepared.shape x.prepared.words.now) x.prepared.shape.rank F first
+        → Came x.prepared.shape.dimension (size_at x.prepared.shape 1) k (gives w x.rotations F) Skipped ms ms rs rs
     unfolding gives
-    flag_not e = came_none x.shape.dimension (size_at x.shape 1) k _ ms rs (ap (by (candidate w F)) (types_are ∙ sym e))
+    flag_not e = came_none x.prepared.shape.dimension (size_at x.prepared.shape 1) k _ ms rs (ap (by (candidate w F)) (types_are ∙ sym e))
 
     -- The flag goes as its candidate m does.
-    pub flag_is : true ≡ types_agree (state_in x.shape x.words.now) x.shape.rank F first → (m : List (List Float)) → corner x.shape.dimension m ≡ mul_mat (flag_columns (searched_in x) F) i
-        → (t : Tried) (ms' : List Float) (rs' : List ℕ) → CandidateTried x k m t ms ms' rs rs' → Came x.shape.dimension (size_at x.shape 1) k (gives w x.rotations F) t ms ms' rs rs'
+    pub flag_is : true ≡ types_agree (state_in x.prepared.shape x.prepared.words.now) x.prepared.shape.rank F first → (m : List (List Float)) → corner x.prepared.shape.dimension m ≡ mul_mat (flag_columns (searched_in x) F) i
+        → (t : Tried) (ms' : List Float) (rs' : List ℕ) → CandidateTried x k m t ms ms' rs rs' → Came x.prepared.shape.dimension (size_at x.prepared.shape 1) k (gives w x.rotations F) t ms ms' rs rs'
     unfolding gives candidate setting_of
-    flag_is e m made t ms' rs' g = subst (λ o. Came x.shape.dimension (size_at x.shape 1) k o t ms ms' rs rs') (sym came) (g c i)
+    flag_is e m made t ms' rs' g = subst (λ o. Came x.prepared.shape.dimension (size_at x.prepared.shape 1) k o t ms ms' rs rs') (sym came) (g c i)
       where
-        came : gives w x.rotations F ≡ listed_if x.rotations (tested w (corner x.shape.dimension m))
+        came : gives w x.rotations F ≡ listed_if x.rotations (tested w (corner x.prepared.shape.dimension m))
         came = ap (by (candidate w F)) (types_are ∙ sym e) ∙ ap (λ y. listed_if x.rotations (tested w y)) (sym made)

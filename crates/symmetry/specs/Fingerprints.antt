@@ -24,7 +24,8 @@ pub record ProperElement (sh : Shape) (r e : ℕ) : Type 0 where
 pub record Fingerprinted (sh : Shape) (words : List ℕ) : Type 0 where
   pub held : Held sh (lists_of sh words)
   pub room : fingerprints_at sh (suc sh.rank) ≤ length words
-  pub stand : (r e : ℕ) → ProperElement sh r e → get_or words (fingerprints_at sh r + e) 0 ≡ fingerprint_of (vertices (abs_in sh (lists_of sh words)) r e)
+  pub stand : (r e : ℕ) → ProperElement sh r e →
+      get_or words (fingerprints_at sh r + e) 0 ≡ fingerprint_of (vertices (abs_in sh (lists_of sh words)) r e)
 
 -- The fingerprints of the elements of the solid that the lists hold stand by the elements' numbers over all ranks.
 pub record FingerprintsStand (sh : Shape) (lists prints : List ℕ) : Type 0 where

@@ -21,22 +21,22 @@ use Rattle.symmetry.specs.Searching.{setting_in, SolidListed}
 
 -- Gives the solid that is searched.
 abbrev pub searched_in : Search → Concrete
-searched_in x = solid_in x.shape x.words.now x.lookup.points.floats.now
+searched_in x = solid_in x.prepared.shape x.prepared.words.now x.prepared.floats.now
 
 -- Trying the candidate m came to t.
 abbrev pub CandidateTried : Search → ℕ → List (List Float) → Tried → List Float → List Float → List ℕ → List ℕ → Type 0
 CandidateTried x left m t ms ms' rs rs' =
-    let sh = x.shape in
+    let sh = x.prepared.shape in
     (c : Concrete) (i : Matrix) → Came sh.dimension (size_at sh 1) left
-    (listed_if x.rotations (tested (setting_of c (searched_in x) (state_in sh x.words.now) i) (corner sh.dimension m))) t ms ms' rs rs'
+    (listed_if x.rotations (tested (setting_of c (searched_in x) (state_in sh x.prepared.words.now) i) (corner sh.dimension m))) t ms ms' rs rs'
 
 -- Trying the flag came to t.
 abbrev pub FlagTried : Search → Flag → ℕ → Tried → List Float → List Float → List ℕ → List ℕ → Type 0
 FlagTried x flag left t ms ms' rs rs' =
-    let sh = x.shape in
+    let sh = x.prepared.shape in
     (c : Concrete) → Came sh.dimension (size_at sh 1) left
-    (gives (setting_in sh x.words.now x.lookup.points.floats.now x.inverse c) x.rotations (flag_in sh.rank flag)) t ms ms' rs rs'
+    (gives (setting_in sh x.prepared.words.now x.prepared.floats.now x.inverse c) x.rotations (flag_in sh.rank flag)) t ms ms' rs rs'
 
 -- All flags were tried, and the members that they give are listed.
 abbrev pub AllTried : Search → ℕ → Result ℕ Full → List Float → List Float → List ℕ → List ℕ → Type 0
-AllTried x left r ms ms' rs rs' = SolidListed x.shape x.words.now x.lookup.points.floats.now x.inverse x.rotations left r ms ms' rs rs'
+AllTried x left r ms ms' rs rs' = SolidListed x.prepared.shape x.prepared.words.now x.prepared.floats.now x.inverse x.rotations left r ms ms' rs rs'

@@ -18,11 +18,11 @@ ghost use Rattle.element_types.specs.State.{state_in};
 ghost use Rattle.flag.specs.Reading.{flag_in};
 ghost use Rattle.symmetry.specs.Post.{Turned, types_agree};
 
+use element_types::counting::rank_types;
 use flag::Flag;
 use float::DIMENSION;
 use points::Points;
 use ranked::Shape;
-use ranked::lists::get;
 use ranked::solid::Realized;
 
 // Tells whether the first d entries are finite.
@@ -61,7 +61,8 @@ pub fn no_double(points: &Points) -> bool
     (0..points.count).all(|i| is_single(points, i))
 }
 
-// Tells whether "its elements have the first flag's types". What it asks of the words stands in this contract alone, so no struct says it.
+// Tells whether "its elements have the first flag's types". It asks of the words what `rank_types` asks. `Typed` holds more, namely that the types
+// are numbered by first appearance, so this takes the words and their shape.
 pub fn same_types(words: &[u32], sh: Shape, flag: Flag, first: Flag) -> bool
     requires held { Held sh (lists_of sh words.now) }
     requires sh_in_bounds { scratch_at sh ≤ length words.now }
@@ -70,13 +71,13 @@ pub fn same_types(words: &[u32], sh: Shape, flag: Flag, first: Flag) -> bool
     ensures { result ≡ types_agree (state_in sh words.now) sh.rank (flag_in sh.rank flag) (flag_in sh.rank first) }
 {
     (0..sh.rank + 1).all(|r| {
-        let types = sh.types(r);
-        get(words, types + flag.elements[r]) == get(words, types + first.elements[r])
+        let types = rank_types(words, sh, r);
+        types[flag.elements[r]] == types[first.elements[r]]
     })
 }
 
-// This is a realized solid that is thin, as the field calls what refusal 6 asks, and that has vertices. So each flag of it can be changed at every rank
-// from 1 to R − 1.
+// This is a realized solid that has vertices and is thin, which is the mathematical term for what refusal 6 asks. So each flag of it can be changed at
+// every rank from 1 to R − 1.
 #[derive(Clone, Copy)]
 pub struct Thin<'a> {
     pub realized: Realized<'a>,
@@ -100,8 +101,9 @@ impl<'a> Thin<'a> {
         f
     }
 
-    // Returns "A flag's columns: its vertex; then, D−1 times, change ranks 1 to R−1 in turn and take the vertex." The rows are gone over by number, since
-    // the dimension may be 0 here, and a slice has no part from 1 to 0.
+    // Returns "A flag's columns: its vertex; then, D−1 times, change ranks 1 to R−1 in turn and take the vertex." The rows are gone over by number:
+    // `rows[1..d]` is no slice where d is 0, which the contract allows, and after an adapter of `iter_mut`, which would leave out the first row, nothing
+    // is known of the rows.
     pub fn vertex_sequence(&self, flag: Flag) -> [[f64; DIMENSION]; DIMENSION]
         requires { IsFlag (abs_of self.now.realized.solid) (flag_in self.now.realized.solid.shape.rank flag) }
         ensures { corner self.now.realized.solid.shape.dimension result

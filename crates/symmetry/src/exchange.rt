@@ -1,4 +1,6 @@
 // This module makes section 6's exchange: facet f "changes places with facet 0; ridges' sups follow and are sorted".
+// The words and the shape are two parameters, since a struct of them behind a reference would have to promise that it still holds the same words and
+// shape.
 ghost use Rattle.std.specs.Prelude.{◌≡◌, ◌+◌, ◌-◌, ◌≤◌, ◌<◌, length, drop};
 ghost use Rattle.spec.specs.Search.{exchanged_in};
 ghost use Rattle.ranked.specs.Layout.{abstract_in};

@@ -29,7 +29,7 @@ enum Tried {
     Short,
 }
 
-// One member more had no room. So many are listed.
+// One member more had no room. The number says how many are listed.
 #[derive(Clone, Copy, Debug, PartialEq, Eq)]
 pub struct Full(pub usize);
 
@@ -42,28 +42,27 @@ pub struct Prepared<'a> {
     pub ghost searching: { Searching shape words.now floats.now } by { Prim.hlevel (props, rising-prop) },
 }
 
-// This is what stays the same while all flags are tried: the solid, its vertices with their table of guesses, the first flag, which each flag is
-// compared with, the inverse of the first flag's columns, and whether rotations alone are listed.
+// This is what stays the same while all flags are tried: the prepared solid, its vertices with their table of guesses, the first flag, which each
+// flag is compared with, the inverse of the first flag's columns, and whether rotations alone are listed.
 #[derive(Clone, Copy)]
 struct Search<'a> {
-    words: &'a [u32],
-    shape: Shape,
+    prepared: Prepared<'a>,
     lookup: Lookup<'a>,
     first: Flag,
     inverse: [[f64; DIMENSION]; DIMENSION],
     rotations: bool,
-    ghost searching: { Searching shape words.now lookup.points.floats.now } by { Prim.hlevel (props, rising-prop) },
-    ghost axes: { lookup.points.dimension ≡ shape.dimension },
-    ghost many: { lookup.points.count ≡ size_at shape 1 },
-    ghost first_value: { flag_in shape.rank first ≡ first_flag (abstract_in shape words.now) } by { Prim.hlevel props },
+    ghost same_floats: { lookup.points.floats.now ≡ prepared.floats.now } by { Prim.hlevel props },
+    ghost axes: { lookup.points.dimension ≡ prepared.shape.dimension },
+    ghost many: { lookup.points.count ≡ size_at prepared.shape 1 },
+    ghost first_value: { flag_in prepared.shape.rank first ≡ first_flag (abstract_in prepared.shape prepared.words.now) } by { Prim.hlevel props },
 }
 
-// Tells whether a member of d * d floats and v row entries fits, where `left` marks are left.
-fn has_room(d: usize, v: usize, floats: usize, entries: usize, left: usize) -> bool
+// Tells whether a member of d * d floats and v row entries fits. `floats`, `entries` and `marks_left` say how many of each are left.
+fn has_room(d: usize, v: usize, floats: usize, entries: usize, marks_left: usize) -> bool
     requires { d ≤ max_dimension }
-    ensures { result ≡ fits d v floats entries left }
+    ensures { result ≡ fits d v floats entries marks_left }
 {
-    d * d <= floats && v <= entries && 0 < left
+    d * d <= floats && v <= entries && 0 < marks_left
 }
 
 impl Search<'_> {
@@ -79,26 +78,28 @@ impl Search<'_> {
     // written. Whether the flag's elements have the first flag's types is tested before (in `try_flag`), so that a flag that fails this is spared its
     // columns and their product.
     fn passes(&self, m: [[f64; DIMENSION]; DIMENSION], row: &mut [u16]) -> bool
-        requires { size_at self.now.shape 1 ≤ length row.old }
-        ensures value { result ≡ passing (searched_in self.now) (state_in self.now.shape self.now.words.now) (corner self.now.shape.dimension m) }
-        ensures row_after { result ≡ true → take (size_at self.now.shape 1) row.new
-            ≡ row_of (searched_in self.now).points (corner self.now.shape.dimension m) }
+        requires { size_at self.now.prepared.shape 1 ≤ length row.old }
+        ensures value { result ≡ passing (searched_in self.now) (state_in self.now.prepared.shape self.now.prepared.words.now)
+            (corner self.now.prepared.shape.dimension m) }
+        ensures row_after { result ≡ true → take (size_at self.now.prepared.shape 1) row.new
+            ≡ row_of (searched_in self.now).points (corner self.now.prepared.shape.dimension m) }
     {
-        self.lookup.row_of(m, row) && examples_go(self.words, self.shape, row)
+        self.lookup.row_of(m, row) && examples_go(self.prepared.words, self.prepared.shape, row)
     }
 
-    // Tries a candidate. It is skipped, or written to the front of the given parts of the outputs, or there is no room for it. So many marks are left
-    // for members. Whether the candidate is a rotation is tested first, since that is told sooner than whether it passes.
+    // Tries a candidate. It is skipped, or written to the front of the given parts of the outputs, or there is no room for it.
+    // `marks_left` says how many marks are left for members. Whether the candidate is a rotation is tested first, since that is told sooner than whether
+    // it passes.
     fn try_candidate(
         &self,
         m: [[f64; DIMENSION]; DIMENSION],
-        left: usize,
+        marks_left: usize,
         matrices: &mut [f64],
         rows: &mut [u16],
     ) -> Tried
-        ensures { CandidateTried self.now left m result matrices.old matrices.new rows.old rows.new }
+        ensures { CandidateTried self.now marks_left m result matrices.old matrices.new rows.old rows.new }
     {
-        let d = self.shape.dimension;
+        let d = self.prepared.shape.dimension;
         if self.rotations && !(0.0 < matrix::determinant(m, d)) {
             return Tried::Skipped;
         }
@@ -106,8 +107,8 @@ impl Search<'_> {
         if !self.passes(m, &mut row) {
             return Tried::Skipped;
         }
-        let v = self.shape.vertices();
-        if !has_room(d, v, matrices.len(), rows.len(), left) {
+        let v = self.prepared.shape.vertices();
+        if !has_room(d, v, matrices.len(), rows.len(), marks_left) {
             return Tried::Short;
         }
         put_matrix(matrices, m, d);
@@ -116,34 +117,41 @@ impl Search<'_> {
     }
 
     // Tries a flag. Its candidate is made and tried only where its elements have the first flag's types.
-    fn try_flag(&self, flag: Flag, left: usize, matrices: &mut [f64], rows: &mut [u16]) -> Tried
-        requires { IsFlag (abstract_in self.now.shape self.now.words.now) (flag_in self.now.shape.rank flag) }
-        ensures { FlagTried self.now flag left result matrices.old matrices.new rows.old rows.new }
+    fn try_flag(
+        &self,
+        flag: Flag,
+        marks_left: usize,
+        matrices: &mut [f64],
+        rows: &mut [u16],
+    ) -> Tried
+        requires { IsFlag (abstract_in self.now.prepared.shape self.now.prepared.words.now) (flag_in self.now.prepared.shape.rank flag) }
+        ensures { FlagTried self.now flag marks_left result matrices.old matrices.new rows.old rows.new }
     {
-        if !same_types(self.words, self.shape, flag, self.first) {
+        if !same_types(self.prepared.words, self.prepared.shape, flag, self.first) {
             return Tried::Skipped;
         }
         let realized = Realized {
-            solid: self.shape.solid(self.words),
-            floats: self.lookup.points.floats,
+            solid: self.prepared.shape.solid(self.prepared.words),
+            floats: self.prepared.floats,
         };
         let m = Thin { realized }.candidate(flag, self.inverse);
-        self.try_candidate(m, left, matrices, rows)
+        self.try_candidate(m, marks_left, matrices, rows)
     }
 
-    // Tries every flag in order, until there is no room, and returns how many members are listed. `room` is how many marks there are.
-    fn list(&self, room: usize, matrices: &mut [f64], rows: &mut [u16]) -> Result<usize, Full>
-        ensures { AllTried self.now room result matrices.old matrices.new rows.old rows.new }
+    // Tries every flag in order, until there is no room, and returns how many members are listed. `marks` says how many marks there are. The flags
+    // come one from another, and the loop counts members and not an index, so a `loop` serves where neither a range nor a chain does.
+    fn list(&self, marks: usize, matrices: &mut [f64], rows: &mut [u16]) -> Result<usize, Full>
+        ensures { AllTried self.now marks result matrices.old matrices.new rows.old rows.new }
     {
-        let solid = self.shape.solid(self.words);
-        let d = self.shape.dimension;
-        let v = self.shape.vertices();
+        let solid = self.prepared.shape.solid(self.prepared.words);
+        let d = self.prepared.shape.dimension;
+        let v = self.prepared.shape.vertices();
         let mut flag = self.first;
         let mut n: usize = 0;
         loop {
             let tried = self.try_flag(
                 flag,
-                room - n,
+                marks - n,
                 &mut matrices[n * (d * d)..],
                 &mut rows[n * v..],
             );
@@ -163,17 +171,17 @@ impl Search<'_> {
 impl Prepared<'_> {
     ghost use Rattle.symmetry.specs.Searching.{SolidListed};
 
-    // Lists the members that the flags give, in the flags' order, until there is no room, and returns how many are listed. `room` is how many marks
-    // there are.
+    // Lists the members that the flags give, in the flags' order, until there is no room, and returns how many are listed. `marks` says how many
+    // marks there are.
     pub fn list_members(
         &self,
         inverse: [[f64; DIMENSION]; DIMENSION],
         rotations: bool,
-        room: usize,
+        marks: usize,
         matrices: &mut [f64],
         rows: &mut [u16],
     ) -> Result<usize, Full>
-        ensures { SolidListed self.now.shape self.now.words.now self.now.floats.now inverse rotations room result
+        ensures { SolidListed self.now.shape self.now.words.now self.now.floats.now inverse rotations marks result
             matrices.old matrices.new rows.old rows.new }
     {
         let points = Points {
@@ -187,13 +195,12 @@ impl Prepared<'_> {
             places: &places,
         };
         let search = Search {
-            words: self.words,
-            shape: self.shape,
+            prepared: *self,
             lookup,
             first: Flag::first(&self.shape.solid(self.words)),
             inverse,
             rotations,
         };
-        search.list(room, matrices, rows)
+        search.list(marks, matrices, rows)
     }
 }

@@ -5,14 +5,11 @@ use mathlib.Core.Bool.{Bool, true, false}
 use mathlib.Core.List.{List, [], ◌∷◌, ◌++◌}
 use Prim.Native.Nat.{ℕ, zero, suc, ◌+◌, ◌/◌, ◌%◌, ◌^◌, ◌≤◌, ◌<◌}
 use native.Mathlib.Nat.{pow-suc, div-lt_iff_lt-mul}
-use native.Mathlib.Numerals.{add-one}
 use native.Mathlib.Omega.{arith}
 use borrow.Author.Tests.{lt-ltb, le-ltb, ltb-true, ltb-false}
-use lib.ListN.{length, set, length-append}
+use lib.ListN.{length, length-append}
 use lib.Dec.{ltb}
 use Rattle.spec.specs.KitText.{digits, decimal}
-use Rattle.text.specs.Puts.{Puts}
-use Rattle.text.proofs.Growing.{puts_byte, puts_is, puts_then, room-then}
 
 digits_small : (k n : ℕ) → n < 10 → digits (suc k) n ≡ (48 + n) ∷ []
 unfolding digits
@@ -66,24 +63,3 @@ decimal-word n h = decimal_long 19 n (omega arith)
 
 pub decimal-cell : (n : ℕ) → n < 2 ^ 16 → length (decimal n) ≤ 5
 decimal-cell n h = decimal_long 4 n (omega arith)
-
--- ---- a number in a text
-
-pub room_small : (from n : ℕ) (old : List ℕ) → n < 10 → from + length (decimal n) ≤ length old → from < length old
-room_small from n old h g = omega (arith, ap length (decimal_small n h))
-
-pub puts_small : (from n x : ℕ) (old : List ℕ) → n < 10 → from + length (decimal n) ≤ length old → x ≡ 48 + n → Puts from (decimal n) old (set old from x) (from + 1)
-puts_small from n x old h g e = puts_is (puts_byte from x old (room_small from n old h g)) (ap (λ (y : ℕ). y ∷ []) e ∙ sym (decimal_small n h))
-
--- There is room for a tenth's digits, and then for one more.
-pub room_tenth : (from n : ℕ) (old : List ℕ) → 10 ≤ n → from + length (decimal n) ≤ length old → from + length (decimal (n / 10)) ≤ length old
-room_tenth from n old h g = omega (arith, ap length (decimal_more n h), length-append (decimal (n / 10)) ((48 + n % 10) ∷ []))
-
-pub room_more : {from n end : ℕ} {old new : List ℕ} → 10 ≤ n → from + length (decimal n) ≤ length old → Puts from (decimal (n / 10)) old new end → end < length new
-room_more {n = n} h g p = rw add-one at (room-then p ((48 + n % 10) ∷ []) (rw (decimal_more n h) at g))
-
-pub puts_more : {from n end : ℕ} {old new : List ℕ} (x : ℕ) → 10 ≤ n → from + length (decimal n) ≤ length old → x ≡ 48 + n % 10
-    → Puts from (decimal (n / 10)) old new end → Puts from (decimal n) old (set new end x) (end + 1)
-puts_more {n = n} {end} {new = new} x h g e p =
-    puts_is (puts_then p (puts_byte end x new (room_more h g p)))
-    (ap (λ (y : ℕ). decimal (n / 10) ++ (y ∷ [])) e ∙ sym (decimal_more n h))

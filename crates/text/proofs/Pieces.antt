@@ -2,7 +2,7 @@
 -- Assumes nothing.
 use mathlib.Core.Path.{◌≡◌}
 use mathlib.Core.List.{List, ◌++◌, append_assoc}
-use Prim.Native.Nat.{ℕ, ◌+◌, ◌^◌, ◌≤◌, ◌<◌}
+use Prim.Native.Nat.{ℕ, ◌^◌, ◌≤◌, ◌<◌}
 use native.Mathlib.Omega.{arith}
 use lib.ListN.{length, length-append}
 use Rattle.spec.specs.declared.Refusal.{Refusal}
@@ -10,26 +10,26 @@ use Rattle.spec.specs.declared.Refusal.TheVariants.{CutSheet, Format, OffTheBoar
 use Rattle.spec.specs.Refusal.{number}
 use Rattle.spec.specs.Ascii.{ascii}
 use Rattle.spec.specs.KitText.{decimal, refused_line, type_line}
+use Rattle.text.specs.declared.writing.Text.{Text}
 use Rattle.text.specs.Members.{members_text}
+use Rattle.text.specs.Growing.{HasRoom}
 use Rattle.text.proofs.Decimals.{decimal_long, decimal-word}
+use Rattle.text.proofs.Growing.{less}
 
 -- This is a number behind its label.
 abbrev pub part : List ℕ → ℕ → List ℕ
 part label n = label ++ decimal n
-
-pub less : (from room : ℕ) (a b : List ℕ) → from + length (a ++ b) ≤ room → from + length a ≤ room
-less from room a b h = omega (arith, length-append a b)
 
 module _ (why : Refusal) (n : ℕ) (e : n ≡ number why) where
   pub refused_pieces : refused_line why ≡ part (ascii "refused ") n ++ ascii "\n"
   unfolding refused_line
   refused_pieces = rw e
 
-  module _ (from room : ℕ) (h : from + length (refused_line why) ≤ room) where
-    pub refused_rooms : (from + length (part (ascii "refused ") n) ≤ room) × (from + length (part (ascii "refused ") n ++ ascii "\n") ≤ room)
+  module _ (s : Text) (h : HasRoom s (refused_line why)) where
+    pub refused_rooms : HasRoom s (part (ascii "refused ") n) × HasRoom s (part (ascii "refused ") n ++ ascii "\n")
     refused_rooms =
         let r = rw refused_pieces at h in
-        (less from room (part (ascii "refused ") n) (ascii "\n") r, r)
+        (less s (part (ascii "refused ") n) (ascii "\n") r, r)
 
 module _ (r n e c : ℕ) where
   pub type_pieces : type_line (record { rank = r; number = n; example = e; count = c })
@@ -37,23 +37,23 @@ module _ (r n e c : ℕ) where
   unfolding type_line
   type_pieces = simp append_assoc
 
-  module _ (from room : ℕ) (h : from + length (type_line (record { rank = r; number = n; example = e; count = c })) ≤ room) where
+  module _ (s : Text) (h : HasRoom s (type_line (record { rank = r; number = n; example = e; count = c }))) where
     pub type-rooms :
-        (from + length (decimal r) ≤ room)
-        × (from + length (decimal r ++ part (ascii " ") n) ≤ room)
-        × (from + length (decimal r ++ part (ascii " ") n ++ part (ascii " ") e) ≤ room)
-        × (from + length (decimal r ++ part (ascii " ") n ++ part (ascii " ") e ++ part (ascii " ") c) ≤ room)
-        × (from + length (decimal r ++ part (ascii " ") n ++ part (ascii " ") e ++ part (ascii " ") c ++ ascii "\n") ≤ room)
+        HasRoom s (decimal r)
+        × HasRoom s (decimal r ++ part (ascii " ") n)
+        × HasRoom s (decimal r ++ part (ascii " ") n ++ part (ascii " ") e)
+        × HasRoom s (decimal r ++ part (ascii " ") n ++ part (ascii " ") e ++ part (ascii " ") c)
+        × HasRoom s (decimal r ++ part (ascii " ") n ++ part (ascii " ") e ++ part (ascii " ") c ++ ascii "\n")
     type-rooms =
         let a = decimal r in
         let b = a ++ part (ascii " ") n in
         let d = b ++ part (ascii " ") e in
         let f = d ++ part (ascii " ") c in
-        let r4 : from + length (f ++ ascii "\n") ≤ room = rw type_pieces at h in
-        let r3 = less from room f (ascii "\n") r4 in
-        let r2 = less from room d (part (ascii " ") c) r3 in
-        let r1 = less from room b (part (ascii " ") e) r2 in
-        (less from room a (part (ascii " ") n) r1, r1, r2, r3, r4)
+        let r4 : HasRoom s (f ++ ascii "\n") = rw type_pieces at h in
+        let r3 = less s f (ascii "\n") r4 in
+        let r2 = less s d (part (ascii " ") c) r3 in
+        let r1 = less s b (part (ascii " ") e) r2 in
+        (less s a (part (ascii " ") n) r1, r1, r2, r3, r4)
 
 module _ (n c k : ℕ) where
   pub member_pieces : members_text n c k
@@ -61,20 +61,20 @@ module _ (n c k : ℕ) where
   unfolding members_text
   member_pieces = simp append_assoc
 
-  module _ (from room : ℕ) (h : from + length (members_text n c k) ≤ room) where
+  module _ (s : Text) (h : HasRoom s (members_text n c k)) where
     pub member-rooms :
-        (from + length (part (ascii "members ") n) ≤ room)
-        × (from + length (part (ascii "members ") n ++ part (ascii " confirmed ") c) ≤ room)
-        × (from + length (part (ascii "members ") n ++ part (ascii " confirmed ") c ++ part (ascii " rotations ") k) ≤ room)
-        × (from + length (part (ascii "members ") n ++ part (ascii " confirmed ") c ++ part (ascii " rotations ") k ++ ascii "\n") ≤ room)
+        HasRoom s (part (ascii "members ") n)
+        × HasRoom s (part (ascii "members ") n ++ part (ascii " confirmed ") c)
+        × HasRoom s (part (ascii "members ") n ++ part (ascii " confirmed ") c ++ part (ascii " rotations ") k)
+        × HasRoom s (part (ascii "members ") n ++ part (ascii " confirmed ") c ++ part (ascii " rotations ") k ++ ascii "\n")
     member-rooms =
         let a = part (ascii "members ") n in
         let b = a ++ part (ascii " confirmed ") c in
         let d = b ++ part (ascii " rotations ") k in
-        let r3 : from + length (d ++ ascii "\n") ≤ room = rw member_pieces at h in
-        let r2 = less from room d (ascii "\n") r3 in
-        let r1 = less from room b (part (ascii " rotations ") k) r2 in
-        (less from room a (part (ascii " confirmed ") c) r1, r1, r2, r3)
+        let r3 : HasRoom s (d ++ ascii "\n") = rw member_pieces at h in
+        let r2 = less s d (ascii "\n") r3 in
+        let r1 = less s b (part (ascii " rotations ") k) r2 in
+        (less s a (part (ascii " confirmed ") c) r1, r1, r2, r3)
 
 -- ---- how long they are, in bytes
 

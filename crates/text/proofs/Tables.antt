@@ -13,9 +13,12 @@ use Rattle.spec.specs.Types.{ElementType}
 use Rattle.spec.specs.Calls.{type_cells}
 use Rattle.spec.specs.Ascii.{ascii}
 use Rattle.spec.specs.KitText.{type_line, types_lines}
+use Rattle.text.specs.declared.writing.Text.{Text}
 use Rattle.text.specs.Cells.{types_from, lines_to}
+use Rattle.text.specs.Growing.{HasRoom}
 use Rattle.text.proofs.Decimals.{decimal-word, decimal-cell}
-use Rattle.text.proofs.Pieces.{part, less}
+use Rattle.text.proofs.Growing.{less}
+use Rattle.text.proofs.Pieces.{part}
 
 -- What a call of types wrote is what is read.
 pub types_back : (ks : List ElementType) → types_from (join (map type_cells ks)) ≡ ks
@@ -68,9 +71,9 @@ lines_more t i (suc k) h =
     let e : i + suc k ≡ i + k + 1 = omega arith in
     rw e (omega (arith, lines_more t i k (omega arith), ap length (lines_next t (i + k) (omega arith)), length-append (lines_to t (i + k)) (type_line (type_of (drop (4 * (i + k)) t)))))
 
-pub lines_room : (t : List ℕ) (i n from room : ℕ) → i < n → 4 * n ≤ length t → from + length (lines_to t n) ≤ room
-    → from + length (lines_to t i ++ type_line (type_of (drop (4 * i) t))) ≤ room
-lines_room t i n from room h f g =
+pub lines_room : (s : Text) (t : List ℕ) (i n : ℕ) → i < n → 4 * n ≤ length t → HasRoom s (lines_to t n)
+    → HasRoom s (lines_to t i ++ type_line (type_of (drop (4 * i) t)))
+lines_room s t i n h f g =
     let e : i + 1 + (n - (i + 1)) ≡ n = omega arith in
     rw (← lines_next t i (omega arith)) (omega (arith, rw e at (lines_more t (i + 1) (n - (i + 1)) (rw e f))))
 
@@ -87,16 +90,16 @@ module _ (t : List ℕ) (n : ℕ) (f : 4 * n ≤ length t) where
   unfolding types_lines lines_to
   types_pieces = rw (length_types t n f)
 
-  module _ (from room : ℕ) (h : from + length (types_lines (types_from (take (4 * n) t))) ≤ room) where
+  module _ (s : Text) (h : HasRoom s (types_lines (types_from (take (4 * n) t)))) where
     pub types-rooms :
-        (from + length (part (ascii "types ") n) ≤ room)
-        × (from + length (part (ascii "types ") n ++ ascii "\n") ≤ room)
-        × (from + length (part (ascii "types ") n ++ ascii "\n" ++ lines_to t n) ≤ room)
+        HasRoom s (part (ascii "types ") n)
+        × HasRoom s (part (ascii "types ") n ++ ascii "\n")
+        × HasRoom s (part (ascii "types ") n ++ ascii "\n" ++ lines_to t n)
     types-rooms =
         let a = part (ascii "types ") n in
-        let r2 : from + length (a ++ ascii "\n" ++ lines_to t n) ≤ room = rw types_pieces at h in
-        let r1 = less from room (a ++ ascii "\n") (lines_to t n) r2 in
-        (less from room a (ascii "\n") r1, r1, r2)
+        let r2 : HasRoom s (a ++ ascii "\n" ++ lines_to t n) = rw types_pieces at h in
+        let r1 = less s (a ++ ascii "\n") (lines_to t n) r2 in
+        (less s a (ascii "\n") r1, r1, r2)
 
 -- ---- how long they are
 

@@ -1,37 +1,64 @@
 // This module puts what every line is made of: given bytes, and numbers in decimal.
-ghost use Rattle.std.specs.Prelude.{◌++◌, ◌+◌, ◌≤◌, length};
+ghost use Rattle.std.specs.Prelude.{◌++◌, ◌≡◌, ◌≤◌, [], ◌∷◌, length, take};
 ghost use Rattle.spec.specs.KitText.{decimal};
-ghost use Rattle.text.specs.Puts.{Puts};
 
-// Writes the given bytes, and answers where they end.
-pub fn put_bytes(out: &mut [u8], from: usize, s: &[u8]) -> usize
-    requires { from + length s.now ≤ length out.old }
-    ensures { Puts from s.now out.old out.new result }
-{
-    let end = from + s.len();
-    out[from..end].copy_from_slice(s);
-    end
+// This is a text that grows in a lent buffer, of which its bytes are the first `end`. A library without a heap has no text that grows by itself.
+#[derive(Drop)]
+pub struct Text<'a> {
+    pub out: &'a mut [u8],
+    pub end: usize,
+    pub ghost fits: { end ≤ length out.now },
 }
 
-// Writes a number's digits in order: those of its tenth part come first.
-pub fn put_decimal(out: &mut [u8], from: usize, n: usize) -> usize
-    requires { from + length (decimal n) ≤ length out.old }
-    ensures { Puts from (decimal n) out.old out.new result }
-{
-    if n < 10 {
-        out[from] = b'0' + n as u8;
-        return from + 1;
+impl Text<'_> {
+    ghost use Rattle.text.specs.Growing.{HasRoom, Grown};
+
+    // Lends the text's bytes.
+    pub fn bytes(&self) -> &[u8]
+        ensures { result.now ≡ take self.now.end self.now.out.now }
+    {
+        &self.out[..self.end]
     }
-    let end = put_decimal(out, from, n / 10);
-    out[end] = b'0' + (n % 10) as u8;
-    end + 1
-}
 
-// Writes a number behind its label.
-pub fn put_labelled(out: &mut [u8], from: usize, label: &[u8], n: usize) -> usize
-    requires { from + length (label.now ++ decimal n) ≤ length out.old }
-    ensures { Puts from (label.now ++ decimal n) out.old out.new result }
-{
-    let end = put_bytes(out, from, label);
-    put_decimal(out, end, n)
+    // Puts the given bytes.
+    pub fn put_bytes(&mut self, s: &[u8])
+        requires { HasRoom self.old s.now }
+        ensures { Grown self.old s.now self.new }
+    {
+        let end = self.end + s.len();
+        self.out[self.end..end].copy_from_slice(s);
+        self.end = end;
+    }
+
+    // Puts one byte.
+    fn put_byte(&mut self, byte: u8)
+        requires { HasRoom self.old (byte ∷ []) }
+        ensures { Grown self.old (byte ∷ []) self.new }
+    {
+        self.out[self.end] = byte;
+        self.end += 1;
+    }
+
+    // Puts a number's digits in order: those of its tenth part come first, as the definition has it. The library's `decimal` would put them into a buffer of
+    // its own, from which they would be copied.
+    pub fn put_decimal(&mut self, n: usize)
+        requires { HasRoom self.old (decimal n) }
+        ensures { Grown self.old (decimal n) self.new }
+    {
+        if n < 10 {
+            self.put_byte(b'0' + n as u8);
+            return;
+        }
+        self.put_decimal(n / 10);
+        self.put_byte(b'0' + (n % 10) as u8);
+    }
+
+    // Puts a number behind its label.
+    pub fn put_labelled(&mut self, label: &[u8], n: usize)
+        requires { HasRoom self.old (label.now ++ decimal n) }
+        ensures { Grown self.old (label.now ++ decimal n) self.new }
+    {
+        self.put_bytes(label);
+        self.put_decimal(n);
+    }
 }

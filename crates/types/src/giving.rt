@@ -31,7 +31,7 @@ fn open_type(table: &mut [u16], cell: usize, r: u16, t: u16, e: u16)
 }
 
 // Writes four cells for each type of rank r, behind those of m types, and answers how many types there are. The type of each of the rank's elements
-// is given.
+// is given, and type k gets record m + k. The whole table is lent, since the caller's loop would keep m beside a part that starts at cell 4 * m, too.
 fn write_rank(types: &[u32], r: usize, table: &mut [u16], m: usize) -> usize
     requires { Listable types.now r (length table.old) m }
     ensures value { result ≡ length (distinct eqb types.now) }

@@ -8,7 +8,8 @@ pub mod writing;
 
 ghost use Rattle.std.specs.Prelude.{◌≡◌};
 
-// This is where the answers of a run go: to standard output, or they are held to those that a file has stored, which is given by its descriptor.
+// This is where the answers of a run go: to standard output, or they are held to those that a file has stored, which is given by its descriptor. An Option
+// of the descriptor would not say what None means.
 #[derive(Clone, Copy)]
 pub enum Target {
     StandardOutput,
@@ -16,7 +17,7 @@ pub enum Target {
 }
 
 // This is a run over stored calls: where they come from, where the answers go, and how many bytes of answers went there so far. The calls come from a
-// descriptor, because crate `io` reads by it. Whoever has a run knows that all went well so far, since a step that fails gives the run's end.
+// descriptor, because crate `io` reads by it. A step that fails gives the run's end and no run.
 #[derive(Clone, Copy)]
 pub struct Run {
     pub from: i32,
@@ -24,7 +25,8 @@ pub struct Run {
     pub count: u64,
 }
 
-// This is how a run ended, and how many bytes of answers it had then. It is finished where all went well and nothing is left.
+// This is how a run ended, and how many bytes of answers it had then. It is finished where all went well and nothing is left. A Result of two counts would
+// name neither case.
 #[derive(Clone, Copy)]
 pub enum End {
     Finished(u64),

@@ -7,4 +7,4 @@ use Rattle.float.proofs.Written.{Written}
 use Rattle.matrix.proofs.column_of.Given as goal
 
 abbrev pub invariant-loop-i : goal.invariant-loop-i
-invariant-loop-i l = Written (λ x. x) (λ k. get_or (take l.d (get_or l.c k [])) l.j zero_f) l.initial.r l.r l.i
+invariant-loop-i l = Written (λ x. x) (λ k. get_or (take l.d (get_or l.fn.c k [])) l.j zero_f) l.initial.r l.r l.i

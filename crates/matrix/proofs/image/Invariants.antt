@@ -7,4 +7,4 @@ use Rattle.float.proofs.Written.{Written}
 use Rattle.matrix.proofs.image.Given as goal
 
 abbrev pub invariant-loop-i : goal.invariant-loop-i
-invariant-loop-i l = Written (λ x. x) (λ k. dot (take l.d (get_or l.m k [])) (take l.d l.v)) l.initial.r l.r l.i
+invariant-loop-i l = Written (λ x. x) (λ k. dot (take l.d (get_or l.fn.m k [])) (take l.d l.v)) l.initial.r l.r l.i

@@ -9,4 +9,4 @@ use Rattle.float.proofs.Written.{Written}
 use Rattle.matrix.proofs.product.Given as goal
 
 abbrev pub invariant-loop-i : goal.invariant-loop-i
-invariant-loop-i l = Written (λ x. x) (λ k. padded (map (dot (take l.d (get_or l.a k []))) (corner l.d l.t))) l.initial.r l.r l.i
+invariant-loop-i l = Written (λ x. x) (λ k. padded (map (dot (take l.d (get_or l.fn.a k []))) (corner l.d l.t))) l.initial.r l.r l.i

@@ -6,4 +6,4 @@ use Rattle.float.proofs.Written.{Written}
 use Rattle.points.proofs.matrix_at.Given as goal
 
 abbrev pub invariant-loop-i : goal.invariant-loop-i
-invariant-loop-i l = Written (take l.d) (λ i. take l.d (drop (i * l.d) (drop (l.j * (l.d * l.d)) l.matrices))) l.initial.m l.m l.i
+invariant-loop-i l = Written (take l.d) (λ i. take l.d (drop (i * l.d) (drop (l.j * (l.d * l.d)) l.matrices))) l.initial.row-items l.row-items l.i

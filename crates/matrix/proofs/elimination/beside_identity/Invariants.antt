@@ -8,4 +8,4 @@ use Rattle.float.proofs.Written.{Written}
 use Rattle.matrix.proofs.elimination.beside_identity.Given as goal
 
 abbrev pub invariant-loop-i : goal.invariant-loop-i
-invariant-loop-i l = Written (take (l.d + l.d)) (λ k. take l.d (row l.m k) ++ unit l.d k) l.initial.r l.r l.i
+invariant-loop-i l = Written (take (l.d + l.d)) (λ k. take l.d (row l.fn.m k) ++ unit l.d k) l.initial.r l.r l.i

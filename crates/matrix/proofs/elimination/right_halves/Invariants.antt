@@ -14,4 +14,4 @@ abbrev pub half : List (List Float) → ℕ → ℕ → List Float
 half rows d k = drop d (take (d + d) (row rows k))
 
 abbrev pub invariant-loop-i : goal.invariant-loop-i
-invariant-loop-i l = Written (λ x. x) (λ k. padded (half l.rows l.d k)) l.initial.r l.r l.i
+invariant-loop-i l = Written (λ x. x) (λ k. padded (half l.fn.rows l.d k)) l.initial.r l.r l.i

@@ -8,4 +8,4 @@ use Rattle.matrix.proofs.Leading.{next_row}
 use Rattle.matrix.proofs.elimination.rows_cleared.Given as goal
 
 abbrev pub invariant-loop-r : goal.invariant-loop-r
-invariant-loop-r l = Written (take (l.d + l.d)) (λ k. next_row l.c (take (l.d + l.d) l.pivot) k (take (l.d + l.d) (row l.rows k))) l.initial.x l.x l.r
+invariant-loop-r l = Written (take (l.d + l.d)) (λ k. next_row l.c (take (l.d + l.d) l.pivot) k (take (l.d + l.d) (row l.fn.rows k))) l.initial.x l.x l.r

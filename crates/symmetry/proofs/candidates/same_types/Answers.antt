@@ -3,15 +3,15 @@
 use Rattle.std.proofs.Common.{rules, tests, arith, ◌∙◌, ◌+◌, suc}
 use Rattle.std.proofs.lemmas.Iterator.{serves_from_Range}
 use Rattle.ranked.proofs.Chains.{all_numbers}
-use Rattle.symmetry.proofs.candidates.Types.{agree, word_in, agree_is}
+use Rattle.symmetry.proofs.candidates.Types.{agree, type_in, agree_is}
 use Rattle.symmetry.proofs.candidates.same_types.Goals as goal
 
 pub all-requires-clause-callable : goal.all-requires-clause-callable
 all-requires-clause-callable c =
     let a = c.args in
     serves_from_Range (λ r q k. search (rules, tests)) (λ r low high.
-    let one = word_in a.sh a.words.now c.requires.held c.requires.sh_in_bounds a.flag.elements c.requires.flag r (omega (arith, high)) in
-    let other = word_in a.sh a.words.now c.requires.held c.requires.sh_in_bounds a.first.elements c.requires.first_flag r (omega (arith, high)) in
+    let one = type_in a.sh a.words.now c.requires.held c.requires.sh_in_bounds a.flag.elements c.requires.flag r (omega (arith, high)) in
+    let other = type_in a.sh a.words.now c.requires.held c.requires.sh_in_bounds a.first.elements c.requires.first_flag r (omega (arith, high)) in
     grind (arith))
 
 pub returns : goal.returns

@@ -7,7 +7,7 @@ use Rattle.symmetry.proofs.Turning.{to_come}
 use Rattle.symmetry.proofs.listing.Search.list.Given as goal
 
 abbrev pub invariant-loop-n : goal.invariant-loop-n
-invariant-loop-n l = SoFar l.self l.room l.v l.initial.matrices l.matrices l.initial.rows l.rows l.n (flag_in l.self.shape.rank l.flag)
+invariant-loop-n l = SoFar l.self l.marks l.v l.initial.matrices l.matrices l.initial.rows l.rows l.n (flag_in l.self.prepared.shape.rank l.flag)
 
 abbrev pub decreases-loop-n : goal.decreases-loop-n
-decreases-loop-n l = to_come (abstract_in l.self.shape l.self.words.now) (flag_in l.self.shape.rank l.flag)
+decreases-loop-n l = to_come (abstract_in l.self.prepared.shape l.self.prepared.words.now) (flag_in l.self.prepared.shape.rank l.flag)

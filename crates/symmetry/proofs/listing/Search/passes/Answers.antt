@@ -6,7 +6,7 @@ use Rattle.symmetry.proofs.Passing.{row_is, passes_not, passes_is}
 use Rattle.symmetry.proofs.listing.Search.passes.Goals as goal
 
 pub examples_go-requires-clause-words_in_bounds : goal.examples_go-requires-clause-words_in_bounds
-examples_go-requires-clause-words_in_bounds c = omega (arith, c.row_of.auto.row, vertices_are c.args.self.now.searching, c.requires)
+examples_go-requires-clause-words_in_bounds c = omega (arith, c.row_of.auto.row, vertices_are c.args.self.now.prepared.searching, c.requires)
 
 pub returns-then-row_of-clause-value : goal.returns-then-row_of-clause-value
 returns-then-row_of-clause-value c = passes_is c.args.self.now c.args.m c.args.row.now c.row_of.new.row c.row_of.result c.row_of.ensures c.if-row_of.true c.examples_go.result c.examples_go.ensures
