@@ -10,9 +10,9 @@ use Rattle.ranked.specs.Layout.{scratch_at, abstract_in}
 use Rattle.element_types.specs.State.{state_in, Sweepable, Countable}
 
 -- The sweeps ended so with the state S: it is what the definitions give, or they give none, which is refusal 15.
-abbrev pub Ends : Result ⊤ Refusal → State → Option State → Type 0
-Ends (Ok _) S given = given ≡ Some S
-Ends (Err why) S given = (why ≡ Unsettled) × (given ≡ None)
+abbrev pub SweepsEnd : Result ⊤ Refusal → State → Option State → Type 0
+SweepsEnd (Ok _) S given = given ≡ Some S
+SweepsEnd (Err why) S given = (why ≡ Unsettled) × (given ≡ None)
 
 -- The types in the words are the start state by some classes, and there is room for the sweeps.
 pub record Started (sh : Shape) (w : List ℕ) : Type 0 where
@@ -26,4 +26,4 @@ pub record Settles (sh : Shape) (w v : List ℕ) (ending : Result ⊤ Refusal) :
   pub lists : lists_of sh v ≡ lists_of sh w
   pub numbered : Countable sh v
   pub ends : (cls : Classes) → state_in sh w ≡ start (abstract_in sh w) cls
-      → Ends ending (state_in sh v) (result (abstract_in sh w) cls)
+      → SweepsEnd ending (state_in sh v) (result (abstract_in sh w) cls)

@@ -9,7 +9,7 @@ use Rattle.ranked.specs.declared.Shape.{Shape}
 use Rattle.ranked.specs.Words.{lists_of}
 use Rattle.ranked.specs.Layout.{coordinates, solid_in, abstract_in, classes_in}
 use Rattle.element_types.specs.State.{state_in, Countable}
-use Rattle.element_types.specs.Settle.{Started, Ends}
+use Rattle.element_types.specs.Settle.{Started, SweepsEnd}
 
 -- The start state of the solid that lies in words w and floats fs is made in the words v and floats gs.
 pub record AtStart (sh : Shape) (w v : List ℕ) (fs gs : List Float) : Type 0 where
@@ -30,5 +30,5 @@ pub record TypesMade (sh : Shape) (w v : List ℕ) (fs gs : List Float) (ending 
   -- The class of every proper element stands where all_classes leaves it.
   pub cells : classes_in sh gs ≡ classes (distances (solid_in sh w fs))
   -- The result is the state in which the sweeps end, or there is none, which is refusal 15.
-  pub ends : Ends ending (state_in sh v) (types_of (solid_in sh w fs))
+  pub ends : SweepsEnd ending (state_in sh v) (types_of (solid_in sh w fs))
   pub numbered : Countable sh v

@@ -1,5 +1,5 @@
 // A step numbers the elements of a rank by their keys, and these numbers are their types from then on.
-ghost use Rattle.std.specs.Prelude.{◌≡◌, take};
+ghost use Rattle.std.specs.Prelude.{◌≡◌, take, length};
 ghost use Rattle.spec.specs.Types.{up, down, step};
 ghost use Rattle.ranked.specs.Words.{lists_of};
 ghost use Rattle.ranked.specs.Layout.{scratch_at, abstract_in};
@@ -8,6 +8,17 @@ ghost use Rattle.element_types.specs.State.{state_in, Steppable, Stepping, stepp
 use crate::counting::rank_types;
 use crate::numbering::number_rank;
 use ranked::Shape;
+
+// Copies the new numbers over the types of a rank. The library's `copy_from_slice` would be compiled to C's memmove here, since both slices are parts of one
+// buffer, and the archive needs none of C's functions but memcpy and memset.
+fn replace(types: &mut [u32], numbers: &[u32])
+    requires { length numbers.now ≡ length types.old }
+    ensures { types.new ≡ numbers.now }
+{
+    for (k, t) in types.iter_mut().enumerate() {
+        *t = numbers[k];
+    }
+}
 
 // Makes the types of the elements of rank r the numbers of their keys. Element e's neighbours are of rank `next`, and their list is at word
 // list_word(lists, e). The free words hold the new numbers until all are known.
@@ -29,7 +40,7 @@ fn step_at(words: &mut [u32], sh: Shape, r: usize, lists: usize, next: usize)
         places,
         keys,
     );
-    held[from..from + n].copy_from_slice(numbers);
+    replace(&mut held[from..from + n], numbers);
 }
 
 // "Step up at proper rank r": elements are told apart by their types and their subs' types. A step down differs in the lists and the rank that it

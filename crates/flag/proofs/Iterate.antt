@@ -26,13 +26,13 @@ use Rattle.flag.proofs.Steps.{last_step, next_flag}
 -- ---- a move
 
 -- Below the top an element stands under the one of the next rank, whose subs are l.
-pub record Under (sh : Shape) (w els : List ℕ) (r : ℕ) (l : List ℕ) : Type 0 where
+pub record SubsUnder (sh : Shape) (w els : List ℕ) (r : ℕ) (l : List ℕ) : Type 0 where
   pub held : Held sh w
   pub low : r < sh.rank
   pub long : length els ≡ suc max_rank
   pub subs : l ≡ subs (abs_in sh w) (r + 1) (get_or els (r + 1) 0)
 
-module _ {sh : Shape} {w els : List ℕ} {r : ℕ} {l : List ℕ} (u : Under sh w els r l) where
+module _ {sh : Shape} {w els : List ℕ} {r : ℕ} {l : List ℕ} (u : SubsUnder sh w els r l) where
   listed : l ≡ subs (abs_in sh w) (suc r) (get_or els (suc r) 0)
   listed = rw add-one at u.subs
 

@@ -208,7 +208,7 @@ impl<'a> Markable<'a> {
         }
     }
 
-    // Marks many rows, each by a product where one is found. The marks before a row are read while its own is written, so it has a number.
+    // Marks many rows, each by a product where one is found. The marks before a row are read while its own is written to the part behind them.
     fn mark_many(&self, rows: &[u16], marks: &mut [u8])
         requires apart { self.now.apart ≡ true }
         requires rows { length marks.old * size_at self.now.solid.shape 1 ≤ length rows.now }
@@ -221,16 +221,17 @@ impl<'a> Markable<'a> {
             generators: [None; GENERATORS],
         };
         for k in 0..marks.len() {
+            let (done, rest) = marks.split_at_mut(k);
             let next = NextRow {
                 rows,
                 vertices,
-                done: &marks[..k],
+                done,
             };
             let m = self.mark_next(&next, &mut goes, &mut factors);
             if m == CONFIRMED {
                 factors.keep(next.row(k), k);
             }
-            marks[k] = m;
+            rest[0] = m;
         }
     }
 

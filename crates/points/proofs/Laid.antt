@@ -19,11 +19,11 @@ module _ {A : Type 0} where
   join-append (l ∷ a) b = ap (λ (x : List A). l ++ x) (join-append a b) ∙ sym (append_assoc l (join a) (join b))
 
   -- The first k pieces, w cells each, are in place.
-  pub record Laid (w : ℕ) (pieces : List (List A)) (before buffer : List A) (k : ℕ) : Type 0 where
+  pub record PiecesLaid (w : ℕ) (pieces : List (List A)) (before buffer : List A) (k : ℕ) : Type 0 where
     pub long : length (join (take k pieces)) ≡ k * w
     pub is : buffer ≡ written (join (take k pieces)) before
 
-  pub laid_none : (w : ℕ) (pieces : List (List A)) (before : List A) → Laid w pieces before before 0
+  pub laid_none : (w : ℕ) (pieces : List (List A)) (before : List A) → PiecesLaid w pieces before before 0
   unfolding join written
   laid_none w pieces before = record { long = sym (zero-mul w); is = refl }
 
@@ -36,11 +36,11 @@ module _ {A : Type 0} where
       ∙ join-append (take k pieces) (x ∷ [])
       ∙ ap (λ (l : List A). join (take k pieces) ++ l) (append-nil x)
 
-  module _ {w : ℕ} {pieces : List (List A)} {before buffer : List A} {k : ℕ} (l : Laid w pieces before buffer k) where
+  module _ {w : ℕ} {pieces : List (List A)} {before buffer : List A} {k : ℕ} (l : PiecesLaid w pieces before buffer k) where
     -- The next piece is written to the part after them.
     pub laid_next : {part : List A} → k < length pieces → length (get_or pieces k []) ≡ w → k * w ≤ length buffer
         → part ≡ written (get_or pieces k []) (mid_of (k * w) (length buffer - k * w) buffer)
-        → Laid w pieces before (put_mid (k * w) (length buffer - k * w) buffer part) (k + 1)
+        → PiecesLaid w pieces before (put_mid (k * w) (length buffer - k * w) buffer part) (k + 1)
     laid_next {part} h n f e =
         let old = join (take k pieces) in
         let new = get_or pieces k [] in

@@ -1,13 +1,15 @@
 -- This file is about the part of a buffer from a cell to its end: what a loop writes at its front, and the buffer as it is back from the call.
 -- Assumes nothing.
 use mathlib.Core.Path.{◌≡◌, sym, ap, ap₂, ◌∙◌}
-use mathlib.Core.List.{List, [], ◌++◌, append-nil, append_assoc}
+use mathlib.Core.List.{List, [], ◌++◌, map, append-nil, append_assoc}
 use Prim.Native.Nat.{ℕ, ◌+◌, ◌-◌, ◌≤◌}
 use native.Mathlib.Omega.{arith}
 use lib.ListN.{length, take, drop, length-append, length-drop, drop_of_length-le}
 use lib.Seq.{take_all, drop-drop, take-append_seam, drop-append_seam}
 use borrow.Rule.Slice.PartMut.{mid_of, post_of, put_mid}
-use Rattle.spec.specs.Lists.{written}
+use Rattle.spec.specs.Lists.{range, written}
+use Rattle.laws.proofs.Lists.{length_table}
+use Rattle.float.proofs.Written.{Written, whole}
 
 module _ {A : Type 0} (l ys : List A) (k : ℕ) (h : k ≤ length l) where
   pub tail_is : mid_of k (length l - k) l ≡ drop k l
@@ -22,6 +24,12 @@ module _ {A : Type 0} (l ys : List A) (k : ℕ) (h : k ≤ length l) where
   pub tail_written : (w : ℕ) (new : List A) → length new ≡ w → ys ≡ written new (mid_of k (length l - k) l) → put_mid k (length l - k) l ys ≡ take k l ++ (new ++ drop w (drop k l))
   unfolding written
   tail_written w new n e = tail_back ∙ ap (λ (y : List A). take k l ++ y) (e ∙ ap₂ (λ (a : ℕ) (b : List A). new ++ drop a b) n tail_is)
+
+-- A loop that writes a cell a turn, from the first on, has written them over the front of an output that may be longer.
+module _ {A : Type 0} {old out : List A} {i : ℕ} (n : ℕ) (p : i ≤ n) (q : n ≤ i) where
+  pub front_written : {g : ℕ → A} → Written (λ x. x) g old out i → out ≡ written (map g (range 0 n)) old
+  unfolding written
+  front_written {g} w = whole n p q w ∙ ap (λ (k : ℕ). map g (range 0 n) ++ drop k old) (sym (length_table g n))
 
 -- The list `cells` stands in the output, and `new` is written to the part after it.
 written_after : {A : Type 0} (cells new old : List A) → take (length cells) (written cells old) ++ written new (drop (length cells) (written cells old)) ≡ written (cells ++ new) old

@@ -24,6 +24,16 @@ pub fn in_range(x: f64) -> bool
     tolerance::magnitude(x) <= MAX_MAGNITUDE
 }
 
+// Returns point v of those that stand one after another in the slice, d floats each, handed back as the part of the slice that holds it.
+pub fn point(points: &[f64], d: usize, v: usize) -> &[f64]
+    requires { v * d + d ≤ length points.now }
+    ensures { result.now ≡ take d (drop (v * d) points.now) }
+{
+    let start = v * d;
+    let end = start + d;
+    &points[start..end]
+}
+
 // These are points that stand one after another at the front of lent floats, as many floats each as there are axes.
 #[derive(Clone, Copy)]
 pub struct Points<'a> {
@@ -41,9 +51,7 @@ impl<'a> Points<'a> {
         requires { v < self.now.count }
         ensures { result.now ≡ listed_at self.now v }
     {
-        let start = v * self.dimension;
-        let end = start + self.dimension;
-        &self.floats[start..end]
+        point(self.floats, self.dimension, v)
     }
 
     // Returns point v, copied into an array.
@@ -60,7 +68,7 @@ impl<'a> Points<'a> {
         requires { (v < self.now.count) × (1 ≤ self.now.dimension) }
         ensures { result ≡ near (listed_at self.now v) (take self.now.dimension q) }
     {
-        tolerance::within(self.floats[v * self.dimension] - q[0], Tolerance::EPS)
+        tolerance::within(self.floats[v * self.dimension] - q[0])
             && near(self.get(v), q, Tolerance::EPS)
     }
 
@@ -97,7 +105,7 @@ fn near(p: &[f64], q: [f64; DIMENSION], limit: f64) -> bool
 {
     p.iter()
         .zip(&q)
-        .all(|(x, y)| tolerance::within(*x - *y, limit))
+        .all(|(x, y)| tolerance::within_limit(*x - *y, limit))
 }
 
 // Writes the first d floats of q to the first d cells.

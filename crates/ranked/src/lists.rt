@@ -54,13 +54,28 @@ pub fn place(entries: &[u32], x: usize) -> Option<usize>
     entries.iter().position(|&y| y as usize == x)
 }
 
-// Tells whether a list holds x. The library's `contains` takes a third longer than a loop where a list has a few entries, and a fifth of the time where
-// it has a thousand.
-pub fn holds(entries: &[u32], x: usize) -> bool
+// A list with fewer entries than this is a short one.
+const SHORT: usize = 16;
+
+// Tells whether a list holds x, by the library's `contains`, which compares many entries at a time.
+#[inline(never)]
+fn long_holds(entries: &[u32], x: usize) -> bool
     ensures { result ≡ holds eqb x entries.now }
 {
     let Ok(entry) = u32::try_from(x) else {
         return false;
     };
     entries.contains(&entry)
+}
+
+// Tells whether a list holds x. Most lists are short, and there one entry after another is compared sooner than by `contains`, which takes a fifth of the
+// time where there are a thousand. The two ways are two functions, so that the short one is compiled into its callers.
+#[inline(always)]
+pub fn holds(entries: &[u32], x: usize) -> bool
+    ensures { result ≡ holds eqb x entries.now }
+{
+    if entries.len() < SHORT {
+        return entries.iter().any(|&y| y as usize == x);
+    }
+    long_holds(entries, x)
 }

@@ -6,7 +6,7 @@ ghost use Rattle.std.proofs.Props.{props};
 ghost use Rattle.ranked.specs.Once.{rising-prop};
 
 use crate::Shape;
-use crate::lists::entries_at;
+use crate::lists::{entries_at, subs_word, sups_word};
 
 // A solid's lists and its shape always go together, and the lists are those of a solid as section 2 allows it.
 #[derive(Clone, Copy)]
@@ -28,20 +28,23 @@ impl<'a> Solid<'a> {
     ghost use Rattle.spec.specs.Types.{subs, sups};
     ghost use Rattle.ranked.specs.Lying.{abs_of};
 
-    // Returns the subs of element e of rank r.
+    // Returns the subs of element e of rank r. The shape is read where it lies: a method of it is handed a copy of it, and refusal 6 comes here for each
+    // entry of a list.
+    #[tactic(auto, using(crate::proofs::Solids::subs_listed))]
     pub fn subs(&self, r: usize, e: usize) -> &'a [u32]
         requires { (r ≤ self.now.shape.rank) × (e < size_at self.now.shape r) }
         ensures { result.now ≡ subs (abs_of self.now) r e }
     {
-        entries_at(self.lists, self.shape.subs(r, e))
+        entries_at(self.lists, subs_word(self.shape.first[r] + e))
     }
 
     // Returns the sups of element e of rank r.
+    #[tactic(auto, using(crate::proofs::Solids::sups_listed))]
     pub fn sups(&self, r: usize, e: usize) -> &'a [u32]
         requires { (r ≤ self.now.shape.rank) × (e < size_at self.now.shape r) }
         ensures { result.now ≡ sups (abs_of self.now) r e }
     {
-        entries_at(self.lists, self.shape.sups(r, e))
+        entries_at(self.lists, sups_word(self.shape.first[r] + e))
     }
 
     // Counts the elements of rank r.

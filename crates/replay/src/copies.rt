@@ -57,12 +57,12 @@ fn write_table(run: Run) -> Result<Run, End> {
     run.output(&axes::axis_turns(&table))
 }
 
-// Reads one record and answers it, or writes the table of 48 where none begins. A dimension can be any number.
+// Reads one record and answers it, or writes the table of 48 where none begins. A dimension can be any number, so the input's end is seen where the
+// number of floats of points would come.
+#[inline(never)]
 pub fn replay_one(run: Run) -> Result<Run, End> {
-    let (Some(dimension), Some(p)) = (
-        reading::number(run.from, usize::MAX),
-        reading::number(run.from, POINTS),
-    ) else {
+    let dimension = reading::number(run.from, usize::MAX).unwrap_or(usize::MAX);
+    let Some(p) = reading::number(run.from, POINTS) else {
         return Err(write_table(run)?.finished());
     };
     let (Some(t), Some(c), Some(n)) = (

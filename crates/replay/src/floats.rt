@@ -71,6 +71,7 @@ fn replay_root(run: Run) -> Result<Run, End> {
 }
 
 // Reads one record and answers it.
+#[inline(never)]
 pub fn replay_one(run: Run) -> Result<Run, End> {
     match reading::number(run.from, DIMENSION) {
         None => Err(run.finished()),

@@ -47,7 +47,8 @@ impl From<Answer> for Numbers {
     }
 }
 
-// Reads a record of the kind that the word names, and answers it. The run ends where no record begins, and fails where the word names no kind.
+// Reads a record of the kind that the word names, and answers it. The run ends where no record begins, and fails where the word names no kind. The
+// function of a kind is not compiled into this one, which would add the buffers of several kinds up on the stack.
 fn replay_one(word: &[u8], run: Run) -> Result<Run, End> {
     match word {
         b"floats" => floats::replay_one(run),

@@ -203,6 +203,7 @@ fn call(
 }
 
 // Reads one record and answers it.
+#[inline(never)]
 pub fn replay_one(run: Run) -> Result<Run, End> {
     let Some(kind) = read_kind(run.from) else {
         return Err(run.finished());

@@ -18,6 +18,7 @@ fn judge(run: Run, sheet: &mut [u8], words: &mut [u32], floats: &mut [f64]) -> R
 }
 
 // Reads one record and answers it.
+#[inline(never)]
 pub fn replay_one(run: Run) -> Result<Run, End> {
     let Some(n) = reading::short_number(run.from, BYTES) else {
         return Err(run.finished());

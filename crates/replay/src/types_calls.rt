@@ -55,6 +55,7 @@ fn call(
 }
 
 // Reads one record and answers it.
+#[inline(never)]
 pub fn replay_one(run: Run) -> Result<Run, End> {
     let Some(b) = reading::short_number(run.from, BYTES) else {
         return Err(run.finished());

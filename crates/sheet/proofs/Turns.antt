@@ -21,12 +21,12 @@ use Rattle.spec.specs.Sheet.{Reader, done, times, bits, sub_list, list, lists_at
 use Rattle.sheet.specs.declared.CountsRead.{CountsRead}
 use Rattle.sheet.specs.declared.Cursor.{Cursor}
 use Rattle.sheet.specs.Judge.{proper, padded, rank_entries, all_entries, map_ok}
-use Rattle.sheet.specs.Reading.{ends_at, with_bit, kept, forgotten, counts_read, Reads}
+use Rattle.sheet.specs.Reading.{ends_at, with_bit, kept, forgotten, counts_read, CursorReads}
 use Rattle.sheet.proofs.Readers.{kept-refused, kept-passed, after, times_stop, times_on_lem, sub_cut, sub_bad, sub_on, rank_stop, rank_on, ranks_stop, ranks_on, list-size, rank-size}
 
 -- A refusal is all that is read, wherever the cursor stands then.
 pub refuses : {A : Type 0} {m : Reader A} {before after : Cursor} {r : Judged A} {why : Refusal} → r ≡ Err why → Err why ≡ m before.at → after.sheet.now ≡ before.sheet.now
-    → Reads m before after r
+    → CursorReads m before after r
 refuses {after = after} e q s = record { value = ap (ends_at after.at) e ∙ q; sheet = s }
 
 -- One turn less is left.

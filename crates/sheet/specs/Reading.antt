@@ -29,7 +29,7 @@ counts_read l = record { counts = padded l; elements = sum l }
 
 -- The judged value is what m reads from where the cursor stood, and the cursor stands after it now, in the same sheet. Where m refuses, the cursor may
 -- stand anywhere.
-pub record Reads {A : Type 0} (m : Reader A) (before after : Cursor) (o : Judged A) : Type 0 where
+pub record CursorReads {A : Type 0} (m : Reader A) (before after : Cursor) (o : Judged A) : Type 0 where
   pub value : ends_at after.at o ≡ m before.at
   pub sheet : after.sheet.now ≡ before.sheet.now
 

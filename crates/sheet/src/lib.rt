@@ -9,7 +9,7 @@ ghost use Rattle.spec.specs.Float.{in_range};
 ghost use Rattle.spec.specs.Bits as bits;
 ghost use Rattle.spec.specs.Sheet as form;
 ghost use Rattle.sheet.specs.Judge.{proper, rank_entries, all_entries, map_ok, header_of};
-ghost use Rattle.sheet.specs.Reading.{kept, forgotten, counts_read, Reads, body_at, rest_at};
+ghost use Rattle.sheet.specs.Reading.{kept, forgotten, counts_read, CursorReads, body_at, rest_at};
 
 use spec::{
     MAX_COUNT, MAX_DIMENSION, MAX_ENTRIES, MAX_MAGNITUDE_PATTERN, MAX_RANK, PROPER_RANKS, Refusal,
@@ -75,7 +75,7 @@ impl Cursor<'_> {
     // Reads the next `width` bits, which have to be all there. A sheet's length in bits may not fit 64 bits, so bytes are compared.
     fn bits(&mut self, width: usize) -> Result<u64, Refusal>
         requires { (width ≤ 64) × (self.old.at + width + 7 < 2 ^ 64) }
-        ensures { Reads (form.bits self.old.sheet.now width) self.old self.new result }
+        ensures { CursorReads (form.bits self.old.sheet.now width) self.old self.new result }
     {
         if (self.at + width + 7) / 8 > self.sheet.len() {
             return Err(Refusal::CutSheet);
@@ -88,7 +88,7 @@ impl Cursor<'_> {
     // Reads the counts of `n` proper ranks, 12 bits each.
     fn counts(&mut self, n: usize) -> Result<CountsRead, Refusal>
         requires { (self.old.at + 12 * n + 7 < 2 ^ 64) × (n ≤ proper) }
-        ensures { Reads (kept counts_read (form.times n (form.count self.old.sheet.now))) self.old self.new result }
+        ensures { CursorReads (kept counts_read (form.times n (form.count self.old.sheet.now))) self.old self.new result }
     {
         // The counts go by the number of the rank, and those behind the n that are read stay 0.
         let mut counts = [0usize; PROPER_RANKS];
@@ -107,7 +107,7 @@ impl Cursor<'_> {
     // Reads `n` coordinates, 64 bits each.
     fn coordinates(&mut self, n: usize) -> Result<(), Refusal>
         requires { self.old.at + 64 * n + 7 < 2 ^ 64 }
-        ensures { Reads (kept forgotten (form.times n (form.coordinate self.old.sheet.now))) self.old self.new result }
+        ensures { CursorReads (kept forgotten (form.times n (form.coordinate self.old.sheet.now))) self.old self.new result }
     {
         for _ in 0..n {
             let pattern = self.bits(64)?;
@@ -121,7 +121,7 @@ impl Cursor<'_> {
     // Reads `n` subs, 11 bits each, which have to be below `below` and to rise strictly.
     fn subs(&mut self, below: usize, n: usize) -> Result<(), Refusal>
         requires { self.old.at + 11 * n + 7 < 2 ^ 64 }
-        ensures { Reads (kept forgotten (form.sub_list self.old.sheet.now below n 0)) self.old self.new result }
+        ensures { CursorReads (kept forgotten (form.sub_list self.old.sheet.now below n 0)) self.old self.new result }
     {
         let mut low: usize = 0;
         for _ in 0..n {
@@ -137,7 +137,7 @@ impl Cursor<'_> {
     // Reads one list, its length in 12 bits and then its subs, where its rank has `used` entries before it. Returns its length.
     fn list(&mut self, below: usize, used: usize) -> Result<usize, Refusal>
         requires { (self.old.at < 2 ^ 32) × (used ≤ max_entries) }
-        ensures { Reads (kept length (form.list self.old.sheet.now below used)) self.old self.new result }
+        ensures { CursorReads (kept length (form.list self.old.sheet.now below used)) self.old self.new result }
     {
         let n = self.bits(12)? as usize;
         if used + n > MAX_ENTRIES {
@@ -153,7 +153,7 @@ impl Cursor<'_> {
     // Reads the lists of a rank's `n` elements, and returns the number of their entries.
     fn rank_lists(&mut self, below: usize, n: usize) -> Result<usize, Refusal>
         requires { (self.old.at < 2 ^ 31) × (n ≤ max_count) }
-        ensures { Reads (kept rank_entries (form.lists_at self.old.sheet.now below n 0)) self.old self.new result }
+        ensures { CursorReads (kept rank_entries (form.lists_at self.old.sheet.now below n 0)) self.old self.new result }
     {
         let mut used: usize = 0;
         for _ in 0..n {
@@ -165,7 +165,7 @@ impl Cursor<'_> {
     // Reads the lists of the ranks from 2 on, by the counts of the proper ranks, and returns the number of their entries.
     fn lists(&mut self, counts: &[usize]) -> Result<usize, Refusal>
         requires { (self.old.at < 2 ^ 30) × (length counts.now ≤ proper) × ((k : ℕ) → get_or counts.now k 0 ≤ max_count) }
-        ensures { Reads (kept all_entries (form.lists self.old.sheet.now counts.now)) self.old self.new result }
+        ensures { CursorReads (kept all_entries (form.lists self.old.sheet.now counts.now)) self.old self.new result }
     {
         // Of each pair from `windows(2)` the two counts would be read by index again. A zip with `skip(1)` gives the proof no number of the rank, by which it
         // takes the counts that are left.
@@ -202,7 +202,7 @@ impl Cursor<'_> {
         requires at { self.old.at < 2 ^ 16 }
         requires limits { (vertices ≤ max_count) × (dimension ≤ max_dimension) }
         requires counts { (length counts.now ≤ proper) × ((k : ℕ) → get_or counts.now k 0 ≤ max_count) }
-        ensures { Reads (kept all_entries (body_at self.old.sheet.now vertices dimension counts.now)) self.old self.new result }
+        ensures { CursorReads (kept all_entries (body_at self.old.sheet.now vertices dimension counts.now)) self.old self.new result }
     {
         self.coordinates(vertices * dimension)?;
         let entries = self.lists(counts)?;
@@ -215,7 +215,7 @@ impl Cursor<'_> {
     // Judges all that comes after R and D. V is rank 1's count, but R where there are no proper ranks.
     fn rest(&mut self, rank: usize, dimension: usize) -> Result<Header, Refusal>
         requires { (self.old.at ≤ 6) × (rank ≤ max_rank) × (dimension ≤ max_dimension) }
-        ensures { Reads (kept header_of (rest_at self.old.sheet.now rank dimension)) self.old self.new result }
+        ensures { CursorReads (kept header_of (rest_at self.old.sheet.now rank dimension)) self.old self.new result }
     {
         let n = rank.saturating_sub(1);
         let read = self.counts(n)?;

@@ -15,7 +15,7 @@ use Rattle.spec.specs.Types.{State}
 use Rattle.spec.specs.Float.{zero_f}
 use Rattle.spec.specs.Matrix.{Matrix, mul_mat, determinant}
 use Rattle.spec.specs.Solid.{Concrete}
-use Rattle.spec.specs.Flags.{Flag, IsFlag}
+use Rattle.spec.specs.Flags.{Flag, IsFlag, first_flag}
 use Rattle.spec.specs.Classes.{class_table, by_table}
 use Rattle.spec.specs.Points.{row_of}
 use Rattle.spec.specs.Search.{Member, Setting, flag_columns, candidate, same_types, mark_of, tested, is_rotation}
@@ -129,6 +129,12 @@ ranks_are : (sh : Shape) (w : List ℕ) → length (abs_in sh w) ≡ suc sh.rank
 unfolding abs_in
 ranks_are sh w = length_table (λ r. map (subs_in sh w r) (range 0 (size_at sh r))) (suc sh.rank)
 
+-- A flag passes where its elements have the types of the first flag's elements.
+module _ (D : Concrete) (R : ℕ) (ranks : length D.abs ≡ suc R) (z : State) (F G : Flag) (first : G ≡ first_flag D.abs) (c : Concrete) (i : Matrix) where
+  types_are : same_types (setting_of c D z i) F ≡ types_agree z R F G
+  unfolding same_types setting_of
+  types_are = rw (ranks, first) refl
+
 module _ (x : Search) where
   abbrev first : Flag
   first = flag_in x.prepared.shape.rank x.first
@@ -146,9 +152,10 @@ module _ (x : Search) where
     abbrev i : Matrix
     i = corner x.prepared.shape.dimension x.inverse
 
-    types_are : same_types w F ≡ types_agree (state_in x.prepared.shape x.prepared.words.now) x.prepared.shape.rank F first
-    unfolding same_types setting_of
-    types_are = rw (ranks_are x.prepared.shape (lists_of x.prepared.shape x.prepared.words.now), x.first_value) refl
+    passes_are : same_types w F ≡ types_agree (state_in x.prepared.shape x.prepared.words.now) x.prepared.shape.rank F first
+    passes_are =
+        types_are (searched_in x) x.prepared.shape.rank (ranks_are x.prepared.shape (lists_of x.prepared.shape x.prepared.words.now))
+        (state_in x.prepared.shape x.prepared.words.now) F first x.first_value c i
 
     abbrev by : Matrix → Bool → Option Member
     by m b = elim b [ true ↦ listed_if x.rotations (tested w m) | false ↦ None ]
@@ -156,7 +163,7 @@ module _ (x : Search) where
     pub flag_not : false ≡ types_agree (state_in x.prepared.shape x.prepared.words.now) x.prepared.shape.rank F first
         → Came x.prepared.shape.dimension (size_at x.prepared.shape 1) k (gives w x.rotations F) Skipped ms ms rs rs
     unfolding gives
-    flag_not e = came_none x.prepared.shape.dimension (size_at x.prepared.shape 1) k _ ms rs (ap (by (candidate w F)) (types_are ∙ sym e))
+    flag_not e = came_none x.prepared.shape.dimension (size_at x.prepared.shape 1) k _ ms rs (ap (by (candidate w F)) (passes_are ∙ sym e))
 
     -- The flag goes as its candidate m does.
     pub flag_is : true ≡ types_agree (state_in x.prepared.shape x.prepared.words.now) x.prepared.shape.rank F first → (m : List (List Float)) → corner x.prepared.shape.dimension m ≡ mul_mat (flag_columns (searched_in x) F) i
@@ -165,4 +172,4 @@ module _ (x : Search) where
     flag_is e m made t ms' rs' g = subst (λ o. Came x.prepared.shape.dimension (size_at x.prepared.shape 1) k o t ms ms' rs rs') (sym came) (g c i)
       where
         came : gives w x.rotations F ≡ listed_if x.rotations (tested w (corner x.prepared.shape.dimension m))
-        came = ap (by (candidate w F)) (types_are ∙ sym e) ∙ ap (λ y. listed_if x.rotations (tested w y)) (sym made)
+        came = ap (by (candidate w F)) (passes_are ∙ sym e) ∙ ap (λ y. listed_if x.rotations (tested w y)) (sym made)

@@ -8,14 +8,14 @@ ghost use Rattle.spec.specs.Lists.{range};
 use float::bits;
 
 // This is a type of an output's elements, and tells what stands at a place before a call.
-pub trait Filled: Copy {
+pub trait Fillable: Copy {
     ghost filler: { ℕ → Self };
 
     fn filler(place: usize) -> Self
         ensures { result ≡ filler place };
 }
 
-impl Filled for f64 {
+impl Fillable for f64 {
     ghost filler = { λ i. of_bits binary64 (0x7000_0000_0000_0000 + i % 65536) };
 
     fn filler(place: usize) -> f64 {
@@ -23,7 +23,7 @@ impl Filled for f64 {
     }
 }
 
-impl Filled for u16 {
+impl Fillable for u16 {
     ghost filler = { λ i. 60000 + i % 4096 };
 
     fn filler(place: usize) -> u16 {
@@ -31,7 +31,7 @@ impl Filled for u16 {
     }
 }
 
-impl Filled for u8 {
+impl Fillable for u8 {
     ghost filler = { λ i. 2 + i % 250 };
 
     fn filler(place: usize) -> u8 {
@@ -40,7 +40,7 @@ impl Filled for u8 {
 }
 
 // Fills an output.
-pub fn fill<T: Filled>(out: &mut [T])
+pub fn fill<T: Fillable>(out: &mut [T])
     ensures { out.new ≡ map T.filler (range 0 (length out.old)) }
 {
     for (i, x) in out.iter_mut().enumerate() {

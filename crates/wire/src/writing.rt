@@ -66,15 +66,20 @@ impl Run {
         End::Failed(self.count)
     }
 
-    // Ends the run. It failed where something is left of the input or of the stored answers.
+    // Tells whether nothing is left of the stored answers, if there are any.
+    fn is_all_answered(&self) -> bool {
+        match self.to {
+            Target::StandardOutput => true,
+            Target::Stored(file) => is_at_end(file),
+        }
+    }
+
+    // Ends the run. It failed where something is left of the input or of the stored answers. Those are read only where the input is at its end, since
+    // the read of a file that another program still writes would wait.
     pub fn finished(self) -> End
         ensures { (result ≡ End.Finished self.count) ⊎ (result ≡ End.Failed self.count) }
     {
-        let all_answered = match self.to {
-            Target::StandardOutput => true,
-            Target::Stored(file) => is_at_end(file),
-        };
-        if is_at_end(self.from) && all_answered {
+        if is_at_end(self.from) && self.is_all_answered() {
             return End::Finished(self.count);
         }
         self.failed()

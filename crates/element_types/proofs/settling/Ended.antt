@@ -19,7 +19,7 @@ use Rattle.ranked.specs.Layout.{proper, scratch_at}
 use Rattle.ranked.proofs.Counted.{proper_is}
 use Rattle.element_types.specs.State.{state_in, Sweepable, Countable}
 use Rattle.element_types.proofs.Sweeps.{sweepable_kept}
-use Rattle.element_types.specs.Settle.{Started, Settles, Ends}
+use Rattle.element_types.specs.Settle.{Started, Settles, SweepsEnd}
 
 -- ---- the definition
 
@@ -124,13 +124,13 @@ module _ (sh : Shape) (z : List ℕ) (a : Started sh z) (w : List ℕ) (long : l
 
   -- The other sweeps come after it.
   pub ended : (E : ℕ) → E ≡ proper sh → (v : List ℕ) (ending : Result (Unit {0}) Refusal) → lists_of sh v ≡ lists_of sh w → Countable sh v
-      → Ends ending (state_in sh v) (settle (abs_in sh (lists_of sh w)) (E + 1) (state_in sh w)) → Settles sh z v ending
+      → SweepsEnd ending (state_in sh v) (settle (abs_in sh (lists_of sh w)) (E + 1) (state_in sh w)) → Settles sh z v ending
   unfolding result
   ended E p v ending k c e =
       let q : E ≡ elements (abs_in sh (lists_of sh z)) = p ∙ proper_is sh (lists_of sh z) a.sweepable.held in
       record {
         lists = k ∙ lists;
         numbered = c;
-        ends = λ cls b. let f : Ends ending (state_in sh v) (settle (abs_in sh (lists_of sh z)) (elements (abs_in sh (lists_of sh z)) + 1) (sweep (abs_in sh (lists_of sh z)) (state_in sh z))) = rw (lists, state, q) at e in
+        ends = λ cls b. let f : SweepsEnd ending (state_in sh v) (settle (abs_in sh (lists_of sh z)) (elements (abs_in sh (lists_of sh z)) + 1) (sweep (abs_in sh (lists_of sh z)) (state_in sh z))) = rw (lists, state, q) at e in
             rw b at f;
       }

@@ -8,11 +8,11 @@ use lib.ListN.{length, get_or}
 use lib.Dec.{eqb}
 use Rattle.spec.specs.Lists.{place}
 use Rattle.ranked.proofs.Chains.{place_some, place_none}
-use Rattle.flag.proofs.Iterate.{Under, moved_in, moved-some, moved-none}
+use Rattle.flag.proofs.Iterate.{SubsUnder, moved_in, moved-some, moved-none}
 use Rattle.flag.proofs.moved_at.Goals.{After-subs-above, After-get}
 use Rattle.flag.proofs.moved_at.Goals as goal
 
-under : (c : After-subs-above) → let s = c.args.solid.now in Under s.shape s.lists.now c.args.elements c.args.r c.subs-above.result.now
+under : (c : After-subs-above) → let s = c.args.solid.now in SubsUnder s.shape s.lists.now c.args.elements c.args.r c.subs-above.result.now
 under c = record { held = c.args.solid.now.held; low = c.requires.0; long = search rules; subs = c.subs-above.ensures }
 
 -- The place that was found is the element's.

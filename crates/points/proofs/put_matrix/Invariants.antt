@@ -2,8 +2,8 @@
 -- Assumes nothing.
 use mathlib.Core.List.{map}
 use lib.ListN.{take}
-use Rattle.points.proofs.Laid.{Laid}
+use Rattle.points.proofs.Laid.{PiecesLaid}
 use Rattle.points.proofs.put_matrix.Given as goal
 
 abbrev pub invariant-loop-i : goal.invariant-loop-i
-invariant-loop-i l = Laid l.d (map (take l.d) l.row-items) l.initial.out l.out l.i
+invariant-loop-i l = PiecesLaid l.d (map (take l.d) l.row-items) l.initial.out l.out l.i

@@ -3,8 +3,8 @@
 use mathlib.Core.List.{map}
 use Rattle.spec.specs.Lists.{join}
 use Rattle.matrix.specs.Reading.{corner}
-use Rattle.points.proofs.Laid.{Laid}
+use Rattle.points.proofs.Laid.{PiecesLaid}
 use Rattle.copying.proofs.axes.put_turns.Given as goal
 
 abbrev pub invariant-loop-k : goal.invariant-loop-k
-invariant-loop-k l = Laid 9 (map join (map (corner 3) l.table)) l.initial.out l.out l.k
+invariant-loop-k l = PiecesLaid 9 (map join (map (corner 3) l.table)) l.initial.out l.out l.k

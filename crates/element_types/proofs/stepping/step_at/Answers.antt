@@ -15,6 +15,6 @@ number_rank-requires c =
 pub returns : goal.returns
 returns c =
     let h = c.split_at_mut-held.ensures in
-    rw c.copy_from_slice.ensures.after
+    rw c.replace.ensures
     (stepped_at_lem _ _ _ _ _ c.requires _ _ h.value (h.front_len ∙ c.scratch.ensures) _ _ _ c.lists.ensures c.rank_types.ensures c.rank_types-2.ensures _ _ c.number_rank.ensures _ _
     c.size-n.ensures c.types-from.ensures (c.number_rank.auto.numbers ∙ c.split_at_mut-numbers.ensures.front_len))

@@ -1,10 +1,9 @@
--- The two comparisons together are the one of the magnitude with the limit.
+-- The constant is the float that the definition `eps` names.
 -- Assumes nothing.
-use Rattle.float.proofs.Magnitude.{not_above, is_above}
+use lib.Ieee.{of_bits}
+use Rattle.spec.specs.Float.{eps}
 use Rattle.float.proofs.tolerance.within.Goals as goal
 
-pub returns-then-x-limit : goal.returns-then-x-limit
-returns-then-x-limit c = not_above _ _ c.if-x-limit.true
-
-pub returns-else-x-limit : goal.returns-else-x-limit
-returns-else-x-limit c = is_above _ _ c.if-x-limit.false
+pub returns : goal.returns
+unfolding of_bits eps
+returns c = c.within_limit.ensures
