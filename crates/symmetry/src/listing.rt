@@ -23,7 +23,7 @@ use spec::MAX_COUNT;
 // This is what trying a flag came to: it gives no member that is listed, its member was written, or there is no room for it. The search goes on after
 // the first two, so a Result with a bool would name the three cases less plainly.
 #[derive(Clone, Copy, Debug)]
-enum Tried {
+pub enum Tried {
     Skipped,
     Added,
     Short,
