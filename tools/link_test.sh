@@ -49,6 +49,10 @@ printf 'copies 4\nquarter turn 1 2 3 0\nrefused 14: open\n' > "$work/expected"
 hold copying
 cc -std=c99 -O2 -Wall -Wextra -Werror -I include -o "$work/stack" tools/stack.c target/staticlib/libjidwaleb.a
 passes "the stack that a call takes" "$work/stack" samples/*.sheet
+# README.md and the header say which of C's functions the archive uses.
+nm -u target/staticlib/libjidwaleb.a | sed -n 's/^ *U //p' | sort -u > "$work/got_names"
+printf 'memcpy\nmemset\n' > "$work/names"
+passes "what the archive needs of C" diff "$work/names" "$work/got_names"
 version=$(sed -n 's/^version = //p' rust/Cargo.toml)
 passes "the version of rust/Cargo.toml in the header" grep -qx "#define JIDWALEB_VERSION_STRING $version" include/jidwaleb.h
 if command -v g++ > /dev/null; then

@@ -19,7 +19,7 @@ use Rattle.ranked.specs.declared.Shape.{Shape}
 use Rattle.ranked.specs.Words.{first_at, size_at, lists_of, list_at, list_word, abs_in, subs_word, sups_word}
 use Rattle.ranked.specs.Layout as layout
 use Rattle.ranked.specs.Reading.{Lies}
-use Rattle.ranked.proofs.Solids.{size_is, subs_lie, sups_lie, subs_listed, sups_listed, sub_in, sup_in}
+use Rattle.ranked.proofs.Solids.{size_is, subs_lie, sups_lie, subs-listed, sups-listed, sub_in, sup_in}
 use Rattle.element_types.specs.Runs.{over, under, key_of}
 use Rattle.element_types.specs.Numbers.{key_in, numbers_of, space_to, Neighbouring}
 use Rattle.element_types.specs.State.{types_in, state_in, entries, needed, Steppable, Stepping, stepped_at}
@@ -230,7 +230,7 @@ looks_up sh w (suc r) t =
     let place : (e : ℕ) → subs_word (first_at sh (suc r)) 0 + 4 * e ≡ subs_word (first_at sh (suc r)) e = λ e. omega arith in
     record {
       next_in = omega arith;
-      listed = λ e h. ap (list_at (lists_of sh w)) (place e) ∙ subs_listed sh (lists_of sh w) t.held (suc r) e b h;
+      listed = λ e h. ap (list_at (lists_of sh w)) (place e) ∙ subs-listed sh (lists_of sh w) t.held (suc r) e b h;
       lie = λ e h. rw (place e) (subs_lie sh (lists_of sh w) t.held (suc r) e b h);
       inside = λ e y h m. sub_in sh (lists_of sh w) t.held r e y b m;
     }
@@ -241,7 +241,7 @@ looks_down sh w r t =
     let place : (e : ℕ) → sups_word (first_at sh r) 0 + 4 * e ≡ sups_word (first_at sh r) e = λ e. omega arith in
     record {
       next_in = t.under;
-      listed = λ e h. ap (list_at (lists_of sh w)) (place e) ∙ sups_listed sh (lists_of sh w) t.held r e b h;
+      listed = λ e h. ap (list_at (lists_of sh w)) (place e) ∙ sups-listed sh (lists_of sh w) t.held r e b h;
       lie = λ e h. rw (place e) (sups_lie sh (lists_of sh w) t.held r e b h);
       inside = λ e y h m. sup_in sh (lists_of sh w) t.held r e y t.under m;
     }

@@ -82,13 +82,13 @@ module _ (sh : Shape) (w : List ℕ) (h : Held sh w) where
       record { head = omega (arith, h.room); inside = h.sups_inside (first_at sh r + e) n }
 
   -- The lists in the words are those of the solid.
-  pub subs_listed : (r e : ℕ) → r ≤ sh.rank → e < size_at sh r → list_at w (subs_word (first_at sh r) e) ≡ subs (abs_in sh w) r e
+  pub subs-listed : (r e : ℕ) → r ≤ sh.rank → e < size_at sh r → list_at w (subs_word (first_at sh r) e) ≡ subs (abs_in sh w) r e
   unfolding subs_in
-  subs_listed r e q k = sym (subs_is sh w r e q k)
+  subs-listed r e q k = sym (subs_is sh w r e q k)
 
-  pub sups_listed : (r e : ℕ) → r ≤ sh.rank → e < size_at sh r → list_at w (sups_word (first_at sh r) e) ≡ sups (abs_in sh w) r e
+  pub sups-listed : (r e : ℕ) → r ≤ sh.rank → e < size_at sh r → list_at w (sups_word (first_at sh r) e) ≡ sups (abs_in sh w) r e
   unfolding sups_in
-  sups_listed r e q k = h.derived r e q k
+  sups-listed r e q k = h.derived r e q k
 
   -- "Subs of an element lie one rank below, sups one above."
   pub sub_in : (r e x : ℕ) → suc r ≤ sh.rank → In x (subs (abs_in sh w) (suc r) e) → x < size_at sh r

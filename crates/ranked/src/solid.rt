@@ -30,7 +30,6 @@ impl<'a> Solid<'a> {
 
     // Returns the subs of element e of rank r. The shape is read where it lies: a method of it is handed a copy of it, and refusal 6 comes here for each
     // entry of a list.
-    #[tactic(auto, using(crate::proofs::Solids::subs_listed))]
     pub fn subs(&self, r: usize, e: usize) -> &'a [u32]
         requires { (r ≤ self.now.shape.rank) × (e < size_at self.now.shape r) }
         ensures { result.now ≡ subs (abs_of self.now) r e }
@@ -39,7 +38,6 @@ impl<'a> Solid<'a> {
     }
 
     // Returns the sups of element e of rank r.
-    #[tactic(auto, using(crate::proofs::Solids::sups_listed))]
     pub fn sups(&self, r: usize, e: usize) -> &'a [u32]
         requires { (r ≤ self.now.shape.rank) × (e < size_at self.now.shape r) }
         ensures { result.now ≡ sups (abs_of self.now) r e }

@@ -57,8 +57,8 @@ fn write_table(run: Run) -> Result<Run, End> {
     run.output(&axes::axis_turns(&table))
 }
 
-// Reads one record and answers it, or writes the table of 48 where none begins. A dimension can be any number, so the input's end is seen where the
-// number of floats of points would come.
+// Reads one record and answers it, or writes the table of 48 where none begins. A dimension can be any number, and one that is not whole counts as the
+// greatest, so the input's end is seen where the number of floats of points would come.
 #[inline(never)]
 pub fn replay_one(run: Run) -> Result<Run, End> {
     let dimension = reading::number(run.from, usize::MAX).unwrap_or(usize::MAX);
